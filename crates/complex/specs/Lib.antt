@@ -1,0 +1,4 @@
+pub mod Complex
+pub mod Search
+pub mod Judge
+pub mod Pentachora

@@ -1,0 +1,11 @@
+// A small complex of vertices, edges and triangles, judged before anything rests on it.
+
+pub struct SimplicialComplex {
+    pub n_vertices: usize,
+    pub n_edges: usize,
+    // flat pairs of vertices
+    pub edges: [u8; 126],
+    pub n_triangles: usize,
+    // flat triples of vertices
+    pub triangles: [u8; 768],
+}
