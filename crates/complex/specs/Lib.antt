@@ -1,4 +1,5 @@
 pub mod Complex
 pub mod Search
 pub mod Judge
+pub mod Numbering
 pub mod Pentachora

@@ -1,5 +1,7 @@
 // A small complex of vertices, edges and triangles, judged before anything rests on it.
 
+mod numbering;
+
 pub struct SimplicialComplex {
     pub n_vertices: usize,
     pub n_edges: usize,

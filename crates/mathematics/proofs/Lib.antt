@@ -1,1 +1,3 @@
 pub mod Tests
+pub mod Lists
+pub mod Front
