@@ -1,1 +1,4 @@
+pub mod Simplices
 pub mod Numberings
+pub mod Indexes
+pub mod Triangles

@@ -17,7 +17,7 @@ use Rattle.mathematics.proofs.Lists.{listed-last, noted-new, noted-old, noted-l
 use Rattle.complex.specs.Numbering.{number, Numbered}
 
 -- a number other than 0 says that the key is listed
-pub number-old : (k : ℕ) (l : List ℕ) → (number k l ≡ 0 → ⊥) → listed eqb k l ≡ true
+pub number-old : (k : ℕ) (l : List ℕ) → (number eqb k l ≡ 0 → ⊥) → listed eqb k l ≡ true
 unfolding number
 number-old k l h = go (listed eqb k l) h
   where
@@ -25,7 +25,7 @@ number-old k l h = go (listed eqb k l) h
     go true h = refl
     go false h = absurd (h refl)
 
-pub number-new : (k : ℕ) (l : List ℕ) → number k l ≡ 0 → listed eqb k l ≡ false
+pub number-new : (k : ℕ) (l : List ℕ) → number eqb k l ≡ 0 → listed eqb k l ≡ false
 unfolding number
 number-new k l h = go (listed eqb k l) h
   where
@@ -53,11 +53,11 @@ place-last k (y ∷ l) h = go (eqb k y) h (place-last k l)
     go false h rest = ap suc (rest h)
 
 -- numbers in a list with a new key more
-number-last : (k : ℕ) (l : List ℕ) → listed eqb k l ≡ false → number k (l ++ (k ∷ [])) ≡ length l + 1
+number-last : (k : ℕ) (l : List ℕ) → listed eqb k l ≡ false → number eqb k (l ++ (k ∷ [])) ≡ length l + 1
 unfolding number
 number-last k l h = rw (listed-last eqb k l k, h, eq-eqb k k refl, place-last k l h) (sym (add-one (length l)))
 
-number-other : (j k : ℕ) (l : List ℕ) → (j ≡ k → ⊥) → number j (l ++ (k ∷ [])) ≡ number j l
+number-other : (j k : ℕ) (l : List ℕ) → (j ≡ k → ⊥) → number eqb j (l ++ (k ∷ [])) ≡ number eqb j l
 unfolding number
 number-other j k l h = rw (listed-last eqb j l k, ne-eqb j k h, or-false (listed eqb j l)) (go (listed eqb j l) refl)
   where
@@ -83,8 +83,8 @@ module _ (limit : ℕ) (table keys : List ℕ) (count : ℕ) (key : ℕ) (below 
   pub note-old : count ≤ limit → (getD table key 0 ≡ 0 → ⊥) → Numbered limit table keys count (noted eqb l key)
   note-old few old =
       let c = n .counted in
-      let e : getD table key 0 ≡ number key l = n .numbers (omega arith) key below in
-      rw (noted-old eqb l key (number-old key l (λ (z : number key l ≡ 0). old (e ∙ z)))) n
+      let e : getD table key 0 ≡ number eqb key l = n .numbers (omega arith) key below in
+      rw (noted-old eqb l key (number-old key l (λ (z : number eqb key l ≡ 0). old (e ∙ z)))) n
 
   -- the key is new
   fresh : count ≤ limit → getD table key 0 ≡ 0 → noted eqb l key ≡ l ++ (key ∷ [])

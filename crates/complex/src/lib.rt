@@ -1,5 +1,6 @@
 // A small complex of vertices, edges and triangles, judged before anything rests on it.
 
+mod judge;
 mod numbering;
 
 pub struct SimplicialComplex {
