@@ -1,15 +1,16 @@
 -- The tests of a triangle, and its key.
 use Prim.Native.Nat.{ℕ, zero, suc, _+_, _-_, _*_, _<_, _≤_}
-use mathlib.Core.List.{List, [], _∷_, _++_, map}
+use mathlib.Core.List.{List, [], _∷_, _++_, map, head-eq-of-cons-eq, tail-eq-of-cons-eq}
 use mathlib.Core.Path.{_≡_, refl, sym, ap, subst, _∙_}
-use mathlib.Core.Bool.{Bool, true, false, not, _&&_, cond}
+use mathlib.Core.Bool.{Bool, true, false, not, _&&_, cond, false≢true}
 use native.Mathlib.Omega.{arith}
 use borrow.Author.Tests.{eq-eqb, ne-eqb, eqb-true, ltb-true, lt-ltb, le-ltb}
-use lib.ListN.{getD, length}
+use lib.ListN.{getD, length, length-map}
 use lib.Dec.{eqb, ltb}
-use Rattle.mathematics.specs.Lists.{same, listed, place, choose}
+use Rattle.mathematics.specs.Lists.{same, listed, place, firsts, choose}
 use Rattle.mathematics.specs.Tests.{all}
-use Rattle.mathematics.proofs.Tests.{and-true}
+use Rattle.mathematics.proofs.Tests.{and-true, and-parts}
+use Rattle.mathematics.proofs.Lists.{numbers-equal, lists-equal, place-at, firsts-map}
 use Rattle.complex.specs.Complex.{Simplex, start, end, entries}
 use Rattle.complex.specs.Judge.{rising, sides-listed}
 use Rattle.complex.specs.Numbering.{number, key, triangle-key, Keyed, Indexed}
@@ -63,3 +64,96 @@ module _ (l : List ℕ) (t a b d : ℕ) (ea : a ≡ getD l (3 * t) 0) (eb : b �
     pub key-is : 64 * (getD table (64 * a + b) 0 - 1) + d ≡ triangle-key table (entries l (3 * t) 3)
     unfolding key triangle-key
     key-is = rw three
+
+-- the number of a listed simplex is one more than its place
+pub number-place : (s : Simplex) (es : List Simplex) → listed same s es ≡ true → (1 ≤ number same s es) × (number same s es ≤ length es) × (getD es (number same s es - 1) [] ≡ s)
+unfolding number
+number-place s es h =
+    let p = place-at same lists-equal [] s es h in
+    let e : suc (place same s es) - 1 ≡ place same s es = omega arith in
+    rw h (omega arith, p .0, rw e (p .1))
+
+-- a triangle of three rising vertices below n whose edges are listed
+pub fitting : ℕ → List Simplex → Simplex → Bool
+fitting n es s = eqb (length s) 3 && (rising n s && sides-listed es s)
+
+pub record Fitting (n : ℕ) (es : List Simplex) (s : Simplex) : Type 0 where
+  pub is : s ≡ start s ∷ end s ∷ getD s 2 0 ∷ []
+  pub first : start s < end s
+  pub second : end s < getD s 2 0
+  pub third : getD s 2 0 < n
+  pub first-side : listed same (start s ∷ end s ∷ []) es ≡ true
+  pub second-side : listed same (start s ∷ getD s 2 0 ∷ []) es ≡ true
+  pub third-side : listed same (end s ∷ getD s 2 0 ∷ []) es ≡ true
+
+pub fits : (n : ℕ) (es : List Simplex) (s : Simplex) → fitting n es s ≡ true → Fitting n es s
+unfolding fitting rising sides-listed all choose
+fits n es [] h = absurd (false≢true h)
+fits n es (a ∷ []) h = absurd (false≢true h)
+fits n es (a ∷ b ∷ []) h = absurd (false≢true h)
+fits n es (a ∷ b ∷ d ∷ []) h =
+    let p = and-parts (ltb a b && (ltb b d && ltb d n)) (listed same (a ∷ b ∷ []) es && (listed same (a ∷ d ∷ []) es && (listed same (b ∷ d ∷ []) es && true))) h in
+    let q = and-parts (ltb a b) (ltb b d && ltb d n) (p .0) in
+    let r = and-parts (ltb b d) (ltb d n) (q .1) in
+    let u = and-parts (listed same (a ∷ b ∷ []) es) (listed same (a ∷ d ∷ []) es && (listed same (b ∷ d ∷ []) es && true)) (p .1) in
+    let v = and-parts (listed same (a ∷ d ∷ []) es) (listed same (b ∷ d ∷ []) es && true) (u .1) in
+    record {
+      is = refl;
+      first = ltb-true a b (q .0);
+      second = ltb-true b d (r .0);
+      third = ltb-true d n (r .1);
+      first-side = u .0;
+      second-side = v .0;
+      third-side = and-parts (listed same (b ∷ d ∷ []) es) true (v .1) .0;
+    }
+fits n es (a ∷ b ∷ d ∷ f ∷ s) h =
+    let p = and-parts (eqb (length (a ∷ b ∷ d ∷ f ∷ s)) 3) (rising n (a ∷ b ∷ d ∷ f ∷ s) && sides-listed es (a ∷ b ∷ d ∷ f ∷ s)) h in
+    let e = eqb-true (length (a ∷ b ∷ d ∷ f ∷ s)) 3 (p .0) in
+    absurd (omega arith)
+
+module _ (n : ℕ) (es : List Simplex) (few : n ≤ 64) (short : length es ≤ 63) (table : List ℕ) (i : Indexed table es) where
+  pub fitting-keyed : (s : Simplex) → fitting n es s ≡ true → Keyed table s
+  unfolding key
+  fitting-keyed s h =
+      let f = fits n es s h in
+      let a = f .first in
+      let b = f .second in
+      let d = f .third in
+      let e : getD table (64 * start s + end s) 0 ≡ number same (start s ∷ end s ∷ []) es = i .numbers (start s) (end s) (omega arith) (omega arith) in
+      let p = number-place (start s ∷ end s ∷ []) es (f .first-side) in
+      let low = p .0 in
+      let high = p .1 in
+      record { first = omega arith; second = omega arith; third = omega arith; known = omega arith; few = omega arith }
+
+  -- different triangles have different keys
+  pub triangle-apart : (x y : Simplex) → fitting n es x ≡ true → fitting n es y ≡ true → triangle-key table x ≡ triangle-key table y → x ≡ y
+  unfolding key triangle-key
+  triangle-apart x y g h k =
+      let f = fits n es x g in
+      let f′ = fits n es y h in
+      let a = f .first in
+      let b = f .second in
+      let d = f .third in
+      let a′ = f′ .first in
+      let b′ = f′ .second in
+      let d′ = f′ .third in
+      let side = start x ∷ end x ∷ [] in
+      let side′ = start y ∷ end y ∷ [] in
+      let e : getD table (64 * start x + end x) 0 ≡ number same side es = i .numbers (start x) (end x) (omega arith) (omega arith) in
+      let e′ : getD table (64 * start y + end y) 0 ≡ number same side′ es = i .numbers (start y) (end y) (omega arith) (omega arith) in
+      let p = number-place side es (f .first-side) in
+      let p′ = number-place side′ es (f′ .first-side) in
+      let low = p .0 in
+      let low′ = p′ .0 in
+      let last : getD x 2 0 ≡ getD y 2 0 = omega arith in
+      let number : number same side es - 1 ≡ number same side′ es - 1 = omega arith in
+      let sides : side ≡ side′ = sym (p .2) ∙ ap (λ (j : ℕ). getD es j []) number ∙ p′ .2 in
+      let whole : start x ∷ end x ∷ getD x 2 0 ∷ [] ≡ start y ∷ end y ∷ getD y 2 0 ∷ [] =
+      rw (head-eq-of-cons-eq sides, head-eq-of-cons-eq (tail-eq-of-cons-eq sides), last) in
+      f .is ∙ whole ∙ sym (f′ .is)
+
+  -- the count of keys is the count of triangles
+  pub triangles-counted : (ts : List Simplex) → all (fitting n es) ts ≡ true → length (firsts eqb (map (triangle-key table) ts)) ≡ length (firsts same ts)
+  triangles-counted ts h =
+      ap length (firsts-map same lists-equal eqb numbers-equal (fitting n es) (triangle-key table) triangle-apart ts h)
+      ∙ length-map (firsts same ts) (triangle-key table)

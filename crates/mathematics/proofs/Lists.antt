@@ -269,3 +269,14 @@ module _ {A B : Type 0} (eq : A → A → Bool) (is : Equality eq) (eq′ : B �
   pub firsts-map : (l : List A) → all p l ≡ true → firsts eq′ (map f l) ≡ map f (firsts eq l)
   unfolding firsts all
   firsts-map l h = notedAll-map [] l refl h
+
+-- what is listed stands at its place
+module _ {A : Type 0} (eq : A → A → Bool) (is : Equality eq) where
+  pub place-at : (d x : A) (l : List A) → listed eq x l ≡ true → (place eq x l < length l) × (getD l (place eq x l) d ≡ x)
+  unfolding listed place
+  place-at d x [] h = absurd (false≢true h)
+  place-at d x (y ∷ l) h = go (eq x y) refl h (place-at d x l)
+    where
+      go : (t : Bool) → eq x y ≡ t → (t || listed eq x l) ≡ true → (listed eq x l ≡ true → (place eq x l < length l) × (getD l (place eq x l) d ≡ x)) → (cond t 0 (suc (place eq x l)) < suc (length l)) × (getD (y ∷ l) (cond t 0 (suc (place eq x l))) d ≡ x)
+      go true e h rest = (omega arith, sym (is .equal x y e))
+      go false e h rest = let r = rest h in ((let q = r .0 in omega arith), r .1)
