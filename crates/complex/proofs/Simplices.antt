@@ -1,13 +1,13 @@
 -- The simplices of a flat list: how many there are, and the vertices of each.
 use Prim.Native.Nat.{ℕ, zero, suc, _+_, _*_, _<_}
-use mathlib.Core.List.{List, [], _∷_, _++_}
+use mathlib.Core.List.{List, [], _∷_}
 use mathlib.Core.Path.{_≡_, refl, ap, _∙_}
 use mathlib.Core.Logic.{⊎-elim}
 use native.Mathlib.Nat.{eq-or-lt-of-le, le-of-suc-le-suc, not-suc-le-zero}
 use native.Mathlib.Omega.{arith}
 use lib.ListN.{getD, length, length-append, List·getD-append}
 use lib.Seq.{getD-at}
-use Rattle.complex.specs.Complex.{Simplex, entries, simplices, start, end}
+use Rattle.complex.specs.Complex.{entries, simplices, start, end}
 
 pub entries-length : (l : List ℕ) (at k : ℕ) → length (entries l at k) ≡ k
 unfolding entries

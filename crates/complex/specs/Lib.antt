@@ -1,5 +1,6 @@
 pub mod Complex
 pub mod Search
 pub mod Judge
+pub mod Tree
 pub mod Numbering
 pub mod Pentachora

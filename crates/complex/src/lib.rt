@@ -2,6 +2,7 @@
 
 mod judge;
 mod numbering;
+pub mod search;
 
 pub struct SimplicialComplex {
     pub n_vertices: usize,

@@ -9,7 +9,13 @@ ghost use Rattle.mathematics.specs.Lists.{noted, notedAll};
 ghost use Rattle.complex.specs.Numbering.{Numbered};
 
 // One key is noted: the number of keys numbered so far.
-pub fn note(table: &mut [u16; 4096], keys: &mut [u16; 256], limit: usize, count: usize, key: usize) -> usize
+pub fn note(
+    table: &mut [u16; 4096],
+    keys: &mut [u16; 256],
+    limit: usize,
+    count: usize,
+    key: usize,
+) -> usize
     requires { ⌜ (key < 4096) × (limit ≤ 256) ⌝ }
     ensures { λ r. ⌜ ((l : List ℕ) → Numbered limit (now (table .entry)) (now (keys .entry)) count l → Numbered limit (now (table .exit)) (now (keys .exit)) r (noted eqb l key)) ⌝ }
 {
@@ -28,7 +34,13 @@ pub fn note(table: &mut [u16; 4096], keys: &mut [u16; 256], limit: usize, count:
 }
 
 // All keys of a list are noted.
-pub fn note_all(table: &mut [u16; 4096], keys: &mut [u16; 256], limit: usize, count: usize, new: &[u16]) -> usize
+pub fn note_all(
+    table: &mut [u16; 4096],
+    keys: &mut [u16; 256],
+    limit: usize,
+    count: usize,
+    new: &[u16],
+) -> usize
     requires { ⌜ (limit ≤ 256) × ((i : ℕ) → i < length (now new) → getD (now new) i 0 < 4096) ⌝ }
     ensures { λ r. ⌜ ((l : List ℕ) → Numbered limit (now (table .entry)) (now (keys .entry)) count l → Numbered limit (now (table .exit)) (now (keys .exit)) r (notedAll eqb l (now (new .entry)))) ⌝ }
 {

@@ -1,0 +1,167 @@
+-- A search as the code keeps it: what its flags say, that there is room, and one vertex more.
+use Prim.Native.Nat.{ℕ, zero, suc, _+_, _*_, _<_, _≤_}
+use mathlib.Core.List.{List, [], _∷_, _++_}
+use mathlib.Core.Path.{_≡_, refl, sym, ap, _∙_}
+use mathlib.Core.Bool.{Bool, true, false, not, _||_, cond}
+use mathlib.Core.Logic.{by-cases}
+use native.Mathlib.Nat.{lt-of-lt-of-le}
+use native.Mathlib.Numerals.{add-one}
+use native.Mathlib.Decide.{ℕ-discrete}
+use native.Mathlib.Omega.{arith}
+use borrow.Author.Tests.{eq-eqb, ne-eqb, lt-ltb}
+use lib.ListN.{getD, set, take, length, length-set, replicate, getD-replicate}
+use lib.Seq.{length-take-le, take-suc-set, getD-set-same, getD-set-other, getD-take}
+use lib.Dec.{eqb, ltb}
+use Rattle.mathematics.specs.Lists.{listed, distinct}
+use Rattle.mathematics.specs.Tests.{all}
+use Rattle.mathematics.proofs.Tests.{all-last, or-false}
+use Rattle.mathematics.proofs.Lists.{numbers-equal, listed-last, distinct-last}
+use Rattle.mathematics.proofs.Counting.{more-below, more-different, different-room}
+use Rattle.complex.specs.Complex.{entries, simplices}
+use Rattle.complex.specs.Search.{Search, touches, across, look, scan, serve, search, connected}
+use Rattle.complex.specs.Tree.{searchOf, Fits, Searchable, Searched}
+use Rattle.complex.specs.declared.search.SpanningTree.{SpanningTree}
+use Rattle.complex.proofs.Simplices.{simplices-length, simplex-at}
+use Rattle.complex.proofs.Looks.{found, across-below, look-new, look-old, look-apart, scan-next, serve-filled, serve-past}
+use Rattle.complex.proofs.Searches.{connected-full}
+
+-- the record with vertex w, found by edge e
+abbrev pub grown : SpanningTree → ℕ → ℕ → SpanningTree
+grown t w e =
+    record {
+      queue = set (t .queue) (t .found + 1) w;
+      found = t .found + 1;
+      «tree_edges» = set (t .«tree_edges») (t .found) e;
+      visited = set (t .visited) w 1;
+    }
+
+module _ (n : ℕ) (t : SpanningTree) (fits : Fits n t) where
+  pub seen-length : length (searchOf t .seen) ≡ t .found + 1
+  unfolding searchOf
+  seen-length = length-take-le (t .found + 1) (t .queue) (let a = fits .queue-long in let b = fits .room in omega arith)
+
+  pub flag-zero : (v : ℕ) → v < 64 → getD (t .visited) v 0 ≡ 0 → listed eqb v (searchOf t .seen) ≡ false
+  flag-zero v l z = go (listed eqb v (searchOf t .seen)) (sym (fits .flags v l) ∙ z)
+    where
+      go : (b : Bool) → cond {A = ℕ} b 1 0 ≡ 0 → b ≡ false
+      go true h = absurd (omega arith)
+      go false h = refl
+
+  pub flag-other : (v : ℕ) → v < 64 → (getD (t .visited) v 0 ≡ 0 → ⊥) → listed eqb v (searchOf t .seen) ≡ true
+  flag-other v l z = go (listed eqb v (searchOf t .seen)) (fits .flags v l)
+    where
+      go : (b : Bool) → getD (t .visited) v 0 ≡ cond b 1 0 → b ≡ true
+      go true h = refl
+      go false h = absurd (z h)
+
+  module _ (w : ℕ) (inside : w < n) (new : listed eqb w (searchOf t .seen) ≡ false) where
+    -- where a vertex is unseen, there is room for it
+    pub has-room : t .found + 1 < n
+    has-room = rw seen-length at (different-room n (searchOf t .seen) (fits .below) (fits .different) w inside new)
+
+    module _ (e : ℕ) (small : n ≤ 64) where
+      grown-stands : searchOf (grown t w e) ≡ found (searchOf t) w e
+      unfolding searchOf
+      grown-stands = 
+          let a = fits .queue-long in
+          let b = fits .tree-long in
+          let r = has-room in
+          let p : t .found + 1 < length (t .queue) = omega arith in
+          let q : t .found < length (t .«tree_edges») = omega arith in
+          λ i. record {
+            seen = (ap (λ k. take k (set (t .queue) (t .found + 1) w)) (add-one (t .found + 1)) ∙ take-suc-set (t .queue) (t .found + 1) w p) i;
+            tree = (ap (λ k. take k (set (t .«tree_edges») (t .found) e)) (add-one (t .found)) ∙ take-suc-set (t .«tree_edges») (t .found) e q) i;
+          }
+
+      pub grown-searched : Searched n (grown t w e) (found (searchOf t) w e)
+      grown-searched =
+          record {
+            fits =
+                record {
+                  queue-long = length-set (t .queue) (t .found + 1) w ∙ fits .queue-long;
+                  tree-long = length-set (t .«tree_edges») (t .found) e ∙ fits .tree-long;
+                  visited-long = length-set (t .visited) w 1 ∙ fits .visited-long;
+                  room = let r = has-room in omega arith;
+                  below = rw grown-stands (more-below n (searchOf t .seen) (fits .below) (fits .different) w inside new);
+                  different = rw grown-stands (more-different n (searchOf t .seen) (fits .below) (fits .different) w inside new);
+                  flags =
+                      λ v l.
+                      rw (grown-stands, listed-last eqb v (searchOf t .seen) w)
+                      (by-cases (ℕ-discrete v w)
+                      (λ (q : v ≡ w). rw (q, new, eq-eqb w w refl) (getD-set-same (t .visited) w 1 0 (let a = fits .visited-long in omega arith)))
+                      (λ q. rw (ne-eqb v w q, or-false) (getD-set-other (t .visited) w v 1 0 q ∙ fits .flags v l)));
+                };
+            stands = grown-stands;
+          }
+
+-- edge e is looked at from v, with w across
+module _ (edges : List ℕ) (n m : ℕ) (ok : Searchable edges n m) (t : SpanningTree) (fits : Fits n t) (v e w : ℕ) (inside : e < m) (is : w ≡ across (entries edges (2 * e) 2) v) where
+  same-across : across (getD (simplices 2 edges m) e []) v ≡ w
+  same-across = ap (λ s. across s v) (simplex-at 2 edges m e inside) ∙ sym is
+
+  pub look-inside : w < n
+  look-inside = rw same-across at (across-below n (simplices 2 edges m) (ok .ends) e v (rw (simplices-length 2 edges m) inside))
+
+  -- w was seen before
+  pub look-kept : (getD (t .visited) w 0 ≡ 0 → ⊥) → Searched n t (look (simplices 2 edges m) v (searchOf t) e)
+  look-kept z =
+      let u = flag-other n t fits w (lt-of-lt-of-le look-inside (ok .vertices-fit)) z in
+      record { fits = fits; stands = sym (look-old (simplices 2 edges m) v (searchOf t) e (rw same-across u)) }
+
+  module _ (unseen : getD (t .visited) w 0 ≡ 0) where
+    new : listed eqb w (searchOf t .seen) ≡ false
+    new = flag-zero n t fits w (lt-of-lt-of-le look-inside (ok .vertices-fit)) unseen
+
+    pub look-room : t .found + 1 < n
+    look-room = has-room n t fits w look-inside new
+
+    pub look-grown : touches (getD (simplices 2 edges m) e []) v ≡ true → Searched n (grown t w e) (look (simplices 2 edges m) v (searchOf t) e)
+    look-grown touch =
+        rw (look-new (simplices 2 edges m) v (searchOf t) e touch (rw same-across new), same-across)
+        (grown-searched n t fits w look-inside new e (ok .vertices-fit))
+
+-- what the code's test of edge e says
+pub touches-at : (edges : List ℕ) (m e v : ℕ) (r b : Bool) → e < m → r ≡ touches (entries edges (2 * e) 2) v → r ≡ b → touches (getD (simplices 2 edges m) e []) v ≡ b
+touches-at edges m e v r b inside p q = rw (simplex-at 2 edges m e inside) (sym p ∙ q)
+
+-- an edge that does not touch v is passed over
+pub scan-passed : (edges : List ℕ) (n m v : ℕ) (s : Search) (t : SpanningTree) (e : ℕ) → touches (getD (simplices 2 edges m) e []) v ≡ false → Searched n t (scan (simplices 2 edges m) v s e) → Searched n t (scan (simplices 2 edges m) v s (e + 1))
+scan-passed edges n m v s t e apart h =
+    let es = simplices 2 edges m in
+    rw (scan-next es v s e, look-apart es v (scan es v s e) e apart) h
+
+module _ (edges : List ℕ) (n m : ℕ) (t : SpanningTree) (fits : Fits n t) (h : ℕ) where
+  pub serve-none : t .found < h → Searched n t (serve (simplices 2 edges m) (searchOf t) h)
+  serve-none l =
+      record { fits = fits; stands = sym (serve-past (simplices 2 edges m) (searchOf t) h (let a = seen-length n t fits in omega arith)) }
+
+  pub serve-scanned : (r : SpanningTree) → h ≤ t .found → Searched n r (scan (simplices 2 edges m) (getD (t .queue) h 0) (searchOf t) m) → Searched n r (serve (simplices 2 edges m) (searchOf t) h)
+  unfolding searchOf
+  serve-scanned r l d =
+      let inside : h < t .found + 1 = omega arith in
+      rw (serve-filled (simplices 2 edges m) (searchOf t) h (rw (seen-length n t fits) inside), simplices-length 2 edges m, getD-take (t .found + 1) (t .queue) h 0 inside) d
+
+pub start-searched : (n : ℕ) → 1 ≤ n → Searched n (record { queue = replicate 64 0; found = 0; «tree_edges» = replicate 63 0; visited = set (replicate 64 0) 0 1 }) (record { seen = 0 ∷ []; tree = [] })
+unfolding searchOf all distinct listed
+start-searched n some =
+    record {
+      fits =
+          record {
+            queue-long = refl;
+            tree-long = refl;
+            visited-long = refl;
+            room = omega arith;
+            below = rw (lt-ltb 0 n some);
+            different = refl;
+            flags = flags;
+          };
+      stands = refl;
+    }
+  where
+    flags : (v : ℕ) → v < 64 → _≡_ {A = ℕ} (getD (set (replicate 64 0) 0 1) v 0) (cond (listed eqb v (0 ∷ [])) 1 0)
+    flags zero l = refl
+    flags (suc v) l = rw (ne-eqb (suc v) 0 (λ q. omega arith)) (getD-replicate 63 v 0 0 (omega arith))
+
+pub found-connected : (edges : List ℕ) (n m : ℕ) → Searchable edges n m → (t : SpanningTree) → Searched n t (search (simplices 2 edges m) n) → eqb (t .found + 1) n ≡ connected (simplices 2 edges m) n
+found-connected edges n m ok t d =
+    rw (connected-full (simplices 2 edges m) n (ok .some-vertex) (ok .ends), ← d .stands, seen-length n t (d .fits))

@@ -1,0 +1,38 @@
+-- A search as the code keeps it.
+use Prim.Native.Nat.{ℕ, _+_, _<_, _≤_}
+use mathlib.Core.List.{List, [], _∷_}
+use mathlib.Core.Bool.{Bool, true, cond}
+use mathlib.Core.Path.{_≡_}
+use lib.ListN.{getD, length, take}
+use lib.Dec.{eqb, ltb}
+use Rattle.mathematics.specs.Lists.{listed, distinct}
+use Rattle.mathematics.specs.Tests.{all}
+use Rattle.complex.specs.Complex.{simplices}
+use Rattle.complex.specs.Search.{Search, Ends}
+use Rattle.complex.specs.declared.search.SpanningTree.{SpanningTree}
+
+-- the search that a record stands for
+unfoldable pub searchOf : SpanningTree → Search
+searchOf t = record { seen = take (t .found + 1) (t .queue); tree = take (t .found) (t .«tree_edges») }
+
+-- the arrays are as declared, the vertices seen are different and below n, and each vertex is flagged just where it was seen
+pub record Fits (n : ℕ) (t : SpanningTree) : Type 0 where
+  pub queue-long : length (t .queue) ≡ 64
+  pub tree-long : length (t .«tree_edges») ≡ 63
+  pub visited-long : length (t .visited) ≡ 64
+  pub room : t .found ≤ 63
+  pub below : all (λ v. ltb v n) (searchOf t .seen) ≡ true
+  pub different : distinct eqb (searchOf t .seen) ≡ true
+  pub flags : (v : ℕ) → v < 64 → getD (t .visited) v 0 ≡ cond (listed eqb v (searchOf t .seen)) 1 0
+
+-- a flat list of m edges between n vertices that can be searched
+pub record Searchable (edges : List ℕ) (n m : ℕ) : Type 0 where
+  pub some-vertex : 1 ≤ n
+  pub vertices-fit : n ≤ 64
+  pub edges-fit : m ≤ 63
+  pub ends : Ends n (simplices 2 edges m)
+
+-- the record fits and stands for the search
+pub record Searched (n : ℕ) (t : SpanningTree) (s : Search) : Type 0 where
+  pub fits : Fits n t
+  pub stands : searchOf t ≡ s
