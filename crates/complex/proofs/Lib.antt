@@ -5,3 +5,4 @@ pub mod Triangles
 pub mod Looks
 pub mod Searches
 pub mod Trees
+pub mod Accepting

@@ -74,7 +74,7 @@ number-place s es h =
     rw h (omega arith, p .0, rw e (p .1))
 
 -- a triangle of three rising vertices below n whose edges are listed
-pub fitting : ℕ → List Simplex → Simplex → Bool
+unfoldable pub fitting : ℕ → List Simplex → Simplex → Bool
 fitting n es s = eqb (length s) 3 && (rising n s && sides-listed es s)
 
 pub record Fitting (n : ℕ) (es : List Simplex) (s : Simplex) : Type 0 where

@@ -32,15 +32,24 @@ sides-listed es t = all (λ s. listed same s es) (choose 2 t)
 unfoldable pub triangles-right : Complex → Bool
 triangles-right c = simplices-right (c .vertices) (c .triangles) && all (sides-listed (c .edges)) (c .triangles)
 
--- document 01's table for a complex: the number of the first line that holds, or 0 where it is accepted
-unfoldable pub refusal : Complex → ℕ
-refusal c =
-    first
-    ((4, not (counts-right (c .vertices) (length (c .edges)) (length (c .triangles))))
-    ∷ (7, not (simplices-right (c .vertices) (c .edges)))
+-- The lines of the table of refusals that speak of a complex: 4, and 7 to 9.
+abbrev pub counts-test : Complex → ℕ × Bool
+counts-test c = (4, not (counts-right (c .vertices) (length (c .edges)) (length (c .triangles))))
+
+abbrev pub shape-tests : Complex → List (ℕ × Bool)
+shape-tests c =
+    (7, not (simplices-right (c .vertices) (c .edges)))
     ∷ (8, not (triangles-right c))
     ∷ (9, not (connected (c .edges) (c .vertices)))
-    ∷ [])
+    ∷ []
+
+-- the number of the first line that holds, or 0 where the complex is accepted
+unfoldable pub refusal : Complex → ℕ
+refusal c = first (counts-test c ∷ shape-tests c)
+
+-- with a truncation, which is judged by 5 in its place
+abbrev pub truncated-tests : Complex → ℕ → List (ℕ × Bool)
+truncated-tests c lambda = counts-test c ∷ (5, ltb 1000 lambda) ∷ shape-tests c
 
 -- a simplex is in the list
 abbrev pub In : Simplex → List Simplex → Type 0
