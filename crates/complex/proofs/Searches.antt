@@ -13,8 +13,8 @@ use lib.Seq.{getD-append-seam, getD-at}
 use lib.Dec.{eqb, ltb}
 use Rattle.mathematics.specs.Lists.{listed, distinct}
 use Rattle.mathematics.specs.Tests.{all}
-use Rattle.mathematics.proofs.Tests.{all-last, all-at}
-use Rattle.mathematics.proofs.Lists.{numbers-equal, listed-at, at-listed, distinct-last, distinct-at}
+use Rattle.mathematics.proofs.Tests.{all-at}
+use Rattle.mathematics.proofs.Lists.{numbers-equal, listed-at, at-listed, distinct-at}
 use Rattle.mathematics.proofs.Counting.{every-at, at-every, different-few, different-all, more-below, more-different}
 use Rattle.complex.specs.Complex.{Simplex, Joins, Path, here, over}
 use Rattle.complex.specs.Search.{Search, across, look, scan, serve, served, search, connected, Ends, Spans}
@@ -87,8 +87,8 @@ module _ (s : Search) (w e : ℕ) where
       record {
         root = grows .kept 0 (let z = g .sizes in omega arith) ∙ g .root;
         sizes = let z = g .sizes in omega (arith, length-append (s .seen) (w ∷ []), length-append (s .tree) (e ∷ []));
-        below = more-below n (s .seen) (g .below) (g .different) w wl new;
-        different = more-different n (s .seen) (g .below) (g .different) w wl new;
+        below = more-below (s .seen) w n (g .below) wl;
+        different = more-different (s .seen) w (g .different) new;
         numbered = each-last (λ i x. x < length es) 0 (s .tree) e (g .numbered) l;
         joined =
             each-last (λ i x. (h : ℕ) × (h ≤ i) × Joins (getD es x []) (getD (s .seen ++ (w ∷ [])) h 0) (getD (s .seen ++ (w ∷ [])) (suc i) 0)) 0 (s .tree) e

@@ -1,8 +1,8 @@
--- A search as the code keeps it: what its flags say, that there is room, and one vertex more.
+-- A search as the code keeps it: what its flags say, that there is room, and what each function of the code does to it.
 use Prim.Native.Nat.{ℕ, zero, suc, _+_, _*_, _<_, _≤_}
-use mathlib.Core.List.{List, [], _∷_, _++_}
+use mathlib.Core.List.{List, [], _∷_}
 use mathlib.Core.Path.{_≡_, refl, sym, ap, _∙_}
-use mathlib.Core.Bool.{Bool, true, false, not, _||_, cond}
+use mathlib.Core.Bool.{Bool, true, false, cond}
 use mathlib.Core.Logic.{by-cases}
 use native.Mathlib.Nat.{lt-of-lt-of-le}
 use native.Mathlib.Numerals.{add-one}
@@ -11,11 +11,11 @@ use native.Mathlib.Omega.{arith}
 use borrow.Author.Tests.{eq-eqb, ne-eqb, lt-ltb}
 use lib.ListN.{getD, set, take, length, length-set, replicate, getD-replicate}
 use lib.Seq.{length-take-le, take-suc-set, getD-set-same, getD-set-other, getD-take}
-use lib.Dec.{eqb, ltb}
+use lib.Dec.{eqb}
 use Rattle.mathematics.specs.Lists.{listed, distinct}
 use Rattle.mathematics.specs.Tests.{all}
-use Rattle.mathematics.proofs.Tests.{all-last, or-false}
-use Rattle.mathematics.proofs.Lists.{numbers-equal, listed-last, distinct-last}
+use Rattle.mathematics.proofs.Tests.{or-false}
+use Rattle.mathematics.proofs.Lists.{listed-last}
 use Rattle.mathematics.proofs.Counting.{more-below, more-different, different-room}
 use Rattle.complex.specs.Complex.{entries, simplices}
 use Rattle.complex.specs.Search.{Search, touches, across, look, scan, serve, search, connected}
@@ -40,14 +40,14 @@ module _ (n : ℕ) (t : SpanningTree) (fits : Fits n t) where
   unfolding searchOf
   seen-length = length-take-le (t .found + 1) (t .queue) (let a = fits .queue-long in let b = fits .room in omega arith)
 
-  pub flag-zero : (v : ℕ) → v < 64 → getD (t .visited) v 0 ≡ 0 → listed eqb v (searchOf t .seen) ≡ false
+  flag-zero : (v : ℕ) → v < 64 → getD (t .visited) v 0 ≡ 0 → listed eqb v (searchOf t .seen) ≡ false
   flag-zero v l z = go (listed eqb v (searchOf t .seen)) (sym (fits .flags v l) ∙ z)
     where
       go : (b : Bool) → cond {A = ℕ} b 1 0 ≡ 0 → b ≡ false
       go true h = absurd (omega arith)
       go false h = refl
 
-  pub flag-other : (v : ℕ) → v < 64 → (getD (t .visited) v 0 ≡ 0 → ⊥) → listed eqb v (searchOf t .seen) ≡ true
+  flag-other : (v : ℕ) → v < 64 → (getD (t .visited) v 0 ≡ 0 → ⊥) → listed eqb v (searchOf t .seen) ≡ true
   flag-other v l z = go (listed eqb v (searchOf t .seen)) (fits .flags v l)
     where
       go : (b : Bool) → getD (t .visited) v 0 ≡ cond b 1 0 → b ≡ true
@@ -56,13 +56,13 @@ module _ (n : ℕ) (t : SpanningTree) (fits : Fits n t) where
 
   module _ (w : ℕ) (inside : w < n) (new : listed eqb w (searchOf t .seen) ≡ false) where
     -- where a vertex is unseen, there is room for it
-    pub has-room : t .found + 1 < n
-    has-room = rw seen-length at (different-room n (searchOf t .seen) (fits .below) (fits .different) w inside new)
+    has-room : t .found + 1 < n
+    has-room = rw seen-length at (different-room (searchOf t .seen) w n (fits .below) (fits .different) inside new)
 
     module _ (e : ℕ) (small : n ≤ 64) where
       grown-stands : searchOf (grown t w e) ≡ found (searchOf t) w e
       unfolding searchOf
-      grown-stands = 
+      grown-stands =
           let a = fits .queue-long in
           let b = fits .tree-long in
           let r = has-room in
@@ -73,7 +73,7 @@ module _ (n : ℕ) (t : SpanningTree) (fits : Fits n t) where
             tree = (ap (λ k. take k (set (t .«tree_edges») (t .found) e)) (add-one (t .found)) ∙ take-suc-set (t .«tree_edges») (t .found) e q) i;
           }
 
-      pub grown-searched : Searched n (grown t w e) (found (searchOf t) w e)
+      grown-searched : Searched n (grown t w e) (found (searchOf t) w e)
       grown-searched =
           record {
             fits =
@@ -82,8 +82,8 @@ module _ (n : ℕ) (t : SpanningTree) (fits : Fits n t) where
                   tree-long = length-set (t .«tree_edges») (t .found) e ∙ fits .tree-long;
                   visited-long = length-set (t .visited) w 1 ∙ fits .visited-long;
                   room = let r = has-room in omega arith;
-                  below = rw grown-stands (more-below n (searchOf t .seen) (fits .below) (fits .different) w inside new);
-                  different = rw grown-stands (more-different n (searchOf t .seen) (fits .below) (fits .different) w inside new);
+                  below = rw grown-stands (more-below (searchOf t .seen) w n (fits .below) inside);
+                  different = rw grown-stands (more-different (searchOf t .seen) w (fits .different) new);
                   flags =
                       λ v l.
                       rw (grown-stands, listed-last eqb v (searchOf t .seen) w)

@@ -6,7 +6,9 @@ use mathlib.Core.Path.{_≡_}
 use lib.ListN.{getD, length, take}
 use lib.Dec.{eqb}
 use Rattle.mathematics.specs.Lists.{same, listed, place}
-use Rattle.complex.specs.Complex.{Simplex, start, end}
+use Rattle.complex.specs.declared.SimplicialComplex.{SimplicialComplex}
+use Rattle.complex.specs.Complex.{Simplex, start, end, complexOf}
+use Rattle.complex.specs.Judge.{refusal}
 
 -- the number of x in a list, counted from 1; 0 where it is not listed
 unfoldable pub number : {A : Type 0} → (A → A → Bool) → A → List A → ℕ
@@ -41,3 +43,8 @@ pub record Keyed (table : List ℕ) (s : Simplex) : Type 0 where
   pub third : getD s 2 0 < 64
   pub known : 1 ≤ getD table (key s) 0
   pub few : getD table (key s) 0 ≤ 64
+
+-- what the judge says of a record, and what its table then holds
+pub record Judged (c : SimplicialComplex) (table : List ℕ) (r : ℕ) : Type 0 where
+  pub number : r ≡ refusal (complexOf c)
+  pub index : r ≡ 0 → Indexed table (complexOf c .edges)

@@ -1,7 +1,7 @@
 -- A search as the code keeps it.
 use Prim.Native.Nat.{ℕ, _+_, _<_, _≤_}
-use mathlib.Core.List.{List, [], _∷_}
-use mathlib.Core.Bool.{Bool, true, cond}
+use mathlib.Core.List.{List}
+use mathlib.Core.Bool.{true, cond}
 use mathlib.Core.Path.{_≡_}
 use lib.ListN.{getD, length, take}
 use lib.Dec.{eqb, ltb}

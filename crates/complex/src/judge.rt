@@ -2,6 +2,7 @@
 use crate::SimplicialComplex;
 use crate::numbering::note;
 use crate::numbering::wide;
+use crate::search::connected;
 ghost use mathlib.Core.Path.{_≡_};
 ghost use mathlib.Core.List.{List};
 ghost use mathlib.Core.Bool.{Bool, true, _&&_};
@@ -10,10 +11,11 @@ ghost use lib.ListN.{getD, length, replicate};
 ghost use Rattle.mathematics.specs.Lists.{same, firsts};
 ghost use Rattle.mathematics.specs.Tests.{all};
 ghost use Rattle.complex.specs.Complex.{Simplex, entries, simplices, complexOf};
-ghost use Rattle.complex.specs.Judge.{counts-right, rising, sides-listed, refusal};
+ghost use Rattle.mathematics.specs.Refusals.{first};
+ghost use Rattle.complex.specs.Judge.{counts-right, rising, sides-listed, refusal, truncated-tests};
 ghost use lib.Dec.{eqb};
 ghost use mathlib.Core.List.{map};
-ghost use Rattle.complex.specs.Numbering.{key, triangle-key, Keyed, Indexed};
+ghost use Rattle.complex.specs.Numbering.{key, triangle-key, Keyed, Indexed, Judged};
 
 // A byte as a number of a list.
 pub fn byte(x: u8) -> usize
@@ -131,4 +133,52 @@ fn counts_right(n: usize, m: usize, t: usize) -> bool
     ensures { λ r. ⌜ r ≡ counts-right n m t ⌝ }
 {
     (((1 <= n) & (n <= 64)) & (m <= 63)) & (t <= 256)
+}
+
+// The judge, with a table of zeros that is the index of the edges where the record is accepted.
+pub fn judge_indexed(c: SimplicialComplex, table: &mut [u16; 4096]) -> u8
+    requires { ⌜ now table ≡ replicate 4096 0 ⌝ }
+    ensures { λ r. ⌜ Judged c (now (table .exit)) r ⌝ }
+{
+    let n = c.n_vertices;
+    let m = c.n_edges;
+    let t = c.n_triangles;
+    if !counts_right(n, m, t) {
+        return 4;
+    }
+    if !edges_rise(&c.edges, n, m) {
+        return 7;
+    }
+    if number_edges(&c.edges, m, table) != m {
+        return 7;
+    }
+    if !triangles_fit(&c.triangles, n, table, t) {
+        return 8;
+    }
+    if number_triangles(&c.triangles, table, t) != t {
+        return 8;
+    }
+    if connected(&c.edges, n, m) { 0 } else { 9 }
+}
+
+// The judge of a record: the first of 4, 7, 8 and 9 that holds, or 0 where it is accepted.
+pub fn judge(c: SimplicialComplex) -> u8
+    ensures { λ r. ⌜ r ≡ refusal (complexOf c) ⌝ }
+{
+    let mut table = [0u16; 4096];
+    judge_indexed(c, &mut table)
+}
+
+// The judge of a record and a truncation: 5 has its place between 4 and 7.
+pub fn judge_truncated(c: SimplicialComplex, lambda: usize) -> u8
+    ensures { λ r. ⌜ r ≡ first (truncated-tests (complexOf c) lambda) ⌝ }
+{
+    let number = judge(c);
+    if number == 4 {
+        return 4;
+    }
+    if 1000 < lambda {
+        return 5;
+    }
+    number
 }

@@ -1,6 +1,6 @@
 // A small complex of vertices, edges and triangles, judged before anything rests on it.
 
-mod judge;
+pub mod judge;
 mod numbering;
 pub mod search;
 

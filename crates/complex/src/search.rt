@@ -40,8 +40,15 @@ fn wide(x: u8) -> usize
     x as usize
 }
 
-// Edge e, which touches v, is looked at from v.
-fn look(edges: &[u8; 126], n_vertices: usize, n_edges: usize, v: u8, s: SpanningTree, e: usize) -> SpanningTree
+// Edge e, which touches v, is looked at from v. The counts serve the contract alone.
+fn look(
+    edges: &[u8; 126],
+    n_vertices: usize,
+    n_edges: usize,
+    v: u8,
+    s: SpanningTree,
+    e: usize,
+) -> SpanningTree
     requires { ⌜ Searchable (now edges) «n_vertices» «n_edges» × Fits «n_vertices» s × (e < «n_edges») × (touches (getD (simplices 2 (now edges) «n_edges») e []) v ≡ true) ⌝ }
     ensures { λ r. ⌜ Searched «n_vertices» r (look (simplices 2 (now (edges .entry)) «n_edges») v (searchOf s) e) ⌝ }
 {
@@ -61,7 +68,13 @@ fn look(edges: &[u8; 126], n_vertices: usize, n_edges: usize, v: u8, s: Spanning
 }
 
 // All edges are looked at from v. Most do not touch it, and for those the record is not copied.
-fn scan(edges: &[u8; 126], n_vertices: usize, n_edges: usize, v: u8, s: SpanningTree) -> SpanningTree
+fn scan(
+    edges: &[u8; 126],
+    n_vertices: usize,
+    n_edges: usize,
+    v: u8,
+    s: SpanningTree,
+) -> SpanningTree
     requires { ⌜ Searchable (now edges) «n_vertices» «n_edges» × Fits «n_vertices» s ⌝ }
     ensures { λ r. ⌜ Searched «n_vertices» r (scan (simplices 2 (now (edges .entry)) «n_edges») v (searchOf s) «n_edges») ⌝ }
 {
@@ -75,7 +88,13 @@ fn scan(edges: &[u8; 126], n_vertices: usize, n_edges: usize, v: u8, s: Spanning
 }
 
 // The vertex at place h of the queue, if there is one, is served.
-fn serve(edges: &[u8; 126], n_vertices: usize, n_edges: usize, s: SpanningTree, h: usize) -> SpanningTree
+fn serve(
+    edges: &[u8; 126],
+    n_vertices: usize,
+    n_edges: usize,
+    s: SpanningTree,
+    h: usize,
+) -> SpanningTree
     requires { ⌜ Searchable (now edges) «n_vertices» «n_edges» × Fits «n_vertices» s ⌝ }
     ensures { λ r. ⌜ Searched «n_vertices» r (serve (simplices 2 (now (edges .entry)) «n_edges») (searchOf s) h) ⌝ }
 {

@@ -97,14 +97,15 @@ module _ (n : ℕ) where
     pub different-all : every (λ v. listed eqb v l) n ≡ eqb (length l) n
     different-all = rw (tally-listed l below different) at (every-tally (λ v. listed eqb v l) n .0)
 
-    -- one number more, below n and not listed, for which there is room
-    module _ (w : ℕ) (inside : w < n) (new : listed eqb w l ≡ false) where
-      pub more-below : all (λ v. ltb v n) (l ++ (w ∷ [])) ≡ true
-      more-below = all-last (λ v. ltb v n) l w ∙ rw (below, lt-ltb w n inside)
+-- one number more
+module _ (l : List ℕ) (w : ℕ) where
+  pub more-below : (n : ℕ) → all (λ v. ltb v n) l ≡ true → w < n → all (λ v. ltb v n) (l ++ (w ∷ [])) ≡ true
+  more-below n below inside = all-last (λ v. ltb v n) l w ∙ rw (below, lt-ltb w n inside)
 
-      pub more-different : distinct eqb (l ++ (w ∷ [])) ≡ true
-      more-different = distinct-last eqb numbers-equal l w ∙ rw (different, new)
+  pub more-different : distinct eqb l ≡ true → listed eqb w l ≡ false → distinct eqb (l ++ (w ∷ [])) ≡ true
+  more-different different new = distinct-last eqb numbers-equal l w ∙ rw (different, new)
 
-  pub different-room : (l : List ℕ) → all (λ v. ltb v n) l ≡ true → distinct eqb l ≡ true → (w : ℕ) → w < n → listed eqb w l ≡ false → length l < n
-  different-room l b d w inside new =
-      omega (arith, length-append l (w ∷ []), different-few (l ++ (w ∷ [])) (more-below l b d w inside new) (more-different l b d w inside new))
+  -- where one below n is not listed, fewer than n are
+  pub different-room : (n : ℕ) → all (λ v. ltb v n) l ≡ true → distinct eqb l ≡ true → w < n → listed eqb w l ≡ false → length l < n
+  different-room n below different inside new =
+      omega (arith, length-append l (w ∷ []), different-few n (l ++ (w ∷ [])) (more-below n below inside) (more-different different new))

@@ -4,35 +4,26 @@ use Rattle.complex.specs.Complex.{entries}
 use Rattle.complex.specs.Search.{across}
 use Rattle.complex.proofs.search.across.Statement.{statement}
 use Rattle.complex.proofs.search.across.Tie as tie
-use Rattle.complex.proofs.search.across.Reads as reads
-use Rattle.complex.proofs.search.across.Lts as lts
 
--- src/search.rt:33:19
 mul-a : tie.Need-mul-a
 mul-a c = search needs
 
--- src/search.rt:33:13
 element-copy-out-a : tie.Need-element-copy-out-a
 element-copy-out-a c = search needs
 
--- src/search.rt:34:23
 mul-result : tie.Need-mul-result
 mul-result c = search needs
 
--- src/search.rt:34:23
 add-result : tie.Need-add-result
 add-result c = search needs
 
--- src/search.rt:34:17
 element-copy-out-result : tie.Need-element-copy-out-result
 element-copy-out-result c = search needs
 
--- src/search.rt:29:1
 returns : tie.Need-returns
 unfolding entries across
 returns c = rw (eq-eqb _ _ (c .before .if1 .taken))
 
--- src/search.rt:29:1
 returns-2 : tie.Need-returns-2
 unfolding entries across
 returns-2 c = rw (ne-eqb _ _ (c .if1 .left))

@@ -5,10 +5,6 @@ use borrow.Author.Needs.{needs}
 use Rattle.complex.proofs.Trees.{look-inside, look-kept, look-room, look-grown}
 use Rattle.complex.proofs.search.look.Statement.{statement}
 use Rattle.complex.proofs.search.look.Tie as tie
-use Rattle.complex.proofs.search.look.Reads as reads
-use Rattle.complex.proofs.search.look.Lts as lts
-use Rattle.complex.proofs.search.across.Reads as across-reads
-use Rattle.complex.proofs.search.wide.Reads as wide-reads
 
 inside : (c : tie.After-wide) → c .wide .result < c .before .before .args .n-vertices
 inside c =
@@ -20,45 +16,35 @@ room c =
     let start = c .before .before .before .before in
     look-room _ _ _ (start .pre .0) _ (start .pre .1) _ _ _ (start .pre .2) (c .before .before .wide .ensures ∙ c .before .before .before .across .ensures) (c .if1 .left)
 
--- src/search.rt:48:9
 across-requires : tie.Need-across-requires
 across-requires c κs = search needs
 
--- src/search.rt:49:9
 wide-requires : tie.Need-wide-requires
 wide-requires c κs = search needs
 
--- src/search.rt:50:8
 element-copy-out-if1 : tie.Need-element-copy-out-if1
 element-copy-out-if1 c = omega (arith, inside c)
 
--- src/search.rt:51:9
 returns : tie.Need-returns
 returns c =
     let start = c .before .before .before .before in
     look-kept _ _ _ (start .pre .0) _ (start .pre .1) _ _ _ (start .pre .2) (c .before .before .wide .ensures ∙ c .before .before .before .across .ensures) (c .if1 .taken)
 
--- src/search.rt:54:16
 add-next : tie.Need-add-next
 add-next c = search needs
 
--- src/search.rt:56:5
 element-write-t : tie.Need-element-write-t
 element-write-t c = omega (arith, room c)
 
--- src/search.rt:58:24
 cast-t : tie.Need-cast-t
 cast-t c = search needs
 
--- src/search.rt:58:5
 element-write-t-2 : tie.Need-element-write-t-2
 element-write-t-2 c = omega (arith, room c)
 
--- src/search.rt:59:5
 element-write-t-3 : tie.Need-element-write-t-3
 element-write-t-3 c = omega (arith, inside (c .before .before))
 
--- src/search.rt:44:1
 returns-2 : tie.Need-returns-2
 returns-2 c =
     let start = c .before .before .before .before in

@@ -8,10 +8,6 @@ use Rattle.complex.specs.Tree.{Searched}
 use Rattle.complex.proofs.Looks.{served-next}
 use Rattle.complex.proofs.search.search.Statement.{statement}
 use Rattle.complex.proofs.search.search.Tie as tie
-use Rattle.complex.proofs.search.search.Reads as reads
-use Rattle.complex.proofs.search.search.Lts as lts
-use Rattle.complex.proofs.search.serve.Reads as serve-reads
-use Rattle.complex.proofs.search.start.Reads as start-reads
 
 abbrev Inv-loop : tie.InvT-loop
 Inv-loop edges n-vertices n-edges t₀ h₀ t h = (h ≤ n-vertices) × Searched n-vertices t (served (simplices 2 edges n-edges) (record { seen = 0 ∷ []; tree = [] }) h)
@@ -19,32 +15,25 @@ Inv-loop edges n-vertices n-edges t₀ h₀ t h = (h ≤ n-vertices) × Searched
 abbrev μ-loop : tie.MeasureT-loop
 μ-loop edges n-vertices n-edges t₀ h₀ t h = n-vertices - h
 
--- src/search.rt:108:9
 start-requires : tie.Need-start-requires Inv-loop μ-loop
 start-requires c κs = tt
 
--- src/search.rt:109:5
 loop-holds : tie.Need-loop-holds Inv-loop μ-loop
 unfolding served
 loop-holds c = (omega arith, c .start .ensures (c .before .args .n-vertices) (c .before .pre .some-vertex))
 
--- src/search.rt:110:9
 serve-requires : tie.Need-serve-requires Inv-loop μ-loop
 serve-requires c κs = (c .before .before .before .pre, c .before .loop .inv .1 .fits)
 
--- src/search.rt:109:9
 add-h : tie.Need-add-h Inv-loop μ-loop
 add-h c = omega arith
 
--- src/search.rt:109:5
 loop-less : tie.Need-loop-less Inv-loop μ-loop
 loop-less c = omega arith
 
--- src/search.rt:109:5
 loop-again : tie.Need-loop-again Inv-loop μ-loop
 loop-again c = (omega arith, rw (served-next, ← c .before .before .loop .inv .1 .stands) (c .serve .ensures))
 
--- src/search.rt:104:1
 returns : tie.Need-returns Inv-loop μ-loop
 unfolding search
 returns c =

@@ -2,23 +2,16 @@ use Rattle.complex.proofs.Trees.{serve-none, serve-scanned}
 use borrow.Author.Needs.{needs}
 use Rattle.complex.proofs.search.serve.Statement.{statement}
 use Rattle.complex.proofs.search.serve.Tie as tie
-use Rattle.complex.proofs.search.serve.Reads as reads
-use Rattle.complex.proofs.search.serve.Lts as lts
-use Rattle.complex.proofs.search.scan.Reads as scan-reads
 
--- src/search.rt:84:9
 returns : tie.Need-returns
 returns c = serve-none _ _ _ _ (c .before .pre .1) _ (c .if1 .taken)
 
--- src/search.rt:86:13
 element-copy-out-v : tie.Need-element-copy-out-v
 element-copy-out-v c = search needs
 
--- src/search.rt:87:5
 scan-requires : tie.Need-scan-requires
 scan-requires c κs = search needs
 
--- src/search.rt:78:1
 returns-2 : tie.Need-returns-2
 returns-2 c =
     let start = c .before .before .before in

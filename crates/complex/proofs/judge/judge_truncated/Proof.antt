@@ -1,0 +1,25 @@
+use borrow.Author.Needs.{needs}
+use Rattle.complex.proofs.judge.judge_truncated.Statement.{statement}
+use Rattle.complex.proofs.judge.judge_truncated.Tie as tie
+use Rattle.complex.proofs.judge.judge_truncated.Reads as reads
+use Rattle.complex.proofs.judge.judge_truncated.Lts as lts
+use Rattle.complex.proofs.judge.judge.Reads as judge-reads
+
+-- src/judge.rt:176:9
+judge-requires : tie.Need-judge-requires
+judge-requires c κs = search needs
+
+-- src/judge.rt:178:9
+returns : tie.Need-returns
+returns c = ?
+
+-- src/judge.rt:181:9
+returns-2 : tie.Need-returns-2
+returns-2 c = ?
+
+-- src/judge.rt:173:1
+returns-3 : tie.Need-returns-3
+returns-3 c = ?
+
+pub judge-truncated-spec : {M : Type 1} → statement M
+judge-truncated-spec = tie.close (tie.spec judge-requires returns returns-2 returns-3)
