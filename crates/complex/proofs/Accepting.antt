@@ -92,7 +92,7 @@ at-in s l p = at-listed same lists-equal [] s l (p .0) (p .1) (p .2)
 
 module _ (c : Complex) (two-long : Sized 2 (c .edges)) (three-long : Sized 3 (c .triangles)) where
   -- a triangle that passes its tests
-  triangle-fits : triangles-right c ≡ true → (t : ℕ) → t < length (c .triangles) → fitting (c .vertices) (c .edges) (getD (c .triangles) t []) ≡ true
+  pub triangle-fits : triangles-right c ≡ true → (t : ℕ) → t < length (c .triangles) → fitting (c .vertices) (c .edges) (getD (c .triangles) t []) ≡ true
   unfolding triangles-right simplices-right fitting
   triangle-fits h t tl =
       let p = and-parts (all (rising (c .vertices)) (c .triangles) && distinct same (c .triangles)) (all (sides-listed (c .edges)) (c .triangles)) h in

@@ -6,3 +6,5 @@ pub mod Looks
 pub mod Searches
 pub mod Trees
 pub mod Accepting
+pub mod Judging
+pub mod SidesFound

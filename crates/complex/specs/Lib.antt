@@ -4,3 +4,4 @@ pub mod Judge
 pub mod Tree
 pub mod Numbering
 pub mod Pentachora
+pub mod Sides

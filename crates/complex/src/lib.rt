@@ -3,6 +3,7 @@
 pub mod judge;
 mod numbering;
 pub mod search;
+pub mod triangle;
 
 pub struct SimplicialComplex {
     pub n_vertices: usize,

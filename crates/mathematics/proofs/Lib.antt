@@ -2,3 +2,4 @@ pub mod Tests
 pub mod Lists
 pub mod Front
 pub mod Counting
+pub mod Refusals

@@ -1,3 +1,6 @@
+use mathlib.Core.Path.{_≡_, refl, sym, _∙_}
+use borrow.Author.Tests.{eq-eqb, ne-eqb, lt-ltb, le-ltb}
+use Rattle.complex.proofs.Judging.{with-truncation}
 use borrow.Author.Needs.{needs}
 use Rattle.complex.proofs.judge.judge_truncated.Statement.{statement}
 use Rattle.complex.proofs.judge.judge_truncated.Tie as tie
@@ -11,15 +14,15 @@ judge-requires c κs = search needs
 
 -- src/judge.rt:178:9
 returns : tie.Need-returns
-returns c = ?
+returns c = rw (with-truncation, ← c .before .judge .ensures, eq-eqb _ _ (c .if1 .taken))
 
 -- src/judge.rt:181:9
 returns-2 : tie.Need-returns-2
-returns-2 c = ?
+returns-2 c = rw (with-truncation, ← c .before .before .judge .ensures, ne-eqb _ _ (c .before .if1 .left), lt-ltb _ _ (c .if2 .taken))
 
 -- src/judge.rt:173:1
 returns-3 : tie.Need-returns-3
-returns-3 c = ?
+returns-3 c = rw (with-truncation, ← c .before .before .judge .ensures, ne-eqb _ _ (c .before .if1 .left), le-ltb _ _ (c .if2 .left))
 
 pub judge-truncated-spec : {M : Type 1} → statement M
 judge-truncated-spec = tie.close (tie.spec judge-requires returns returns-2 returns-3)

@@ -1,0 +1,108 @@
+-- The edges of a triangle of an accepted record, read off the index.
+use Prim.Native.Nat.{ℕ, zero, suc, _+_, _-_, _*_, _<_, _≤_}
+use mathlib.Core.List.{List, [], _∷_, _++_, map}
+use mathlib.Core.Path.{_≡_, refl, sym, ap, _∙_}
+use mathlib.Core.Bool.{Bool, true, false, cond}
+use native.Mathlib.Omega.{arith}
+use borrow.Author.Tests.{le-leb, lt-leb}
+use lib.ListN.{getD, length}
+use lib.Dec.{leb}
+use Rattle.mathematics.specs.Lists.{same, listed, place, choose}
+use Rattle.mathematics.specs.Refusals.{first, Outcome, value, refused, outcome}
+use Rattle.mathematics.proofs.Refusals.{first-stops, first-goes-on, numbered}
+use Rattle.mathematics.specs.Tests.{all}
+use Rattle.complex.specs.declared.SimplicialComplex.{SimplicialComplex}
+use Rattle.complex.specs.Complex.{Simplex, Complex, start, end, entries, simplices, complexOf}
+use Rattle.complex.specs.Judge.{counts-test, shape-tests, refusal}
+use Rattle.complex.specs.Numbering.{number, Indexed}
+use Rattle.complex.specs.Sides.{sides, sides-refusal, sidesOutcome, Sided, sidesIn}
+use Rattle.complex.proofs.Simplices.{simplices-length, simplex-at}
+use Rattle.complex.proofs.Triangles.{Fitting, fits, number-place}
+use Rattle.complex.proofs.Accepting.{Counts, counts, passed, simplices-sized, triangle-fits}
+
+-- the number of a listed edge is one more than its place
+number-is : (s : Simplex) (es : List Simplex) → listed same s es ≡ true → (1 ≤ number same s es) × (number same s es - 1 ≡ place same s es)
+unfolding number
+number-is s es h = rw h (omega arith, omega arith)
+
+triangles-long : (c : SimplicialComplex) → length (complexOf c .triangles) ≡ c .«n_triangles»
+unfolding complexOf
+triangles-long c = simplices-length 3 (c .triangles) (c .«n_triangles»)
+
+counts-own : (c : SimplicialComplex) → refusal (complexOf c) ≡ 0 → Counts (c .«n_vertices») (c .«n_edges») (c .«n_triangles»)
+unfolding complexOf
+counts-own c h =
+    rw (simplices-length 2 (c .edges) (c .«n_edges»), simplices-length 3 (c .triangles) (c .«n_triangles»)) at
+    (counts (c .«n_vertices») (length (simplices 2 (c .edges) (c .«n_edges»))) (length (simplices 3 (c .triangles) (c .«n_triangles»))) (passed (complexOf c) h .counts))
+
+fitting-own : (c : SimplicialComplex) → refusal (complexOf c) ≡ 0 → (t : ℕ) → t < c .«n_triangles» → Fitting (c .«n_vertices») (complexOf c .edges) (entries (c .triangles) (3 * t) 3)
+unfolding complexOf
+fitting-own c h t tl =
+    rw (simplex-at 3 (c .triangles) (c .«n_triangles») t tl) at
+    (fits (c .«n_vertices») (complexOf c .edges) (getD (complexOf c .triangles) t [])
+    (triangle-fits (complexOf c) (simplices-sized 2 (c .edges) (c .«n_edges»)) (simplices-sized 3 (c .triangles) (c .«n_triangles»)) (passed (complexOf c) h .triangles) t (rw (triangles-long c) tl)))
+
+-- the three edges of triangle t, each at its place
+sides-own : (c : SimplicialComplex) (t : ℕ) → t < c .«n_triangles» → sides (complexOf c) t ≡ place same (start (entries (c .triangles) (3 * t) 3) ∷ end (entries (c .triangles) (3 * t) 3) ∷ []) (complexOf c .edges) ∷ place same (start (entries (c .triangles) (3 * t) 3) ∷ getD (entries (c .triangles) (3 * t) 3) 2 0 ∷ []) (complexOf c .edges) ∷ place same (end (entries (c .triangles) (3 * t) 3) ∷ getD (entries (c .triangles) (3 * t) 3) 2 0 ∷ []) (complexOf c .edges) ∷ []
+unfolding complexOf sides choose entries
+sides-own c t tl = rw (simplex-at 3 (c .triangles) (c .«n_triangles») t tl)
+
+module _ (c : SimplicialComplex) (t : ℕ) where
+  -- a record that is refused
+  pub record-refused : (k : ℕ) → k ≡ refusal (complexOf c) → (k ≡ 0 → ⊥) → refused k ≡ sidesOutcome (complexOf c) t
+  unfolding sidesOutcome sides-refusal refusal outcome
+  record-refused zero e some = absurd (some refl)
+  record-refused (suc k) e some =
+      let d = complexOf c in
+      let stop : first ((counts-test d ∷ shape-tests d) ++ ((13, leb (length (d .triangles)) t) ∷ [])) ≡ suc k =
+      first-stops (counts-test d ∷ shape-tests d) ((13, leb (length (d .triangles)) t) ∷ []) (λ (z : first (counts-test d ∷ shape-tests d) ≡ 0). some (e ∙ z)) ∙ sym e in
+      rw stop
+
+  goes-on : refusal (complexOf c) ≡ 0 → sides-refusal (complexOf c) t ≡ cond (leb (c .«n_triangles») t) 13 0
+  unfolding sides-refusal refusal first numbered all
+  goes-on h =
+      let d = complexOf c in
+      first-goes-on (counts-test d ∷ shape-tests d) ((13, leb (length (d .triangles)) t) ∷ []) refl h ∙ size
+    where
+      size : _≡_ {A = ℕ} (cond (leb (length (complexOf c .triangles)) t) 13 0) (cond (leb (c .«n_triangles») t) 13 0)
+      size = ap (λ (n : ℕ). cond (leb n t) 13 0) (triangles-long c)
+
+  -- a number that is no triangle's
+  pub number-refused : refusal (complexOf c) ≡ 0 → c .«n_triangles» ≤ t → refused 13 ≡ sidesOutcome (complexOf c) t
+  unfolding sidesOutcome outcome
+  number-refused h past = rw (goes-on h, le-leb (c .«n_triangles») t past)
+
+  module _ (h : refusal (complexOf c) ≡ 0) (table : List ℕ) (index : Indexed table (complexOf c .edges)) (tl : t < c .«n_triangles») where
+    few : Counts (c .«n_vertices») (c .«n_edges») (c .«n_triangles»)
+    few = counts-own c h
+
+    fit : Fitting (c .«n_vertices») (complexOf c .edges) (entries (c .triangles) (3 * t) 3)
+    fit = fitting-own c h t tl
+
+    pub small-triangle : t < 256
+    small-triangle = let k = few .triangles in omega arith
+
+    pub sided : Sided table (entries (c .triangles) (3 * t) 3)
+    sided =
+        let s = entries (c .triangles) (3 * t) 3 in
+        let a = fit .first in
+        let b = fit .second in
+        let d = fit .third in
+        let v = few .vertices in
+        record {
+          a-small = omega arith;
+          b-small = omega arith;
+          c-small = omega arith;
+          ab = rw (index .numbers (start s) (end s) (omega arith) (omega arith)) (number-is _ _ (fit .first-side) .0);
+          ac = rw (index .numbers (start s) (getD s 2 0) (omega arith) (omega arith)) (number-is _ _ (fit .second-side) .0);
+          bc = rw (index .numbers (end s) (getD s 2 0) (omega arith) (omega arith)) (number-is _ _ (fit .third-side) .0);
+        }
+
+    pub sides-told : value (sidesIn table (entries (c .triangles) (3 * t) 3) .first ∷ sidesIn table (entries (c .triangles) (3 * t) 3) .second ∷ sidesIn table (entries (c .triangles) (3 * t) 3) .third ∷ []) ≡ sidesOutcome (complexOf c) t
+    unfolding sidesOutcome outcome sidesIn
+    sides-told =
+        let s = entries (c .triangles) (3 * t) 3 in
+        let w = sided in
+        let es = complexOf c .edges in
+        rw
+        (goes-on h, lt-leb (c .«n_triangles») t tl, sides-own c t tl, index .numbers (start s) (end s) (w .a-small) (w .b-small), index .numbers (start s) (getD s 2 0) (w .a-small) (w .c-small), index .numbers (end s) (getD s 2 0) (w .b-small) (w .c-small), number-is (start s ∷ end s ∷ []) es (fit .first-side) .1, number-is (start s ∷ getD s 2 0 ∷ []) es (fit .second-side) .1, number-is (end s ∷ getD s 2 0 ∷ []) es (fit .third-side) .1)

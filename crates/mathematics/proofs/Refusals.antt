@@ -1,0 +1,37 @@
+-- The first test that holds, in two lists of tests one after the other.
+use Prim.Native.Nat.{ℕ, zero, suc}
+use mathlib.Core.List.{List, [], _∷_, _++_}
+use mathlib.Core.Path.{_≡_, refl, sym, _∙_}
+use mathlib.Core.Bool.{Bool, true, false, not, _&&_, cond}
+use borrow.Author.Tests.{eq-eqb, eqb-false, not-true}
+use native.Mathlib.Omega.{arith}
+use lib.Dec.{eqb}
+use Rattle.mathematics.specs.Tests.{all}
+use Rattle.mathematics.specs.Refusals.{first}
+use Rattle.mathematics.proofs.Tests.{and-parts}
+
+-- a test of the first list holds
+pub first-stops : (xs ys : List (ℕ × Bool)) → (first xs ≡ 0 → ⊥) → first (xs ++ ys) ≡ first xs
+unfolding first
+first-stops [] ys h = absurd (h refl)
+first-stops (t ∷ xs) ys h = go (t .1) h (first-stops xs ys)
+  where
+    go : (b : Bool) → (cond b (t .0) (first xs) ≡ 0 → ⊥) → ((first xs ≡ 0 → ⊥) → first (xs ++ ys) ≡ first xs) → cond b (t .0) (first (xs ++ ys)) ≡ cond b (t .0) (first xs)
+    go true h rest = refl
+    go false h rest = rest h
+
+-- no test has the number 0
+unfoldable pub numbered : List (ℕ × Bool) → Bool
+numbered xs = all (λ (t : ℕ × Bool). not (eqb (t .0) 0)) xs
+
+-- no test of the first list holds
+pub first-goes-on : (xs ys : List (ℕ × Bool)) → numbered xs ≡ true → first xs ≡ 0 → first (xs ++ ys) ≡ first ys
+unfolding first numbered all
+first-goes-on [] ys n h = refl
+first-goes-on (t ∷ xs) ys n h = go (t .1) h (first-goes-on xs ys (p .1))
+  where
+    p : (not (eqb (t .0) 0) ≡ true) × (numbered xs ≡ true)
+    p = and-parts (not (eqb (t .0) 0)) (numbered xs) n
+    go : (b : Bool) → cond b (t .0) (first xs) ≡ 0 → (first xs ≡ 0 → first (xs ++ ys) ≡ first ys) → cond b (t .0) (first (xs ++ ys)) ≡ first ys
+    go true h rest = absurd (eqb-false (t .0) 0 (not-true (eqb (t .0) 0) (p .0)) h)
+    go false h rest = rest h
