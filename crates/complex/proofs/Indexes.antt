@@ -57,10 +57,10 @@ two (a ∷ []) h = absurd (omega arith)
 two (a ∷ b ∷ []) h = refl
 two (a ∷ b ∷ c ∷ s) h = absurd (omega arith)
 
-pub small-pair : Simplex → Bool
+unfoldable pub small-pair : Simplex → Bool
 small-pair s = eqb (length s) 2 && (ltb (start s) 64 && ltb (end s) 64)
 
-key-apart : (x y : Simplex) → small-pair x ≡ true → small-pair y ≡ true → key x ≡ key y → x ≡ y
+pub key-apart : (x y : Simplex) → small-pair x ≡ true → small-pair y ≡ true → key x ≡ key y → x ≡ y
 unfolding small-pair key
 key-apart x y p q e =
     let a = and-parts (eqb (length x) 2) (ltb (start x) 64 && ltb (end x) 64) p in

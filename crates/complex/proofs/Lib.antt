@@ -8,3 +8,7 @@ pub mod Trees
 pub mod Accepting
 pub mod Judging
 pub mod SidesFound
+pub mod Sorting
+pub mod Fives
+pub mod Faces
+pub mod FaceKeys

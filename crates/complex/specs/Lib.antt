@@ -5,3 +5,4 @@ pub mod Tree
 pub mod Numbering
 pub mod Pentachora
 pub mod Sides
+pub mod Faces

@@ -2,6 +2,7 @@
 
 pub mod judge;
 mod numbering;
+mod pentachora;
 pub mod search;
 pub mod triangle;
 

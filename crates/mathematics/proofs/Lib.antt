@@ -3,3 +3,6 @@ pub mod Lists
 pub mod Front
 pub mod Counting
 pub mod Refusals
+pub mod Maps
+pub mod Firsts
+pub mod Flat

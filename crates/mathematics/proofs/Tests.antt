@@ -66,3 +66,11 @@ all-and p q (x ∷ l) = rw (all-and p q l) (shuffle (p x) (q x) (all p l) (all q
     shuffle true false true d = refl
     shuffle true false false d = refl
     shuffle false b c d = refl
+
+-- what passes one test passes another that asks less
+pub all-weaker : {A : Type 0} (p q : A → Bool) → ((x : A) → p x ≡ true → q x ≡ true) → (l : List A) → all p l ≡ true → all q l ≡ true
+unfolding all
+all-weaker p q less [] h = refl
+all-weaker p q less (x ∷ l) h =
+    let r = and-parts (p x) (all p l) h in
+    and-both (q x) (all q l) (less x (r .0)) (all-weaker p q less l (r .1))
