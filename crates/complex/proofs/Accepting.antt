@@ -84,6 +84,13 @@ counts v e t h =
     let r = and-parts (leb 1 v) (leb v 64) (q .0) in
     record { some-vertex = leb-true 1 v (r .0); vertices = leb-true v 64 (r .1); edges = leb-true e 63 (q .1); triangles = leb-true t 256 (p .1) }
 
+-- the record's own counts, where it is accepted
+pub counts-own : (c : SimplicialComplex) → refusal (complexOf c) ≡ 0 → Counts (c .«n_vertices») (c .«n_edges») (c .«n_triangles»)
+unfolding complexOf
+counts-own c h =
+    rw (simplices-length 2 (c .edges) (c .«n_edges»), simplices-length 3 (c .triangles) (c .«n_triangles»)) at
+    (counts (c .«n_vertices») (length (simplices 2 (c .edges) (c .«n_edges»))) (length (simplices 3 (c .triangles) (c .«n_triangles»))) (passed (complexOf c) h .counts))
+
 in-at : (s : Simplex) (l : List Simplex) → listed same s l ≡ true → In s l
 in-at s l h = listed-at same lists-equal [] s l h
 

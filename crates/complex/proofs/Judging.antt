@@ -4,7 +4,7 @@ use mathlib.Core.List.{List, [], _∷_, map}
 use mathlib.Core.Path.{_≡_, refl, sym, ap, _∙_}
 use mathlib.Core.Bool.{Bool, true, false, not, _&&_, cond}
 use native.Mathlib.Omega.{arith}
-use borrow.Author.Tests.{eq-eqb, ne-eqb, eqb-true, ltb-true}
+use borrow.Author.Tests.{eq-eqb, ne-eqb, ltb-false}
 use lib.ListN.{getD, length}
 use lib.Dec.{eqb, ltb}
 use Rattle.mathematics.specs.Lists.{same, distinct, firsts}
@@ -156,3 +156,12 @@ with-truncation c lambda =
     go true true false e l = refl
     go true true true false l = refl
     go true true true true l = refl
+
+-- a record that is accepted with its truncation
+pub truncated-passed : (c : SimplicialComplex) (lambda : ℕ) → first (truncated-tests (complexOf c) lambda) ≡ 0 → (refusal (complexOf c) ≡ 0) × (lambda ≤ 1000)
+truncated-passed c lambda h = go (refusal (complexOf c)) (eqb (refusal (complexOf c)) 4) (ltb 1000 lambda) refl (sym (with-truncation c lambda) ∙ h)
+  where
+    go : (r : ℕ) (a b : Bool) → ltb 1000 lambda ≡ b → cond a 4 (cond b 5 r) ≡ 0 → (r ≡ 0) × (lambda ≤ 1000)
+    go r true b e h = absurd (omega arith)
+    go r false true e h = absurd (omega arith)
+    go r false false e h = (h, ltb-false 1000 lambda e)

@@ -12,3 +12,4 @@ pub mod Sorting
 pub mod Fives
 pub mod Faces
 pub mod FaceKeys
+pub mod Flattened

@@ -18,7 +18,7 @@ use Rattle.complex.specs.Numbering.{number, Indexed}
 use Rattle.complex.specs.Sides.{sides, sides-refusal, sidesOutcome, Sided, sidesIn}
 use Rattle.complex.proofs.Simplices.{simplices-length, simplex-at}
 use Rattle.complex.proofs.Triangles.{Fitting, fits, number-place}
-use Rattle.complex.proofs.Accepting.{Counts, counts, passed, simplices-sized, triangle-fits}
+use Rattle.complex.proofs.Accepting.{Counts, counts-own, passed, simplices-sized, triangle-fits}
 
 -- the number of a listed edge is one more than its place
 number-is : (s : Simplex) (es : List Simplex) → listed same s es ≡ true → (1 ≤ number same s es) × (number same s es - 1 ≡ place same s es)
@@ -28,12 +28,6 @@ number-is s es h = rw h (omega arith, omega arith)
 triangles-long : (c : SimplicialComplex) → length (complexOf c .triangles) ≡ c .«n_triangles»
 unfolding complexOf
 triangles-long c = simplices-length 3 (c .triangles) (c .«n_triangles»)
-
-counts-own : (c : SimplicialComplex) → refusal (complexOf c) ≡ 0 → Counts (c .«n_vertices») (c .«n_edges») (c .«n_triangles»)
-unfolding complexOf
-counts-own c h =
-    rw (simplices-length 2 (c .edges) (c .«n_edges»), simplices-length 3 (c .triangles) (c .«n_triangles»)) at
-    (counts (c .«n_vertices») (length (simplices 2 (c .edges) (c .«n_edges»))) (length (simplices 3 (c .triangles) (c .«n_triangles»))) (passed (complexOf c) h .counts))
 
 fitting-own : (c : SimplicialComplex) → refusal (complexOf c) ≡ 0 → (t : ℕ) → t < c .«n_triangles» → Fitting (c .«n_vertices») (complexOf c .edges) (entries (c .triangles) (3 * t) 3)
 unfolding complexOf

@@ -129,7 +129,7 @@ fn number_triangles(triangles: &[u8; 768], table: &[u16; 4096], t: usize) -> usi
     count
 }
 
-fn counts_right(n: usize, m: usize, t: usize) -> bool
+pub fn counts_right(n: usize, m: usize, t: usize) -> bool
     ensures { λ r. ⌜ r ≡ counts-right n m t ⌝ }
 {
     (((1 <= n) & (n <= 64)) & (m <= 63)) & (t <= 256)

@@ -1,0 +1,106 @@
+-- The sheet: bytes 0 to 2 the mark GLS; 3 to 4 the version, 1; 5 V; 6 E; 7 to 8 T; 9 to 10 L; then two bytes for each edge and three for
+-- each triangle. Numbers of two bytes have the low byte first.
+use Prim.Native.Nat.{ℕ, zero, suc, _+_, _-_, _*_, _/_, _%_, _≤_}
+use mathlib.Core.List.{List, [], _∷_, _++_, flatten}
+use mathlib.Core.Bool.{Bool, not}
+use mathlib.Core.Path.{_≡_}
+use lib.ListN.{getD, length, take, drop, replicate}
+use lib.Dec.{eqb, ltb}
+use Rattle.mathematics.specs.Lists.{same}
+use Rattle.mathematics.specs.Refusals.{first, Outcome, value, refused, outcome, written}
+use Rattle.complex.specs.declared.SimplicialComplex.{SimplicialComplex}
+use Rattle.complex.specs.Complex.{Complex, complexOf}
+use Rattle.complex.specs.Judge.{counts-right, shape-tests, truncated-tests}
+use Rattle.sheet.specs.declared.Sheet.{Sheet}
+use Rattle.sheet.specs.declared.SheetRead.{SheetRead}
+use Rattle.sheet.specs.declared.Reading.{Reading}
+use Rattle.sheet.specs.declared.Reading.the-variants.{Accepted, Refused}
+use Rattle.sheet.specs.declared.Written.{Written}
+use Rattle.sheet.specs.declared.Written.the-variants.{Bytes, Refused as NotWritten}
+
+-- the number of two bytes from a place on, low byte first
+unfoldable pub word : List ℕ → ℕ → ℕ
+word b i = getD b i 0 + 256 * getD b (i + 1) 0
+
+-- a list, and zeros up to n entries
+unfoldable pub padded : ℕ → List ℕ → List ℕ
+padded n l = l ++ replicate (n - length l) 0
+
+-- the sheet that the bytes hold
+unfoldable pub sheetIn : List ℕ → Sheet
+sheetIn b =
+    record {
+      complex = record {
+        «n_vertices» = getD b 5 0;
+        «n_edges» = getD b 6 0;
+        edges = padded 126 (take (2 * getD b 6 0) (drop 11 b));
+        «n_triangles» = word b 7;
+        triangles = padded 768 (take (3 * word b 7) (drop (11 + 2 * getD b 6 0) b));
+      };
+      lambda = word b 9;
+    }
+
+-- all zeros
+unfoldable pub blank : Sheet
+blank =
+    record {
+      complex = record { «n_vertices» = 0; «n_edges» = 0; edges = replicate 126 0; «n_triangles» = 0; triangles = replicate 768 0 };
+      lambda = 0;
+    }
+
+-- the lines of the table of refusals that the first eleven bytes and the length decide
+unfoldable pub header-tests : List ℕ → List (ℕ × Bool)
+header-tests b =
+    (1, ltb (length b) 11)
+    ∷ (2, not (same (take 3 b) (71 ∷ 76 ∷ 83 ∷ [])))
+    ∷ (3, not (eqb (word b 3) 1))
+    ∷ (4, not (counts-right (getD b 5 0) (getD b 6 0) (word b 7)))
+    ∷ (5, ltb 1000 (word b 9))
+    ∷ (6, not (eqb (length b) (11 + 2 * getD b 6 0 + 3 * word b 7)))
+    ∷ []
+
+-- the refusals of reading in their order, or 0
+unfoldable pub reading-refusal : List ℕ → ℕ
+reading-refusal b = first (header-tests b ++ shape-tests (complexOf (sheetIn b .complex)))
+
+unfoldable pub readAnswer : ℕ → Reading
+readAnswer zero = Accepted
+readAnswer (suc n) = Refused (suc n)
+
+-- what reading gives: the answer, and the sheet, or zeros beside a refusal
+unfoldable pub readOf : List ℕ → SheetRead
+readOf b = record { answer = readAnswer (reading-refusal b); sheet = written (reading-refusal b) (sheetIn b) blank }
+
+-- a refusal, with zeros beside it
+unfoldable pub refusedOf : ℕ → SheetRead
+refusedOf n = record { answer = Refused n; sheet = blank }
+
+-- the first eleven bytes
+unfoldable pub headerOf : ℕ → ℕ → ℕ → ℕ → List ℕ
+headerOf v e t lambda = 71 ∷ 76 ∷ 83 ∷ 1 ∷ 0 ∷ v ∷ e ∷ t % 256 ∷ t / 256 ∷ lambda % 256 ∷ lambda / 256 ∷ []
+
+-- the bytes of a complex and a truncation
+unfoldable pub sheetBytes : Complex → ℕ → List ℕ
+sheetBytes c lambda = headerOf (c .vertices) (length (c .edges)) (length (c .triangles)) lambda ++ (flatten (c .edges) ++ flatten (c .triangles))
+
+-- the refusals of writing in their order, or 0, for a lent list of a given length
+unfoldable pub writing-refusal : Complex → ℕ → ℕ → ℕ
+writing-refusal c lambda room = first (truncated-tests c lambda ++ ((15, ltb room (length (sheetBytes c lambda))) ∷ []))
+
+-- what an answer says
+unfoldable pub writtenAnswer : Written → Outcome ℕ
+writtenAnswer (Bytes n) = value n
+writtenAnswer (NotWritten n) = refused n
+
+-- what writing answers, and what it leaves in the lent list
+pub record WrittenOf (s : Sheet) (before : List ℕ) (r : Written) (after : List ℕ) : Type 0 where
+  pub answer : writtenAnswer r ≡ outcome (writing-refusal (complexOf (s .complex)) (s .lambda) (length before)) (length (sheetBytes (complexOf (s .complex)) (s .lambda)))
+  pub bytes : after ≡ written (writing-refusal (complexOf (s .complex)) (s .lambda) (length before)) (sheetBytes (complexOf (s .complex)) (s .lambda) ++ drop (length (sheetBytes (complexOf (s .complex)) (s .lambda))) before) before
+
+-- what the writer of the bytes asks: counts in their ranges, and room
+pub record Writable (s : Sheet) (out : List ℕ) : Type 0 where
+  pub vertices : s .complex .«n_vertices» ≤ 64
+  pub edges : s .complex .«n_edges» ≤ 63
+  pub triangles : s .complex .«n_triangles» ≤ 256
+  pub truncation : s .lambda ≤ 1000
+  pub room : 11 + 2 * s .complex .«n_edges» + 3 * s .complex .«n_triangles» ≤ length out
