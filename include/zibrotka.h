@@ -1,0 +1,87 @@
+/*
+ * Gauge-invariant states on a triangle complex: the calls of libzibrotka.a.
+ *
+ * Every call answers one signed number: its value, or minus one of the refusals below. A call that refuses leaves every lent list and
+ * number as it was; one that succeeds changes no entry beyond its result. Each call judges its whole input itself.
+ *
+ * A list is a pointer and a length. An empty one may be NULL with length 0. What a call writes to must not overlap anything else that
+ * it is given; what it only reads may.
+ *
+ * A complex has vertices 0 to V-1, numbered edges (a, b) with a < b, and numbered triangles (a, b, c) with a < b < c. V is 1 to 64,
+ * the number of edges E 0 to 63, of triangles T 0 to 256, the truncation L 0 to 1000. Its sheet has 11 + 2E + 3T bytes:
+ * "GLS", version 1 (two bytes), V, E, T (two bytes), L (two bytes), two bytes an edge, three a triangle; low bytes come first.
+ */
+#ifndef ZIBROTKA_H
+#define ZIBROTKA_H
+
+#include <stddef.h>
+#include <stdint.h>
+
+#ifdef __cplusplus
+extern "C" {
+#endif
+
+enum zibrotka_refusal {
+    ZIBROTKA_SHEET_SHORT = 1,       /* a sheet under 11 bytes */
+    ZIBROTKA_MARK = 2,              /* its mark is not GLS */
+    ZIBROTKA_VERSION = 3,           /* its version is not 1 */
+    ZIBROTKA_COUNTS = 4,            /* V, E or T outside its range */
+    ZIBROTKA_LAMBDA = 5,            /* L over 1000 */
+    ZIBROTKA_SHEET_LENGTH = 6,      /* a length that the counts do not give; a flat list that is no multiple of two, or of three */
+    ZIBROTKA_EDGE = 7,              /* an edge not a < b < V, or listed twice */
+    ZIBROTKA_TRIANGLE = 8,          /* a triangle not a < b < c < V, listed twice, or with an edge not listed */
+    ZIBROTKA_UNREACHED = 9,         /* some vertex not reachable from vertex 0 */
+    ZIBROTKA_CANDIDATES = 10,       /* candidates over the limit */
+    ZIBROTKA_PENTACHORON = 11,      /* a vertex not below V or one twice, or a list of them no multiple of five long */
+    ZIBROTKA_LENGTH = 12,           /* weights, a configuration, a state, a vector or directions of the wrong length */
+    ZIBROTKA_NUMBER = 13,           /* an edge, triangle or state number outside its range, or a direction not 1 or -1 */
+    ZIBROTKA_FLOAT = 14,            /* a float outside its range, or a coupling whose factors are not its own */
+    ZIBROTKA_ROOM = 15,             /* a result list or work list too short */
+    ZIBROTKA_BAND = 16,             /* a shifted edge leaves -L to L */
+    ZIBROTKA_NOT_LISTED = 17        /* a configuration not in the basis */
+};
+
+/* The longest flat lists that a sheet can hold. */
+#define ZIBROTKA_EDGE_BYTES 126
+#define ZIBROTKA_TRIANGLE_BYTES 768
+/* 11 and the two above: no longer sheet is accepted. */
+#define ZIBROTKA_SHEET_BYTES 905
+
+/*
+ * Writes the sheet of flat edges (pairs) and triangles (triples) to the front of `sheet`. Answers the number of bytes written, or minus
+ * 4, 5, 6, 7, 8, 9 or 15, the smallest that holds; pairs and triples are counted rounding down for 4.
+ */
+int64_t zibrotka_make_sheet(uint64_t n_vertices,
+                            const uint8_t *edges, size_t edges_len,
+                            const uint8_t *triangles, size_t triangles_len,
+                            uint64_t lambda,
+                            uint8_t *sheet, size_t sheet_len);
+
+/*
+ * Reads a sheet. Answers 0 and fills everything, the entries of both arrays beyond the counts with zeros, or minus one of 1 to 9.
+ */
+int64_t zibrotka_read_sheet(const uint8_t *sheet, size_t sheet_len,
+                            uint64_t *n_vertices, uint64_t *n_edges, uint64_t *n_triangles, uint64_t *lambda,
+                            uint8_t edges[ZIBROTKA_EDGE_BYTES], uint8_t triangles[ZIBROTKA_TRIANGLE_BYTES]);
+
+/*
+ * The numbers of a triangle's edges (a,b), (a,c), (b,c). Answers 0, or minus one of 1 to 9 or 13.
+ */
+int64_t zibrotka_tri_edge_indices(const uint8_t *sheet, size_t sheet_len, uint64_t triangle, uint64_t indices[3]);
+
+/*
+ * The edges and triangles of a flat list of pentachora, five vertices each in any order, numbered in order of first appearance, each
+ * pentachoron's in dictionary order. Answers the number of edges; `n_triangles` gets the number of triangles; flat pairs and triples go
+ * to the fronts of the lent lists. Or minus a refusal, the first of: 4 for V, 11, 4 for the resulting E or T, 9, 15.
+ */
+int64_t zibrotka_from_pentachorons(uint64_t n_vertices,
+                                   const uint64_t *pentachora, size_t pentachora_len,
+                                   uint8_t *edges, size_t edges_len,
+                                   uint8_t *triangles, size_t triangles_len,
+                                   uint64_t *n_triangles);
+
+#ifdef __cplusplus
+}
+#endif
+
+#endif

@@ -1,0 +1,143 @@
+/* Calls libzibrotka.a from C: that the header and the library agree, that lists go over whole, and that refusals leave them alone. */
+#include "zibrotka.h"
+
+#include <stdio.h>
+#include <string.h>
+
+static int passed = 0;
+
+static int check(int holds, const char *what, int line)
+{
+    if (!holds) {
+        printf("C: line %d failed: %s\n", line, what);
+        return 1;
+    }
+    passed++;
+    return 0;
+}
+
+#define CHECK(test) \
+    do { \
+        if (check((test), #test, __LINE__)) \
+            return 1; \
+    } while (0)
+
+/* every byte of a list has one value */
+static int all_are(const uint8_t *list, size_t len, uint8_t value)
+{
+    for (size_t i = 0; i < len; i++)
+        if (list[i] != value)
+            return 0;
+    return 1;
+}
+
+static const uint8_t triangle_sheet[20] = {0x47, 0x4C, 0x53, 0x01, 0x00, 0x03, 0x03, 0x01, 0x00, 0x01,
+                                           0x00, 0x00, 0x01, 0x00, 0x02, 0x01, 0x02, 0x00, 0x01, 0x02};
+
+static int making(void)
+{
+    const uint8_t edges[] = {0, 1, 0, 2, 1, 2};
+    const uint8_t triangles[] = {0, 1, 2};
+    const uint8_t turned[] = {0, 1, 2, 0, 1, 2};
+    const uint8_t apart[] = {0, 1, 2, 3};
+    uint8_t sheet[32];
+
+    memset(sheet, 0xEE, sizeof sheet);
+    CHECK(zibrotka_make_sheet(3, edges, 6, triangles, 3, 1, sheet, 19) == -ZIBROTKA_ROOM);
+    CHECK(zibrotka_make_sheet(0, edges, 6, triangles, 3, 1, sheet, 32) == -ZIBROTKA_COUNTS);
+    CHECK(zibrotka_make_sheet(UINT64_C(4294967299), edges, 6, triangles, 3, 1, sheet, 32) == -ZIBROTKA_COUNTS);
+    CHECK(zibrotka_make_sheet(3, edges, 6, triangles, 3, 1001, sheet, 32) == -ZIBROTKA_LAMBDA);
+    CHECK(zibrotka_make_sheet(3, edges, 5, triangles, 3, 1, sheet, 32) == -ZIBROTKA_SHEET_LENGTH);
+    CHECK(zibrotka_make_sheet(3, turned, 6, triangles, 3, 1, sheet, 32) == -ZIBROTKA_EDGE);
+    CHECK(zibrotka_make_sheet(3, edges, 4, triangles, 3, 1, sheet, 32) == -ZIBROTKA_TRIANGLE);
+    CHECK(zibrotka_make_sheet(4, apart, 4, NULL, 0, 1, sheet, 32) == -ZIBROTKA_UNREACHED);
+    CHECK(zibrotka_make_sheet(1, NULL, 0, NULL, 0, 1, NULL, 0) == -ZIBROTKA_ROOM);
+    CHECK(all_are(sheet, sizeof sheet, 0xEE));
+
+    CHECK(zibrotka_make_sheet(3, edges, 6, triangles, 3, 1, sheet, sizeof sheet) == 20);
+    CHECK(memcmp(sheet, triangle_sheet, 20) == 0);
+    CHECK(all_are(sheet + 20, sizeof sheet - 20, 0xEE));
+    CHECK(zibrotka_make_sheet(1, NULL, 0, NULL, 0, 1000, sheet, sizeof sheet) == 11);
+    return 0;
+}
+
+static int reading(void)
+{
+    uint64_t numbers[4] = {91, 92, 93, 94};
+    uint8_t edges[ZIBROTKA_EDGE_BYTES], triangles[ZIBROTKA_TRIANGLE_BYTES];
+    uint8_t damaged[20];
+    /* a place of the sheet, the value put there, the refusal */
+    static const int damages[][3] = {{1, 'X', 2}, {4, 1, 3}, {5, 0, 4}, {8, 2, 4}, {10, 4, 5}, {6, 2, 6}, {11, 1, 7}, {17, 1, 8}};
+
+    memset(edges, 0xEE, sizeof edges);
+    memset(triangles, 0xEE, sizeof triangles);
+    CHECK(zibrotka_read_sheet(NULL, 0, &numbers[0], &numbers[1], &numbers[2], &numbers[3], edges, triangles) == -1);
+    CHECK(zibrotka_read_sheet(triangle_sheet, 10, &numbers[0], &numbers[1], &numbers[2], &numbers[3], edges, triangles) == -1);
+    CHECK(zibrotka_read_sheet(triangle_sheet, 11, &numbers[0], &numbers[1], &numbers[2], &numbers[3], edges, triangles) == -6);
+    for (size_t i = 0; i < sizeof damages / sizeof damages[0]; i++) {
+        memcpy(damaged, triangle_sheet, 20);
+        damaged[damages[i][0]] = (uint8_t)damages[i][1];
+        CHECK(zibrotka_read_sheet(damaged, 20, &numbers[0], &numbers[1], &numbers[2], &numbers[3], edges, triangles) == -damages[i][2]);
+    }
+    CHECK(numbers[0] == 91 && numbers[1] == 92 && numbers[2] == 93 && numbers[3] == 94);
+    CHECK(all_are(edges, sizeof edges, 0xEE) && all_are(triangles, sizeof triangles, 0xEE));
+
+    CHECK(zibrotka_read_sheet(triangle_sheet, 20, &numbers[0], &numbers[1], &numbers[2], &numbers[3], edges, triangles) == 0);
+    CHECK(numbers[0] == 3 && numbers[1] == 3 && numbers[2] == 1 && numbers[3] == 1);
+    CHECK(memcmp(edges, triangle_sheet + 11, 6) == 0 && all_are(edges + 6, sizeof edges - 6, 0));
+    CHECK(memcmp(triangles, triangle_sheet + 17, 3) == 0 && all_are(triangles + 3, sizeof triangles - 3, 0));
+    return 0;
+}
+
+static int triangle_edges(void)
+{
+    uint64_t indices[3] = {91, 92, 93};
+
+    CHECK(zibrotka_tri_edge_indices(triangle_sheet, 20, 1, indices) == -ZIBROTKA_NUMBER);
+    CHECK(zibrotka_tri_edge_indices(triangle_sheet, 20, UINT64_MAX, indices) == -ZIBROTKA_NUMBER);
+    CHECK(zibrotka_tri_edge_indices(triangle_sheet, 19, 0, indices) == -ZIBROTKA_SHEET_LENGTH);
+    CHECK(indices[0] == 91 && indices[1] == 92 && indices[2] == 93);
+    CHECK(zibrotka_tri_edge_indices(triangle_sheet, 20, 0, indices) == 0);
+    CHECK(indices[0] == 0 && indices[1] == 1 && indices[2] == 2);
+    return 0;
+}
+
+static int pentachora(void)
+{
+    const uint64_t five[] = {4, 2, 0, 3, 1};
+    const uint64_t twice[] = {4, 2, 0, 3, 4};
+    const uint64_t huge[] = {4, 2, 0, 3, UINT64_C(4294967297)};
+    const uint8_t pairs[] = {0, 1, 0, 2, 0, 3, 0, 4, 1, 2, 1, 3, 1, 4, 2, 3, 2, 4, 3, 4};
+    const uint8_t triples[] = {0, 1, 2, 0, 1, 3, 0, 1, 4, 0, 2, 3, 0, 2, 4, 0, 3, 4, 1, 2, 3, 1, 2, 4, 1, 3, 4, 2, 3, 4};
+    uint8_t edges[ZIBROTKA_EDGE_BYTES], triangles[ZIBROTKA_TRIANGLE_BYTES];
+    uint64_t n_triangles = 91;
+
+    memset(edges, 0xEE, sizeof edges);
+    memset(triangles, 0xEE, sizeof triangles);
+    CHECK(zibrotka_from_pentachorons(65, five, 5, edges, 126, triangles, 768, &n_triangles) == -ZIBROTKA_COUNTS);
+    CHECK(zibrotka_from_pentachorons(5, five, 4, edges, 126, triangles, 768, &n_triangles) == -ZIBROTKA_PENTACHORON);
+    CHECK(zibrotka_from_pentachorons(4, five, 5, edges, 126, triangles, 768, &n_triangles) == -ZIBROTKA_PENTACHORON);
+    CHECK(zibrotka_from_pentachorons(5, twice, 5, edges, 126, triangles, 768, &n_triangles) == -ZIBROTKA_PENTACHORON);
+    CHECK(zibrotka_from_pentachorons(5, huge, 5, edges, 126, triangles, 768, &n_triangles) == -ZIBROTKA_PENTACHORON);
+    CHECK(zibrotka_from_pentachorons(6, five, 5, edges, 126, triangles, 768, &n_triangles) == -ZIBROTKA_UNREACHED);
+    CHECK(zibrotka_from_pentachorons(5, five, 5, edges, 19, triangles, 768, &n_triangles) == -ZIBROTKA_ROOM);
+    CHECK(zibrotka_from_pentachorons(5, five, 5, edges, 126, triangles, 29, &n_triangles) == -ZIBROTKA_ROOM);
+    CHECK(n_triangles == 91);
+    CHECK(all_are(edges, sizeof edges, 0xEE) && all_are(triangles, sizeof triangles, 0xEE));
+
+    CHECK(zibrotka_from_pentachorons(5, five, 5, edges, 126, triangles, 768, &n_triangles) == 10);
+    CHECK(n_triangles == 10);
+    CHECK(memcmp(edges, pairs, 20) == 0 && all_are(edges + 20, sizeof edges - 20, 0xEE));
+    CHECK(memcmp(triangles, triples, 30) == 0 && all_are(triangles + 30, sizeof triangles - 30, 0xEE));
+    CHECK(zibrotka_from_pentachorons(1, NULL, 0, NULL, 0, NULL, 0, &n_triangles) == 0);
+    CHECK(n_triangles == 0);
+    return 0;
+}
+
+int main(void)
+{
+    if (making() || reading() || triangle_edges() || pentachora())
+        return 1;
+    printf("C: %d checks passed\n", passed);
+    return 0;
+}

@@ -1,0 +1,72 @@
+//! Lists that are lent to the port: filled with a pattern beforehand, with a margin on both sides, and held against it afterwards.
+
+const MARGIN: usize = 8;
+
+pub trait Pattern: Copy + PartialEq + std::fmt::Debug {
+    /// What stands at a place before the call: nothing that a call would write there.
+    fn before(at: usize) -> Self;
+}
+
+impl Pattern for u8 {
+    fn before(at: usize) -> u8 {
+        0x80 | (at.wrapping_mul(37).wrapping_add(11) & 0x7F) as u8
+    }
+}
+
+impl Pattern for u64 {
+    fn before(at: usize) -> u64 {
+        0xA5C3_0000_0000_0000 + at as u64
+    }
+}
+
+pub struct Lent<T> {
+    name: &'static str,
+    whole: Vec<T>,
+}
+
+impl<T: Pattern> Lent<T> {
+    pub fn new(name: &'static str, len: usize) -> Lent<T> {
+        Lent { name, whole: (0..len + 2 * MARGIN).map(T::before).collect() }
+    }
+
+    pub fn list(&mut self) -> &mut [T] {
+        let end = self.whole.len() - MARGIN;
+        &mut self.whole[MARGIN..end]
+    }
+
+    pub fn array<const N: usize>(&mut self) -> &mut [T; N] {
+        self.list().try_into().expect("an array is lent with its own length")
+    }
+
+    pub fn number(&mut self) -> &mut T {
+        &mut self.list()[0]
+    }
+
+    /// The front holds this and everything else is as it was.
+    pub fn holds(&self, front: &[T]) -> Result<(), String> {
+        for (at, &found) in self.whole.iter().enumerate() {
+            let expected = match at.checked_sub(MARGIN) {
+                Some(place) if place < front.len() => front[place],
+                _ => T::before(at),
+            };
+            if found != expected {
+                let place = at as i64 - MARGIN as i64;
+                let len = self.whole.len() - 2 * MARGIN;
+                let why = match at.checked_sub(MARGIN) {
+                    Some(place) if place < front.len() => "where the answer stands",
+                    Some(place) if place < len => "which should be as it was",
+                    _ => "which was not lent",
+                };
+                return Err(format!(
+                    "`{}` (length {len}) holds {found:?} at place {place}, {why}: expected {expected:?}",
+                    self.name
+                ));
+            }
+        }
+        Ok(())
+    }
+
+    pub fn unchanged(&self) -> Result<(), String> {
+        self.holds(&[])
+    }
+}

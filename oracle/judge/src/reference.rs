@@ -1,0 +1,191 @@
+//! What document 01 says, in simple sets and loops. It judges the refusals and the sheet's bytes, where the Rust has no say.
+
+use std::collections::BTreeSet;
+
+pub const MOST_VERTICES: u64 = 64;
+pub const MOST_EDGES: usize = 63;
+pub const MOST_TRIANGLES: usize = 256;
+pub const MOST_LAMBDA: u64 = 1000;
+pub const HEADER: usize = 11;
+
+/// A complex as lists; not yet judged.
+#[derive(Clone, PartialEq, Debug)]
+pub struct Complex {
+    pub vertices: u64,
+    pub edges: Vec<[u8; 2]>,
+    pub triangles: Vec<[u8; 3]>,
+}
+
+/// What a sheet says.
+#[derive(Clone, PartialEq, Debug)]
+pub struct Sheet {
+    pub complex: Complex,
+    pub lambda: u64,
+}
+
+impl Complex {
+    pub fn flat_edges(&self) -> Vec<u8> {
+        self.edges.concat()
+    }
+
+    pub fn flat_triangles(&self) -> Vec<u8> {
+        self.triangles.concat()
+    }
+
+    /// 4: a count outside its range.
+    fn counts(&self) -> Result<(), u8> {
+        counts(self.vertices, self.edges.len(), self.triangles.len())
+    }
+
+    /// 7, 8 and 9, of counts that are right.
+    fn lists(&self) -> Result<(), u8> {
+        let below = |vertex: u8| u64::from(vertex) < self.vertices;
+        let mut edges = BTreeSet::new();
+        for &[a, b] in &self.edges {
+            let right = a < b && below(b);
+            if !right || !edges.insert([a, b]) {
+                return Err(7);
+            }
+        }
+        let mut triangles = BTreeSet::new();
+        for &[a, b, c] in &self.triangles {
+            let right = a < b && b < c && below(c);
+            let sides = [[a, b], [a, c], [b, c]];
+            if !right || !triangles.insert([a, b, c]) || sides.iter().any(|side| !edges.contains(side)) {
+                return Err(8);
+            }
+        }
+        if self.parts() != 1 {
+            return Err(9);
+        }
+        Ok(())
+    }
+
+    /// How many parts the edges leave: every vertex starts as a part of its own, and each edge makes one part of two.
+    fn parts(&self) -> usize {
+        let mut part: Vec<usize> = (0..self.vertices as usize).collect();
+        for &[a, b] in &self.edges {
+            let (kept, gone) = (part[usize::from(a)], part[usize::from(b)]);
+            for name in &mut part {
+                if *name == gone {
+                    *name = kept;
+                }
+            }
+        }
+        part.into_iter().collect::<BTreeSet<_>>().len()
+    }
+}
+
+fn counts(vertices: u64, edges: usize, triangles: usize) -> Result<(), u8> {
+    let right = (1..=MOST_VERTICES).contains(&vertices) && edges <= MOST_EDGES && triangles <= MOST_TRIANGLES;
+    if right { Ok(()) } else { Err(4) }
+}
+
+fn pairs(flat: &[u8]) -> Vec<[u8; 2]> {
+    flat.chunks_exact(2).map(|two| [two[0], two[1]]).collect()
+}
+
+fn triples(flat: &[u8]) -> Vec<[u8; 3]> {
+    flat.chunks_exact(3).map(|three| [three[0], three[1], three[2]]).collect()
+}
+
+/// The sheet, or the first of 1 to 9 that holds.
+pub fn read_sheet(bytes: &[u8]) -> Result<Sheet, u8> {
+    if bytes.len() < HEADER {
+        return Err(1);
+    }
+    if &bytes[0..3] != b"GLS" {
+        return Err(2);
+    }
+    let word = |at: usize| u64::from(bytes[at]) + 256 * u64::from(bytes[at + 1]);
+    if word(3) != 1 {
+        return Err(3);
+    }
+    let (vertices, n_edges, n_triangles, lambda) = (u64::from(bytes[5]), usize::from(bytes[6]), word(7) as usize, word(9));
+    counts(vertices, n_edges, n_triangles)?;
+    if lambda > MOST_LAMBDA {
+        return Err(5);
+    }
+    if bytes.len() != HEADER + 2 * n_edges + 3 * n_triangles {
+        return Err(6);
+    }
+    let (edges, triangles) = bytes[HEADER..].split_at(2 * n_edges);
+    let complex = Complex { vertices, edges: pairs(edges), triangles: triples(triangles) };
+    complex.lists()?;
+    Ok(Sheet { complex, lambda })
+}
+
+/// The sheet's bytes; the counts and L are taken to fit their fields.
+pub fn encode(sheet: &Sheet) -> Vec<u8> {
+    let complex = &sheet.complex;
+    let low_high = |number: u64| [(number % 256) as u8, (number / 256 % 256) as u8];
+    let mut bytes = b"GLS".to_vec();
+    bytes.extend(low_high(1));
+    bytes.push(complex.vertices as u8);
+    bytes.push(complex.edges.len() as u8);
+    bytes.extend(low_high(complex.triangles.len() as u64));
+    bytes.extend(low_high(sheet.lambda));
+    bytes.extend(complex.flat_edges());
+    bytes.extend(complex.flat_triangles());
+    bytes
+}
+
+/// The bytes of the sheet made of flat lists, or the first of 4 to 9 and 15 that holds.
+pub fn make_sheet(vertices: u64, edges: &[u8], triangles: &[u8], lambda: u64, room: usize) -> Result<Vec<u8>, u8> {
+    let complex = Complex { vertices, edges: pairs(edges), triangles: triples(triangles) };
+    complex.counts()?;
+    if lambda > MOST_LAMBDA {
+        return Err(5);
+    }
+    if !edges.len().is_multiple_of(2) || !triangles.len().is_multiple_of(3) {
+        return Err(6);
+    }
+    complex.lists()?;
+    let bytes = encode(&Sheet { complex, lambda });
+    if room < bytes.len() { Err(15) } else { Ok(bytes) }
+}
+
+/// The first two judgements on pentachora: 4 for V, then 11.
+pub fn pentachora(vertices: u64, list: &[u64]) -> Result<(), u8> {
+    counts(vertices, 0, 0)?;
+    let five_apart = |five: &[u64]| five.iter().collect::<BTreeSet<_>>().len() == 5;
+    if !list.len().is_multiple_of(5) || list.iter().any(|&vertex| vertex >= vertices) || !list.chunks(5).all(five_apart) {
+        return Err(11);
+    }
+    Ok(())
+}
+
+/// The complex of pentachora that were judged right, of any size: each new face gets the next number.
+pub fn faces(vertices: u64, list: &[u64]) -> Complex {
+    let mut complex = Complex { vertices, edges: vec![], triangles: vec![] };
+    let (mut edges, mut triangles) = (BTreeSet::new(), BTreeSet::new());
+    for five in list.chunks(5) {
+        // a set gives its members in rising order
+        let rising: Vec<u8> = five.iter().map(|&vertex| vertex as u8).collect::<BTreeSet<_>>().into_iter().collect();
+        for (at, &a) in rising.iter().enumerate() {
+            for (next, &b) in rising.iter().enumerate().skip(at + 1) {
+                if edges.insert([a, b]) {
+                    complex.edges.push([a, b]);
+                }
+                for &c in &rising[next + 1..] {
+                    if triangles.insert([a, b, c]) {
+                        complex.triangles.push([a, b, c]);
+                    }
+                }
+            }
+        }
+    }
+    complex
+}
+
+/// The later judgements on pentachora: 4 for E and T, 9, 15.
+pub fn after_faces(complex: &Complex, edge_room: usize, triangle_room: usize) -> Result<(), u8> {
+    complex.counts()?;
+    if complex.parts() != 1 {
+        return Err(9);
+    }
+    if edge_room < 2 * complex.edges.len() || triangle_room < 3 * complex.triangles.len() {
+        return Err(15);
+    }
+    Ok(())
+}

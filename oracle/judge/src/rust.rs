@@ -1,0 +1,32 @@
+//! The Rust that judges: its complex, asked in the judge's terms.
+
+use crate::reference::Complex;
+use phyz_regge::SimplicialComplex;
+
+/// The complex that the Rust makes of pentachora.
+pub fn from_pentachora(vertices: u64, list: &[u64]) -> SimplicialComplex {
+    let fives: Vec<[usize; 5]> = list.chunks_exact(5).map(|five| std::array::from_fn(|at| five[at] as usize)).collect();
+    SimplicialComplex::from_pentachorons(vertices as usize, &fives)
+}
+
+/// The Rust's record for any complex: only the fields that its functions read are filled.
+pub fn filled(complex: &Complex) -> SimplicialComplex {
+    let mut record = SimplicialComplex::from_pentachorons(complex.vertices as usize, &[]);
+    record.edges = complex.edges.iter().map(|edge| edge.map(usize::from)).collect();
+    record.edge_index = record.edges.iter().enumerate().map(|(number, &edge)| (edge, number)).collect();
+    record.triangles = complex.triangles.iter().map(|triangle| triangle.map(usize::from)).collect();
+    record
+}
+
+/// Back from the Rust's record.
+pub fn lists(record: &SimplicialComplex) -> Complex {
+    Complex {
+        vertices: record.n_vertices as u64,
+        edges: record.edges.iter().map(|edge| edge.map(|vertex| vertex as u8)).collect(),
+        triangles: record.triangles.iter().map(|triangle| triangle.map(|vertex| vertex as u8)).collect(),
+    }
+}
+
+pub fn tri_edge_indices(record: &SimplicialComplex, triangle: usize) -> [u64; 3] {
+    record.tri_edge_indices(triangle).map(|number| number as u64)
+}

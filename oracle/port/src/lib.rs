@@ -1,0 +1,102 @@
+//! The calls of libzibrotka.a for safe Rust. Every answer is the value, or minus the refusal number of document 01's table. That lent
+//! lists do not overlap is what Rust's exclusive borrows say already.
+
+/// The longest flat lists that a sheet can hold.
+pub const EDGE_BYTES: usize = 2 * 63;
+pub const TRIANGLE_BYTES: usize = 3 * 256;
+
+// A slice goes over as two arguments, pointer and length: `&[T]` in such a declaration would be one argument of two words.
+mod raw {
+    use super::{EDGE_BYTES, TRIANGLE_BYTES};
+
+    unsafe extern "C" {
+        pub fn zibrotka_make_sheet(
+            n_vertices: u64,
+            edges: *const u8,
+            edges_len: usize,
+            triangles: *const u8,
+            triangles_len: usize,
+            lambda: u64,
+            sheet: *mut u8,
+            sheet_len: usize,
+        ) -> i64;
+        pub fn zibrotka_read_sheet(
+            sheet: *const u8,
+            sheet_len: usize,
+            n_vertices: *mut u64,
+            n_edges: *mut u64,
+            n_triangles: *mut u64,
+            lambda: *mut u64,
+            edges: *mut [u8; EDGE_BYTES],
+            triangles: *mut [u8; TRIANGLE_BYTES],
+        ) -> i64;
+        pub fn zibrotka_tri_edge_indices(sheet: *const u8, sheet_len: usize, triangle: u64, indices: *mut [u64; 3]) -> i64;
+        pub fn zibrotka_from_pentachorons(
+            n_vertices: u64,
+            pentachora: *const u64,
+            pentachora_len: usize,
+            edges: *mut u8,
+            edges_len: usize,
+            triangles: *mut u8,
+            triangles_len: usize,
+            n_triangles: *mut u64,
+        ) -> i64;
+    }
+}
+
+/// A sheet's bytes from flat edges and triangles; answers how many bytes were written.
+pub fn make_sheet(n_vertices: u64, edges: &[u8], triangles: &[u8], lambda: u64, sheet: &mut [u8]) -> i64 {
+    unsafe {
+        raw::zibrotka_make_sheet(
+            n_vertices,
+            edges.as_ptr(),
+            edges.len(),
+            triangles.as_ptr(),
+            triangles.len(),
+            lambda,
+            sheet.as_mut_ptr(),
+            sheet.len(),
+        )
+    }
+}
+
+/// What stands in a sheet; answers 0.
+#[allow(clippy::too_many_arguments)]
+pub fn read_sheet(
+    sheet: &[u8],
+    n_vertices: &mut u64,
+    n_edges: &mut u64,
+    n_triangles: &mut u64,
+    lambda: &mut u64,
+    edges: &mut [u8; EDGE_BYTES],
+    triangles: &mut [u8; TRIANGLE_BYTES],
+) -> i64 {
+    unsafe { raw::zibrotka_read_sheet(sheet.as_ptr(), sheet.len(), n_vertices, n_edges, n_triangles, lambda, edges, triangles) }
+}
+
+/// The numbers of a triangle's edges (a,b), (a,c), (b,c); answers 0.
+pub fn tri_edge_indices(sheet: &[u8], triangle: u64, indices: &mut [u64; 3]) -> i64 {
+    unsafe { raw::zibrotka_tri_edge_indices(sheet.as_ptr(), sheet.len(), triangle, indices) }
+}
+
+/// The edges and triangles of a flat list of pentachora; answers the number of edges.
+pub fn from_pentachorons(
+    n_vertices: u64,
+    pentachora: &[u64],
+    edges: &mut [u8],
+    triangles: &mut [u8],
+    n_triangles: &mut u64,
+) -> i64 {
+    unsafe {
+        raw::zibrotka_from_pentachorons(
+            n_vertices,
+            pentachora.as_ptr(),
+            pentachora.len(),
+            edges.as_mut_ptr(),
+            edges.len(),
+            triangles.as_mut_ptr(),
+            triangles.len(),
+            n_triangles,
+        )
+    }
+}
