@@ -4,7 +4,7 @@ use mathlib.Core.List.{List, [], _∷_, _++_, flatten}
 use mathlib.Core.Path.{_≡_, refl, sym, ap, _∙_}
 use native.Mathlib.Numerals.{add-one}
 use native.Mathlib.Omega.{arith}
-use lib.ListN.{getD, length, take, drop}
+use lib.ListN.{getD, length, take, drop, List·getD-append}
 use lib.Seq.{drop-cons, take-add, ext-getD}
 use Rattle.mathematics.proofs.Flat.{flatten-last, flatten-at}
 use Rattle.complex.specs.Complex.{Simplex, entries, simplices}
@@ -36,3 +36,16 @@ simplices-flatten k es rest long =
     (λ j g.
     let jk : j < k = omega (arith, entries-length l (k * i) k) in
     entry-at l (k * i) k j jk ∙ flatten-at k 0 es rest long i j il jk))
+
+entries-front : (l rest : List ℕ) (k at : ℕ) → at + k ≤ length l → entries (l ++ rest) at k ≡ entries l at k
+unfolding entries
+entries-front l rest zero at h = refl
+entries-front l rest (suc k) at h = rw (List·getD-append l rest 0 at (omega arith), entries-front l rest k (at + 1) (omega arith))
+
+-- what stands behind the simplices does not matter
+pub simplices-front : (k : ℕ) (l rest : List ℕ) (n : ℕ) → k * n ≤ length l → simplices k (l ++ rest) n ≡ simplices k l n
+unfolding simplices
+simplices-front k l rest zero h = refl
+simplices-front k l rest (suc n) h =
+    let e : k * suc n ≡ k * n + k = omega arith in
+    rw (simplices-front k l rest n (omega arith), entries-front l rest k (k * n) (omega arith))

@@ -1,3 +1,4 @@
 pub mod Headers
 pub mod Sheets
 pub mod RoundTrips
+pub mod Makings
