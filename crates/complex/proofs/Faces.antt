@@ -1,8 +1,8 @@
 -- The faces of pentachora whose vertices are different and below n.
-use Prim.Native.Nat.{ℕ, zero, suc, _+_, _-_, _*_, _/_, _%_, _<_, _≤_, min}
-use mathlib.Core.List.{List, [], _∷_, _++_, map, map-append, flatMap}
+use Prim.Native.Nat.{ℕ, _+_, _-_, _*_, _/_, _%_, _<_, _≤_, min}
+use mathlib.Core.List.{List, [], _∷_, map, map-append, flatMap}
 use mathlib.Core.Path.{_≡_, refl, sym, ap, _∙_}
-use mathlib.Core.Bool.{Bool, true, false, _&&_}
+use mathlib.Core.Bool.{Bool, true, _&&_}
 use native.Mathlib.Omega.{arith}
 use borrow.Author.Tests.{eqb-true, ltb-true, lt-ltb}
 use lib.ListN.{getD, length, take, length-map}
@@ -10,7 +10,7 @@ use lib.Seq.{getD-take}
 use lib.Dec.{eqb, ltb}
 use Rattle.mathematics.specs.Lists.{same, listed, notedAll, firsts, choose}
 use Rattle.mathematics.specs.Tests.{all}
-use Rattle.mathematics.proofs.Tests.{and-parts, and-both, all-at, at-all, all-weaker}
+use Rattle.mathematics.proofs.Tests.{and-parts, all-at, at-all, all-weaker}
 use Rattle.mathematics.proofs.Maps.{map-at, map-back}
 use Rattle.mathematics.proofs.Lists.{numbers-equal, lists-equal, notedAll-append, firsts-map}
 use Rattle.mathematics.proofs.Firsts.{firsts-pass, firsts-have}
@@ -22,8 +22,8 @@ use Rattle.complex.specs.Pentachora.{pentachora, pentachoron-right, pent
 use Rattle.complex.specs.Faces.{all-faces, edge-of, triangle-of}
 use Rattle.complex.proofs.Simplices.{entries-length, simplices-length, simplex-at}
 use Rattle.complex.proofs.Indexes.{simplices-next, two, small-pair, key-apart, number-key}
-use Rattle.complex.proofs.Triangles.{number-place, fitting, Fitting, fits, fitting-keyed, triangle-apart}
-use Rattle.complex.proofs.Sorting.{sorted-length, sorted-rises, rising-first, rising-weaker}
+use Rattle.complex.proofs.Triangles.{number-place, fitting, fits, fitting-keyed, triangle-apart}
+use Rattle.complex.proofs.Sorting.{sorted-length, sorted-rises, rising-weaker}
 
 -- an edge of two vertices that rise below n
 unfoldable pub pair : ℕ → Simplex → Bool

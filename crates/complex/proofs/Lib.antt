@@ -13,3 +13,7 @@ pub mod Fives
 pub mod Faces
 pub mod FaceKeys
 pub mod Flattened
+pub mod Writing
+pub mod Refusing
+pub mod Answering
+pub mod Making

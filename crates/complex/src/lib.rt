@@ -6,6 +6,9 @@ mod pentachora;
 pub mod search;
 pub mod triangle;
 
+pub use pentachora::FromPentachorons;
+pub use pentachora::from_pentachorons;
+
 pub struct SimplicialComplex {
     pub n_vertices: usize,
     pub n_edges: usize,

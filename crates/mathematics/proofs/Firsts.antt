@@ -1,6 +1,6 @@
 -- Which entries the list of first appearances has.
-use mathlib.Core.List.{List, [], _∷_, _++_}
-use mathlib.Core.Path.{_≡_, refl, sym, ap, _∙_}
+use mathlib.Core.List.{List, [], _∷_}
+use mathlib.Core.Path.{_≡_, refl, sym, _∙_}
 use mathlib.Core.Bool.{Bool, true, false, _||_}
 use Rattle.mathematics.specs.Tests.{all}
 use Rattle.mathematics.specs.Lists.{listed, noted, notedAll, firsts}

@@ -27,6 +27,10 @@ pub or-false : (a : Bool) → (a || false) ≡ a
 or-false true = refl
 or-false false = refl
 
+pub or-fell : (a b : Bool) → (a || b) ≡ false → (a ≡ false) × (b ≡ false)
+or-fell true b h = absurd (true≢false h)
+or-fell false b h = (refl, h)
+
 -- two tests that pass together are equal
 pub same-tests : (a b : Bool) → (a ≡ true → b ≡ true) → (b ≡ true → a ≡ true) → a ≡ b
 same-tests true b f g = sym (f refl)
