@@ -15,12 +15,13 @@ use Rattle.complex.specs.declared.SimplicialComplex.{SimplicialComplex}
 use Rattle.complex.specs.Complex.{Complex, simplices, complexOf}
 use Rattle.complex.specs.Judge.{counts-right, shape-tests}
 use Rattle.complex.proofs.Simplices.{simplices-length}
-use Rattle.complex.proofs.Accepting.{Counts, counts}
+use Rattle.complex.proofs.Accepting.{Counts, counts, simplices-sized}
 use Rattle.complex.proofs.Flattened.{simplices-front}
 use Rattle.sheet.specs.declared.Sheet.{Sheet}
 use Rattle.sheet.specs.declared.Written.{Written}
 use Rattle.sheet.specs.declared.Written.the-variants.{Bytes, Refused as NotWritten}
 use Rattle.sheet.specs.Sheet.{padded, sheetBytes, writing-refusal, writtenAnswer, WrittenOf}
+use Rattle.sheet.proofs.RoundTrips.{sheet-length}
 use Rattle.sheet.specs.Making.{flatComplex, size-tests, making-refusal, Made}
 
 three-pass : (p q r : Bool) → _≡_ {A = ℕ} (cond (not p) 4 (cond q 5 (cond (not r) 6 0))) 0 → (p ≡ true) × (q ≡ false) × (r ≡ true)
@@ -73,3 +74,26 @@ module _ (n : ℕ) (edges triangles : List ℕ) (lambda : ℕ) (before : List �
       let answer = rw (e, f, same-refusal h) at (w .answer) in
       let bytes = rw (e, f, same-refusal h) at (w .bytes) in
       record { answer = answer; bytes = bytes }
+
+  sizes-none : making-refusal n edges triangles lambda (length before) ≡ 0 → first (size-tests n edges triangles lambda) ≡ 0
+  unfolding making-refusal
+  sizes-none h = go (first (size-tests n edges triangles lambda)) refl
+    where
+      go : (k : ℕ) → first (size-tests n edges triangles lambda) ≡ k → k ≡ 0
+      go zero e = refl
+      go (suc k) e =
+          let c = flatComplex n edges triangles in
+          let more : List (ℕ × Bool) = shape-tests c ++ ((15, ltb (length before) (length (sheetBytes c lambda))) ∷ []) in
+          let stop : first (size-tests n edges triangles lambda ++ more) ≡ suc k =
+          first-stops (size-tests n edges triangles lambda) more (λ (z : first (size-tests n edges triangles lambda) ≡ 0). let y : suc k ≡ 0 = sym e ∙ z in omega arith) ∙ e in
+          absurd (let y : suc k ≡ 0 = sym stop ∙ h in omega arith)
+
+  -- a sheet has at most 905 bytes
+  pub made-small : making-refusal n edges triangles lambda (length before) ≡ 0 → length (sheetBytes (flatComplex n edges triangles) lambda) ≤ 905
+  unfolding flatComplex
+  made-small h =
+      let s = sizes-of n edges triangles lambda (sizes-none h) in
+      let k = counts n (length edges / 2) (length triangles / 3) (s .counts-pass) in
+      let e = k .edges in
+      let t = k .triangles in
+      omega (arith, sheet-length (flatComplex n edges triangles) lambda (simplices-sized 2 edges (length edges / 2)) (simplices-sized 3 triangles (length triangles / 3)), simplices-length 2 edges (length edges / 2), simplices-length 3 triangles (length triangles / 3))

@@ -25,6 +25,13 @@ use Rattle.sheet.specs.declared.Reading.the-variants.{Accepted}
 use Rattle.sheet.specs.Sheet.{word, padded, sheetIn, header-tests, reading-refusal, readAnswer, readOf, headerOf, sheetBytes}
 use Rattle.sheet.proofs.Sheets.{Header, header-of, of-header, read-accepted}
 
+-- the length of a sheet of pairs and triples
+pub sheet-length : (c : Complex) (lambda : ℕ) → Sized 2 (c .edges) → Sized 3 (c .triangles) → length (sheetBytes c lambda) ≡ 11 + 2 * length (c .edges) + 3 * length (c .triangles)
+unfolding sheetBytes headerOf
+sheet-length c lambda pairs triples =
+    let h = headerOf (c .vertices) (length (c .edges)) (length (c .triangles)) lambda in
+    omega (arith, length-append h (flatten (c .edges) ++ flatten (c .triangles)), length-append (flatten (c .edges)) (flatten (c .triangles)), flatten-length 2 (c .edges) pairs, flatten-length 3 (c .triangles) triples)
+
 -- a complex of pairs and triples with small counts
 record Plain (c : Complex) (lambda : ℕ) : Type 0 where
   pairs : Sized 2 (c .edges)
@@ -77,24 +84,18 @@ module _ (c : Complex) (lambda : ℕ) (plain : Plain c lambda) where
   same-complex =
       rw (vertices-read, triangles-read, edges-read, edges-part, triangles-part, simplices-flatten 2 (c .edges) (replicate (126 - length (flatten (c .edges))) 0) (plain .pairs), simplices-flatten 3 (c .triangles) (replicate (768 - length (flatten (c .triangles))) 0) (plain .triples))
 
-  bytes-length : length (sheetBytes c lambda) ≡ 11 + 2 * length (c .edges) + 3 * length (c .triangles)
-  unfolding sheetBytes headerOf
-  bytes-length =
-      let h = headerOf (c .vertices) (length (c .edges)) (length (c .triangles)) lambda in
-      omega (arith, length-append h (flatten (c .edges) ++ flatten (c .triangles)), length-append (flatten (c .edges)) (flatten (c .triangles)), edges-flat, triangles-flat)
-
   written-header : Header (sheetBytes c lambda)
   unfolding sheetBytes headerOf word same
   written-header =
       let t = triangles-read in
       let l = truncation-read in
       record {
-        long = omega (arith, bytes-length);
+        long = omega (arith, sheet-length c lambda (plain .pairs) (plain .triples));
         mark = refl;
         version = refl;
         counts-pass = rw triangles-read (plain .counts-pass);
         truncation = rw truncation-read (plain .truncation);
-        size = bytes-length ∙ rw triangles-read;
+        size = sheet-length c lambda (plain .pairs) (plain .triples) ∙ rw triangles-read;
       }
 
 -- the sheet's own complex is plain
