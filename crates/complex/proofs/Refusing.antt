@@ -16,7 +16,7 @@ use Rattle.complex.specs.Search.{connected, Ends}
 use Rattle.complex.specs.Judge.{counts-right, rising}
 use Rattle.complex.specs.Numbering.{Numbered, key, Indexed, triangle-key, Keyed}
 use Rattle.complex.specs.Pentachora.{pentachora, pentachora-right, sorted, faces, refusal-from}
-use Rattle.complex.specs.Faces.{all-faces, edge-of, Judged}
+use Rattle.complex.specs.Faces.{all-faces, edge-of, JudgedFaces}
 use Rattle.complex.specs.declared.pentachora.Faces.{Faces}
 use Rattle.complex.proofs.Accepting.{rising-ends}
 use Rattle.complex.proofs.Faces.{pair, Rises, rises-weaker, right-rises, faces-pairs, edges-counted, edges-many, edges-kept, edges-back, edges-table, triangles-keyed, triangles-counted, triangles-many, triangles-back}
@@ -74,7 +74,7 @@ module _ (n : ℕ) (l : List ℕ) (h : Rises n l) where
   edges-ends = rising-ends n (faces 2 l) edges-sized edges-rising
 
 -- what is refused is judged by its number alone
-pub judged-refused : (n : ℕ) (l : List ℕ) (edge-room triangle-room : ℕ) (f : Faces) (number : ℕ) → f .refusal ≡ suc number → refusal-from n l edge-room triangle-room ≡ suc number → Judged n l edge-room triangle-room f
+pub judged-refused : (n : ℕ) (l : List ℕ) (edge-room triangle-room : ℕ) (f : Faces) (number : ℕ) → f .refusal ≡ suc number → refusal-from n l edge-room triangle-room ≡ suc number → JudgedFaces n l edge-room triangle-room f
 judged-refused n l edge-room triangle-room f number p q = record { refusal = p ∙ sym q; found = λ (z : f .refusal ≡ 0). absurd (omega arith) }
 
 -- the tests that follow one another as the faces are numbered
@@ -86,7 +86,7 @@ module _ (n : ℕ) (l : List ℕ) (edge-room triangle-room : ℕ) (some : 1 ≤ 
   rise-small = rises-weaker n 64 few l rise
 
   module _ (table keys : List ℕ) (count : ℕ) (m : Numbered 63 table keys count (firsts eqb (map key (all-faces 2 (pentachora l))))) where
-    pub judged-edges : (f : Faces) → f .refusal ≡ 4 → 63 < count → Judged n l edge-room triangle-room f
+    pub judged-edges : (f : Faces) → f .refusal ≡ 4 → 63 < count → JudgedFaces n l edge-room triangle-room f
     judged-edges f p over =
         judged-refused n l edge-room triangle-room f 3 p
         (edges-over n l edge-room triangle-room some few right (omega (arith, edges-counted n l rise few table keys count m)))
@@ -111,7 +111,7 @@ module _ (n : ℕ) (l : List ℕ) (edge-room triangle-room : ℕ) (some : 1 ≤ 
       ends = rw back (edges-ends n l rise)
 
       module _ (noted keys′ : List ℕ) (count′ : ℕ) (m′ : Numbered 256 noted keys′ count′ (firsts eqb (map (triangle-key table) (all-faces 3 (pentachora l))))) where
-        pub judged-triangles : (f : Faces) → f .refusal ≡ 4 → 256 < count′ → Judged n l edge-room triangle-room f
+        pub judged-triangles : (f : Faces) → f .refusal ≡ 4 → 256 < count′ → JudgedFaces n l edge-room triangle-room f
         judged-triangles f p over =
             judged-refused n l edge-room triangle-room f 3 p
             (triangles-over n l edge-room triangle-room some few right short (omega (arith, triangles-counted n l rise few short table indexed noted keys′ count′ m′)))
@@ -123,18 +123,18 @@ module _ (n : ℕ) (l : List ℕ) (edge-room triangle-room : ℕ) (some : 1 ≤ 
           short′ : length (faces 3 l) ≤ 256
           short′ = omega (arith, triangles)
 
-          pub judged-apart : (f : Faces) → f .refusal ≡ 9 → connected (map edge-of (take count keys)) n ≡ false → Judged n l edge-room triangle-room f
+          pub judged-apart : (f : Faces) → f .refusal ≡ 9 → connected (map edge-of (take count keys)) n ≡ false → JudgedFaces n l edge-room triangle-room f
           judged-apart f p apart =
               judged-refused n l edge-room triangle-room f 8 p
               (not-connected n l edge-room triangle-room some few right short short′ (rw back at apart))
 
           module _ (joined : connected (map edge-of (take count keys)) n ≡ true) where
-            pub judged-room : (f : Faces) → f .refusal ≡ 15 → (ltb edge-room (2 * count) || ltb triangle-room (3 * count′)) ≡ true → Judged n l edge-room triangle-room f
+            pub judged-room : (f : Faces) → f .refusal ≡ 15 → (ltb edge-room (2 * count) || ltb triangle-room (3 * count′)) ≡ true → JudgedFaces n l edge-room triangle-room f
             judged-room f p none =
                 judged-refused n l edge-room triangle-room f 14 p
                 (no-room n l edge-room triangle-room some few right short short′ (rw back at joined) (rw (edges, triangles) at none))
 
-            pub judged-faces : (ltb edge-room (2 * count) || ltb triangle-room (3 * count′)) ≡ false → Judged n l edge-room triangle-room (record { refusal = 0; «n_edges» = count; «edge_keys» = keys; «n_triangles» = count′; «triangle_keys» = keys′ })
+            pub judged-faces : (ltb edge-room (2 * count) || ltb triangle-room (3 * count′)) ≡ false → JudgedFaces n l edge-room triangle-room (record { refusal = 0; «n_edges» = count; «edge_keys» = keys; «n_triangles» = count′; «triangle_keys» = keys′ })
             judged-faces room =
                 let fell = or-fell (ltb edge-room (2 * count)) (ltb triangle-room (3 * count′)) room in
                 record {

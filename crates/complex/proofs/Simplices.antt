@@ -1,14 +1,13 @@
 -- The simplices of a flat list: how many there are, and the vertices of each.
 use Prim.Native.Nat.{ℕ, zero, suc, _+_, _*_, _<_}
-use mathlib.Core.List.{List, [], _∷_, _++_, flatten}
-use mathlib.Core.Path.{_≡_, refl, sym, ap, _∙_}
+use mathlib.Core.List.{List, [], _∷_}
+use mathlib.Core.Path.{_≡_, refl, ap, _∙_}
 use mathlib.Core.Logic.{⊎-elim}
 use native.Mathlib.Nat.{eq-or-lt-of-le, le-of-suc-le-suc, not-suc-le-zero}
 use native.Mathlib.Omega.{arith}
 use lib.ListN.{getD, length, length-append, List·getD-append}
-use lib.Seq.{getD-at, ext-getD}
-use Rattle.mathematics.proofs.Flat.{flatten-at}
-use Rattle.complex.specs.Complex.{Simplex, entries, simplices, start, end}
+use lib.Seq.{getD-at}
+use Rattle.complex.specs.Complex.{entries, simplices, start, end}
 
 pub entries-length : (l : List ℕ) (at k : ℕ) → length (entries l at k) ≡ k
 unfolding entries
@@ -48,17 +47,3 @@ module _ (l : List ℕ) (n i : ℕ) (h : i < n) where
 
   pub end-at : end (getD (simplices 2 l n) i []) ≡ getD l (2 * i + 1) 0
   end-at = vertex-at 2 l n i 1 h (omega arith)
-
--- simplices of k vertices each, written one after the other, are read back, whatever stands behind them
-pub simplices-flat : (k : ℕ) (es : List Simplex) (rest : List ℕ) → ((i : ℕ) → i < length es → length (getD es i []) ≡ k) → simplices k (flatten es ++ rest) (length es) ≡ es
-simplices-flat k es rest long =
-    let l = flatten es ++ rest in
-    let n = length es in
-    ext-getD [] (simplices k l n) es (simplices-length k l n)
-    (λ i h.
-    let il : i < n = omega (arith, simplices-length k l n) in
-    simplex-at k l n i il
-    ∙ ext-getD 0 (entries l (k * i) k) (getD es i []) (entries-length l (k * i) k ∙ sym (long i il))
-    (λ j g.
-    let jl : j < k = omega (arith, entries-length l (k * i) k) in
-    entry-at l (k * i) k j jl ∙ flatten-at k 0 es rest long i j il jl))

@@ -36,7 +36,7 @@ pub record Found (l : List ℕ) (edge-room triangle-room : ℕ) (f : Faces) : Ty
   pub edges-fit : 2 * f .«n_edges» ≤ edge-room
   pub triangles-fit : 3 * f .«n_triangles» ≤ triangle-room
 
-pub record Judged (n : ℕ) (l : List ℕ) (edge-room triangle-room : ℕ) (f : Faces) : Type 0 where
+pub record JudgedFaces (n : ℕ) (l : List ℕ) (edge-room triangle-room : ℕ) (f : Faces) : Type 0 where
   pub refusal : f .refusal ≡ refusal-from n l edge-room triangle-room
   pub found : f .refusal ≡ 0 → Found l edge-room triangle-room f
 
