@@ -8,12 +8,4 @@ pub mod Trees
 pub mod Accepting
 pub mod Judging
 pub mod SidesFound
-pub mod Sorting
-pub mod Fives
-pub mod Faces
-pub mod FaceKeys
 pub mod Flattened
-pub mod Writing
-pub mod Refusing
-pub mod Answering
-pub mod Making

@@ -1,13 +1,9 @@
 // A small complex of vertices, edges and triangles, judged before anything rests on it.
 
 pub mod judge;
-mod numbering;
-mod pentachora;
+pub mod numbering;
 pub mod search;
 pub mod triangle;
-
-pub use pentachora::FromPentachorons;
-pub use pentachora::from_pentachorons;
 
 pub struct SimplicialComplex {
     pub n_vertices: usize,

@@ -140,7 +140,7 @@ accepted-none b h = go (reading-refusal b) h
     go zero h = refl
     go (suc n) h = absurd (let z : _≡_ {A = ℕ} 0 1 = cc in omega arith)
 
-header-none : (b : List ℕ) → reading-refusal b ≡ 0 → first (header-tests b) ≡ 0
+pub header-none : (b : List ℕ) → reading-refusal b ≡ 0 → first (header-tests b) ≡ 0
 unfolding reading-refusal
 header-none b h = go (first (header-tests b)) refl
   where

@@ -1,0 +1,8 @@
+pub mod Sorting
+pub mod Fives
+pub mod Appearing
+pub mod FaceKeys
+pub mod Writing
+pub mod Refusing
+pub mod Answering
+pub mod Making

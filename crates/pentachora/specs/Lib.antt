@@ -1,0 +1,2 @@
+pub mod Pentachora
+pub mod Faces

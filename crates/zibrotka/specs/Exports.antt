@@ -1,0 +1,81 @@
+-- What the exported functions answer: one signed number, the value or minus the refusal.
+use Prim.Native.Nat.{ℕ, _*_, _<_, _^_}
+use mathlib.Core.List.{List, [], _∷_, _++_, flatten}
+use mathlib.Core.Bool.{Bool}
+use mathlib.Core.Path.{_≡_}
+use lib.IntN.{ℤ, pos, negℤ}
+use lib.ListN.{length, drop}
+use lib.Dec.{leb}
+use Rattle.mathematics.specs.Refusals.{first, Outcome, value, refused, outcome, written}
+use Rattle.complex.specs.declared.triangle.TriEdgeIndices.{TriEdgeIndices as Indexes}
+use Rattle.complex.specs.declared.triangle.TriEdgeIndices.the-variants.{Indices, Refused as NoTriangle}
+use Rattle.sheet.specs.declared.Written.{Written}
+use Rattle.sheet.specs.declared.Reading.{Reading}
+use Rattle.sheet.specs.declared.Reading.the-variants.{Accepted, Refused}
+use Rattle.pentachora.specs.declared.FromPentachorons.{FromPentachorons}
+use Rattle.pentachora.specs.declared.FromPentachorons.the-variants.{Counts, Refused as NoComplex}
+use Rattle.zibrotka.specs.declared.Edges.{Edges}
+use Rattle.zibrotka.specs.declared.Numbers.{Numbers}
+use Rattle.complex.specs.Complex.{Complex, complexOf}
+use Rattle.complex.specs.Judge.{shape-tests}
+use Rattle.complex.specs.Sides.{sides}
+use Rattle.pentachora.specs.Pentachora.{faces, refusal-from}
+use Rattle.sheet.specs.Sheet.{sheetIn, header-tests, reading-refusal, sheetBytes, writtenAnswer}
+use Rattle.sheet.specs.Making.{flatComplex, making-refusal}
+
+unfoldable pub signed : Outcome ℕ → ℤ
+signed (value n) = pos n
+signed (refused n) = negℤ (pos n)
+
+-- the refusal of a reading, or 0
+unfoldable pub readingNumber : Reading → ℕ
+readingNumber Accepted = 0
+readingNumber (Refused n) = n
+
+-- a number of bytes that fits
+pub record SmallAnswer (w : Written) : Type 0 where
+  pub small : (n : ℕ) → writtenAnswer w ≡ value n → n < 2 ^ 31
+
+-- the three edge numbers of an answer, or its refusal and zeros
+unfoldable pub edgesOf : Indexes → Edges
+edgesOf (Indices i j k) = record { refusal = 0; first = i; second = j; third = k }
+edgesOf (NoTriangle n) = record { refusal = n; first = 0; second = 0; third = 0 }
+
+-- the two counts of an answer, or its refusal and zeros
+unfoldable pub numbersOf : FromPentachorons → Numbers
+numbersOf (Counts e t) = record { refusal = 0; edges = e; triangles = t }
+numbersOf (NoComplex n) = record { refusal = n; edges = 0; triangles = 0 }
+
+-- zibrotka_make_sheet
+pub record MakeSheet (n : ℕ) (edges triangles : List ℕ) (lambda : ℕ) (before : List ℕ) (r : ℤ) (after : List ℕ) : Type 0 where
+  pub answer : r ≡ signed (outcome (making-refusal n edges triangles lambda (length before)) (length (sheetBytes (flatComplex n edges triangles) lambda)))
+  pub bytes : after ≡ written (making-refusal n edges triangles lambda (length before)) (sheetBytes (flatComplex n edges triangles) lambda ++ drop (length (sheetBytes (flatComplex n edges triangles) lambda)) before) before
+
+-- zibrotka_read_sheet: the numbers and lists hold the sheet's, or on a refusal what they held
+pub record ReadSheet (b : List ℕ) (v e t l : ℕ) (edges triangles : List ℕ) (r : ℤ) (v′ e′ t′ l′ : ℕ) (edges′ triangles′ : List ℕ) : Type 0 where
+  pub answer : r ≡ signed (outcome (reading-refusal b) 0)
+  pub vertices : v′ ≡ written (reading-refusal b) (sheetIn b .complex .«n_vertices») v
+  pub edge-count : e′ ≡ written (reading-refusal b) (sheetIn b .complex .«n_edges») e
+  pub triangle-count : t′ ≡ written (reading-refusal b) (sheetIn b .complex .«n_triangles») t
+  pub truncation : l′ ≡ written (reading-refusal b) (sheetIn b .lambda) l
+  pub edge-list : edges′ ≡ written (reading-refusal b) (sheetIn b .complex .edges) edges
+  pub triangle-list : triangles′ ≡ written (reading-refusal b) (sheetIn b .complex .triangles) triangles
+
+-- 1 to 9 as for a sheet, then 13 for a number that is no triangle's
+unfoldable pub triangle-refusal : List ℕ → ℕ → ℕ
+triangle-refusal b t =
+    first
+    (header-tests b
+    ++ (shape-tests (complexOf (sheetIn b .complex)) ++ ((13, leb (length (complexOf (sheetIn b .complex) .triangles)) t) ∷ [])))
+
+-- zibrotka_tri_edge_indices
+pub record EdgeIndices (b : List ℕ) (t : ℕ) (before : List ℕ) (r : ℤ) (after : List ℕ) : Type 0 where
+  pub answer : r ≡ signed (outcome (triangle-refusal b t) 0)
+  pub indices : after ≡ written (triangle-refusal b t) (sides (complexOf (sheetIn b .complex)) t) before
+
+-- zibrotka_from_pentachorons
+pub record Pentachora (n : ℕ) (l edges triangles : List ℕ) (t : ℕ) (r : ℤ) (edges′ triangles′ : List ℕ) (t′ : ℕ) : Type 0 where
+  pub answer : r ≡ signed (outcome (refusal-from n l (length edges) (length triangles)) (length (faces 2 l)))
+  pub edge-list : edges′ ≡ written (refusal-from n l (length edges) (length triangles)) (flatten (faces 2 l) ++ drop (2 * length (faces 2 l)) edges) edges
+  pub triangle-list : triangles′ ≡ written (refusal-from n l (length edges) (length triangles)) (flatten (faces 3 l) ++ drop (3 * length (faces 3 l)) triangles) triangles
+  pub triangle-count : t′ ≡ written (refusal-from n l (length edges) (length triangles)) (length (faces 3 l)) t
