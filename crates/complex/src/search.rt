@@ -1,4 +1,5 @@
 // The breadth-first search from vertex 0 over a flat list of edges.
+use crate::judge::byte;
 ghost use mathlib.Core.Path.{_≡_};
 ghost use mathlib.Core.Bool.{Bool, true};
 ghost use mathlib.Core.List.{List, [], _∷_};
@@ -34,12 +35,6 @@ fn across(edges: &[u8; 126], v: u8, e: usize) -> u8
     if a == v { edges[2 * e + 1] } else { a }
 }
 
-fn wide(x: u8) -> usize
-    ensures { λ r. ⌜ r ≡ x ⌝ }
-{
-    x as usize
-}
-
 // Edge e, which touches v, is looked at from v. The counts serve the contract alone.
 fn look(
     edges: &[u8; 126],
@@ -53,7 +48,7 @@ fn look(
     ensures { λ r. ⌜ Searched «n_vertices» r (look (simplices 2 (now (edges .entry)) «n_edges») v (searchOf s) e) ⌝ }
 {
     let w = across(edges, v, e);
-    let place = wide(w);
+    let place = byte(w);
     if s.visited[place] != 0 {
         return s;
     }
