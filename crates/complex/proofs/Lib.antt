@@ -7,5 +7,6 @@ pub mod Searches
 pub mod Trees
 pub mod Accepting
 pub mod Judging
+pub mod Refusing
 pub mod SidesFound
 pub mod Flattened

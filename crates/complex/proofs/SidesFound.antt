@@ -1,24 +1,24 @@
 -- The edges of a triangle of an accepted record, read off the index.
-use Prim.Native.Nat.{ℕ, zero, suc, _+_, _-_, _*_, _<_, _≤_}
-use mathlib.Core.List.{List, [], _∷_, _++_, map}
-use mathlib.Core.Path.{_≡_, refl, sym, ap, _∙_}
-use mathlib.Core.Bool.{Bool, true, false, cond}
+use Prim.Native.Nat.{ℕ, _-_, _*_, _<_, _≤_}
+use mathlib.Core.List.{List, [], _∷_}
+use mathlib.Core.Path.{_≡_, ap, _∙_}
+use mathlib.Core.Bool.{true, cond}
 use native.Mathlib.Omega.{arith}
 use borrow.Author.Tests.{le-leb, lt-leb}
 use lib.ListN.{getD, length}
 use lib.Dec.{leb}
 use Rattle.mathematics.specs.Lists.{same, listed, place, choose}
-use Rattle.mathematics.specs.Refusals.{first, Outcome, value, refused, outcome}
-use Rattle.mathematics.proofs.Refusals.{first-stops, first-goes-on, numbered}
-use Rattle.mathematics.specs.Tests.{all}
+use Rattle.mathematics.specs.Refusals.{first, value, refused, outcome}
+use Rattle.mathematics.proofs.Refusals.{refused-outcome}
 use Rattle.complex.specs.declared.SimplicialComplex.{SimplicialComplex}
-use Rattle.complex.specs.Complex.{Simplex, Complex, start, end, entries, simplices, complexOf}
-use Rattle.complex.specs.Judge.{counts-test, shape-tests, refusal}
+use Rattle.complex.specs.Complex.{Simplex, start, end, entries, simplices, complexOf}
+use Rattle.complex.specs.Judge.{refusal}
 use Rattle.complex.specs.Numbering.{number, Indexed}
 use Rattle.complex.specs.Sides.{sides, sides-refusal, sidesOutcome, Sided, sidesIn}
 use Rattle.complex.proofs.Simplices.{simplices-length, simplex-at}
-use Rattle.complex.proofs.Triangles.{Fitting, fits, number-place}
+use Rattle.complex.proofs.Triangles.{Fitting, fits}
 use Rattle.complex.proofs.Accepting.{Counts, counts-own, passed, simplices-sized, triangle-fits}
+use Rattle.complex.proofs.Refusing.{refused-first, accepted-next}
 
 -- the number of a listed edge is one more than its place
 number-is : (s : Simplex) (es : List Simplex) → listed same s es ≡ true → (1 ≤ number same s es) × (number same s es - 1 ≡ place same s es)
@@ -44,19 +44,12 @@ sides-own c t tl = rw (simplex-at 3 (c .triangles) (c .«n_triangles») t tl)
 module _ (c : SimplicialComplex) (t : ℕ) where
   -- a record that is refused
   pub record-refused : (k : ℕ) → k ≡ refusal (complexOf c) → (k ≡ 0 → ⊥) → refused k ≡ sidesOutcome (complexOf c) t
-  unfolding sidesOutcome sides-refusal refusal outcome
-  record-refused zero e some = absurd (some refl)
-  record-refused (suc k) e some =
-      let d = complexOf c in
-      let stop : first ((counts-test d ∷ shape-tests d) ++ ((13, leb (length (d .triangles)) t) ∷ [])) ≡ suc k =
-      first-stops (counts-test d ∷ shape-tests d) ((13, leb (length (d .triangles)) t) ∷ []) (λ (z : first (counts-test d ∷ shape-tests d) ≡ 0). some (e ∙ z)) ∙ sym e in
-      rw stop
+  unfolding sidesOutcome sides-refusal
+  record-refused k e some = rw (refused-first (complexOf c) ((13, leb (length (complexOf c .triangles)) t) ∷ []) k e some) (refused-outcome k (sides (complexOf c) t) some)
 
   goes-on : refusal (complexOf c) ≡ 0 → sides-refusal (complexOf c) t ≡ cond (leb (c .«n_triangles») t) 13 0
-  unfolding sides-refusal refusal first numbered all
-  goes-on h =
-      let d = complexOf c in
-      first-goes-on (counts-test d ∷ shape-tests d) ((13, leb (length (d .triangles)) t) ∷ []) refl h ∙ size
+  unfolding sides-refusal first
+  goes-on h = accepted-next (complexOf c) ((13, leb (length (complexOf c .triangles)) t) ∷ []) h ∙ size
     where
       size : _≡_ {A = ℕ} (cond (leb (length (complexOf c .triangles)) t) 13 0) (cond (leb (c .«n_triangles») t) 13 0)
       size = ap (λ (n : ℕ). cond (leb n t) 13 0) (triangles-long c)

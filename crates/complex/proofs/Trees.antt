@@ -3,19 +3,16 @@ use Prim.Native.Nat.{ℕ, zero, suc, _+_, _*_, _<_, _≤_}
 use mathlib.Core.List.{List, [], _∷_}
 use mathlib.Core.Path.{_≡_, refl, sym, ap, _∙_}
 use mathlib.Core.Bool.{Bool, true, false, cond}
-use mathlib.Core.Logic.{by-cases}
 use native.Mathlib.Nat.{lt-of-lt-of-le}
 use native.Mathlib.Numerals.{add-one}
-use native.Mathlib.Decide.{ℕ-discrete}
 use native.Mathlib.Omega.{arith}
-use borrow.Author.Tests.{eq-eqb, ne-eqb, lt-ltb}
+use borrow.Author.Tests.{ne-eqb, lt-ltb}
 use lib.ListN.{getD, set, take, length, length-set, replicate, getD-replicate}
-use lib.Seq.{length-take-le, take-suc-set, getD-set-same, getD-set-other, getD-take}
+use lib.Seq.{length-take-le, take-suc-set, getD-take}
 use lib.Dec.{eqb}
 use Rattle.mathematics.specs.Lists.{listed, distinct}
 use Rattle.mathematics.specs.Tests.{all}
-use Rattle.mathematics.proofs.Tests.{or-false}
-use Rattle.mathematics.proofs.Lists.{listed-last}
+use Rattle.mathematics.proofs.Flags.{flag-more}
 use Rattle.mathematics.proofs.Counting.{more-below, more-different, different-room}
 use Rattle.complex.specs.Complex.{entries, simplices}
 use Rattle.complex.specs.Search.{Search, touches, across, look, scan, serve, search, connected}
@@ -84,12 +81,7 @@ module _ (n : ℕ) (t : SpanningTree) (fits : Fits n t) where
                   room = let r = has-room in omega arith;
                   below = rw grown-stands (more-below (searchOf t .seen) w n (fits .below) inside);
                   different = rw grown-stands (more-different (searchOf t .seen) w (fits .different) new);
-                  flags =
-                      λ v l.
-                      rw (grown-stands, listed-last eqb v (searchOf t .seen) w)
-                      (by-cases (ℕ-discrete v w)
-                      (λ (q : v ≡ w). rw (q, new, eq-eqb w w refl) (getD-set-same (t .visited) w 1 0 (let a = fits .visited-long in omega arith)))
-                      (λ q. rw (ne-eqb v w q, or-false) (getD-set-other (t .visited) w v 1 0 q ∙ fits .flags v l)));
+                  flags = λ v l. rw grown-stands (flag-more (t .visited) (searchOf t .seen) w (let a = fits .visited-long in omega arith) v (fits .flags v l));
                 };
             stands = grown-stands;
           }

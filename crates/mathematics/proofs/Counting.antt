@@ -30,7 +30,7 @@ module _ (p : ℕ → Bool) where
   at-every (suc n) h = and-both (every p n) (p n) (at-every n (λ v l. h v (omega arith))) (h n (omega arith))
 
 -- how many numbers below n pass
-unfoldable tally : (ℕ → Bool) → ℕ → ℕ
+unfoldable pub tally : (ℕ → Bool) → ℕ → ℕ
 tally p zero = 0
 tally p (suc n) = tally p n + cond (p n) 1 0
 
@@ -80,7 +80,7 @@ tally-none zero = refl
 tally-none (suc n) = omega (arith, tally-none n)
 
 module _ (n : ℕ) where
-  tally-listed : (l : List ℕ) → all (λ v. ltb v n) l ≡ true → distinct eqb l ≡ true → tally (λ v. listed eqb v l) n ≡ length l
+  pub tally-listed : (l : List ℕ) → all (λ v. ltb v n) l ≡ true → distinct eqb l ≡ true → tally (λ v. listed eqb v l) n ≡ length l
   unfolding listed distinct all
   tally-listed [] b d = tally-none n
   tally-listed (x ∷ l) b d =

@@ -6,3 +6,10 @@ pub mod Refusals
 pub mod Maps
 pub mod Firsts
 pub mod Flat
+pub mod Integers
+pub mod Sums
+pub mod Signed
+pub mod Ordered
+pub mod Below
+pub mod Flags
+pub mod Digits

@@ -1,4 +1,4 @@
--- The first test that holds, in two lists of tests one after the other.
+-- The first test that holds, in two lists of tests one after the other, and what a refusal leaves.
 use Prim.Native.Nat.{ℕ, zero, suc}
 use mathlib.Core.List.{List, [], _∷_, _++_}
 use mathlib.Core.Path.{_≡_, refl, sym, _∙_}
@@ -7,7 +7,7 @@ use borrow.Author.Tests.{eq-eqb, eqb-false, not-true}
 use native.Mathlib.Omega.{arith}
 use lib.Dec.{eqb}
 use Rattle.mathematics.specs.Tests.{all}
-use Rattle.mathematics.specs.Refusals.{first}
+use Rattle.mathematics.specs.Refusals.{first, refused, outcome, written}
 use Rattle.mathematics.proofs.Tests.{and-parts}
 
 -- a test of the first list holds
@@ -35,3 +35,14 @@ first-goes-on (t ∷ xs) ys n h = go (t .1) h (first-goes-on xs ys (p .1))
     go : (b : Bool) → cond b (t .0) (first xs) ≡ 0 → (first xs ≡ 0 → first (xs ++ ys) ≡ first ys) → cond b (t .0) (first (xs ++ ys)) ≡ first ys
     go true h rest = absurd (eqb-false (t .0) 0 (not-true (eqb (t .0) 0) (p .0)) h)
     go false h rest = rest h
+
+-- a refusal is answered, and a lent list keeps what it held
+pub refused-outcome : {A : Type 0} (k : ℕ) (a : A) → (k ≡ 0 → ⊥) → refused k ≡ outcome k a
+unfolding outcome
+refused-outcome zero a h = absurd (h refl)
+refused-outcome (suc k) a h = refl
+
+pub refused-kept : {A : Type 0} (k : ℕ) (new old : A) → (k ≡ 0 → ⊥) → old ≡ written k new old
+unfolding written
+refused-kept zero new old h = absurd (h refl)
+refused-kept (suc k) new old h = refl

@@ -1,3 +1,5 @@
 pub mod Tests
 pub mod Lists
 pub mod Refusals
+pub mod Integers
+pub mod Counting

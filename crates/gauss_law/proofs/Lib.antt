@@ -1,0 +1,14 @@
+pub mod Examples
+pub mod Gauss
+pub mod Solving
+pub mod Tree
+pub mod Free
+pub mod Listing
+pub mod Roots
+pub mod Extension
+pub mod Accepted
+pub mod Spanned
+pub mod TreeTold
+pub mod Summed
+pub mod Findings
+pub mod LawTold

@@ -1,0 +1,4 @@
+pub mod Gauss
+pub mod Listing
+pub mod Spanning
+pub mod Law

@@ -1,0 +1,4 @@
+// Gauss's law on a complex.
+
+pub mod law;
+pub mod spanning;
