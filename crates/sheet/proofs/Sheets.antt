@@ -71,7 +71,7 @@ module _ (b : List ℕ) where
       rw stop
 
   -- after the header, the judge of the complex decides
-  shape-decides : first (header-tests b) ≡ 0 → reading-refusal b ≡ refusal (complexOf (sheetIn b .complex))
+  pub shape-decides : first (header-tests b) ≡ 0 → reading-refusal b ≡ refusal (complexOf (sheetIn b .complex))
   unfolding reading-refusal refusal complexOf sheetIn first header-tests numbered all
   shape-decides h =
       let c = sheetIn b .complex in

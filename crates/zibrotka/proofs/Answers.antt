@@ -1,78 +1,63 @@
 -- What the exported functions tell, from what the entries answer.
-use Prim.Native.Nat.{ℕ, zero, suc, _+_, _*_, _<_, _≤_, _^_}
-use mathlib.Core.List.{List, [], _∷_, _++_, flatten, append-assoc}
+use Prim.Native.Nat.{ℕ, zero, suc, _<_, _≤_, _^_}
+use mathlib.Core.List.{List, [], _∷_, _++_}
 use mathlib.Core.Path.{_≡_, refl, sym, ap, _∙_}
-use mathlib.Core.Bool.{Bool, true, false, not, cond}
+use mathlib.Core.Bool.{Bool, not, _||_, cond}
 use native.Mathlib.Omega.{arith}
 use lib.IntN.{ℤ, pos, negℤ}
-use lib.ListN.{getD, length, drop}
-use lib.Dec.{leb}
+use lib.ListN.{length}
+use lib.Dec.{eqb, ltb, leb}
 use Rattle.mathematics.specs.Refusals.{first, Outcome, value, refused, outcome, written}
-use Rattle.mathematics.specs.Tests.{all}
-use Rattle.mathematics.proofs.Refusals.{first-stops, first-goes-on, numbered}
 use Rattle.complex.specs.declared.triangle.TriEdgeIndices.{TriEdgeIndices as Indexes}
 use Rattle.complex.specs.declared.triangle.TriEdgeIndices.the-variants.{Indices, Refused as NoTriangle}
-use Rattle.complex.specs.Complex.{Complex, simplices, complexOf}
-use Rattle.complex.specs.Judge.{counts-right, counts-test, shape-tests}
+use Rattle.complex.specs.Complex.{Complex, complexOf}
 use Rattle.complex.specs.Sides.{sidesAnswer, sides, sides-refusal, sidesOutcome}
-use Rattle.complex.proofs.Simplices.{simplices-length}
+use Rattle.complex.proofs.Accepting.{counts, passed, accepted}
 use Rattle.sheet.specs.declared.Sheet.{Sheet}
-use Rattle.sheet.specs.declared.SheetRead.{SheetRead}
+use Rattle.sheet.specs.Sheet.{sheetIn, reading-refusal, sheetBytes, writtenAnswer}
 use Rattle.sheet.specs.declared.Written.{Written}
-use Rattle.sheet.specs.Sheet.{word, sheetIn, blank, header-tests, reading-refusal, readAnswer, readOf, sheetBytes, writtenAnswer}
 use Rattle.sheet.specs.Making.{flatComplex, making-refusal, Made}
-use Rattle.sheet.proofs.Sheets.{Header, header-of}
+use Rattle.sheet.proofs.Sheets.{shape-decides}
 use Rattle.sheet.proofs.RoundTrips.{header-none}
+use Rattle.complex.specs.Judge.{Accepted}
+use Rattle.gauss_law.proofs.Accepted.{free-count}
 use Rattle.sheet.proofs.Makings.{made-small}
 use Rattle.pentachora.specs.declared.FromPentachorons.{FromPentachorons}
 use Rattle.pentachora.specs.declared.FromPentachorons.the-variants.{Counts, Refused as NoComplex}
 use Rattle.pentachora.specs.Pentachora.{faces, complexFrom, refusal-from}
-use Rattle.pentachora.proofs.Making.{from-accepted}
-use Rattle.complex.proofs.Accepting.{counts, passed}
 use Rattle.pentachora.specs.Faces.{outcomeOf, Listed}
+use Rattle.pentachora.proofs.Making.{from-accepted}
+use Rattle.gauss_law.specs.declared.spanning.SpanningTreeAnswer.{SpanningTreeAnswer}
+use Rattle.gauss_law.specs.declared.law.GaussCheck.{GaussCheck}
+use Rattle.gauss_law.specs.Gauss.{lawful}
+use Rattle.gauss_law.specs.Listing.{tree-edges, free-edges}
+use Rattle.gauss_law.specs.Spanning.{treeAnswer, tree-refusal, TreeTold}
+use Rattle.gauss_law.specs.Law.{lawAnswer, law-refusal, lawOutcome}
+use Rattle.zibrotka.specs.declared.Told.{Told}
 use Rattle.zibrotka.specs.declared.Edges.{Edges}
 use Rattle.zibrotka.specs.declared.Numbers.{Numbers}
-use Rattle.zibrotka.specs.Exports.{signed, readingNumber, SmallAnswer, edgesOf, numbersOf, ReadSheet, triangle-refusal, EdgeIndices, Pentachora}
-use Rattle.zibrotka.proofs.Signs.{refused-number, refused-some, value-none}
+use Rattle.zibrotka.specs.Exports.{signed, toldOf, signedOf, yesOf, on-sheet, edgesOf, numbersOf, ReadSheet, triangle-refusal, EdgeIndices, Pentachora, tree-room, SpanningTree, GaussLaw}
+use Rattle.zibrotka.proofs.Signs.{refused-number, refused-some, value-none, signed-told, small-told, yes-outcome, yes-small, refused-signed, refused-kept}
+use Rattle.zibrotka.proofs.OnSheets.{sheet-stops, sheet-goes-on}
 
 -- ---- making
-pub small-answer : (n : ℕ) (edges triangles : List ℕ) (lambda : ℕ) (before : List ℕ) (r : Written) (after : List ℕ) → Made n edges triangles lambda before r after → SmallAnswer r
-small-answer n edges triangles lambda before r after m =
-    record {
-      small = λ k e.
-      let p = value-none k (making-refusal n edges triangles lambda (length before)) (length (sheetBytes (flatComplex n edges triangles) lambda)) (sym e ∙ m .answer) in
-      let few = made-small n edges triangles lambda before (p .0) in
-      let is : k ≡ length (sheetBytes (flatComplex n edges triangles) lambda) = p .1 in
-      omega arith;
-    }
+pub made-few : (n : ℕ) (edges triangles : List ℕ) (lambda : ℕ) (before : List ℕ) (w : Written) (after : List ℕ) → Made n edges triangles lambda before w after → (t : Told) → t ≡ toldOf (writtenAnswer w) → t .value < 2 ^ 31
+made-few n edges triangles lambda before w after m t e =
+    small-told t (writtenAnswer w) (making-refusal n edges triangles lambda (length before)) (length (sheetBytes (flatComplex n edges triangles) lambda)) e (m .answer)
+    (λ z. omega (arith, made-small n edges triangles lambda before z))
 
 -- ---- reading
-number-back : (n : ℕ) → readingNumber (readAnswer n) ≡ n
-unfolding readingNumber readAnswer
-number-back zero = refl
-number-back (suc n) = refl
-
-pub reading-number : (b : List ℕ) (r : SheetRead) → r ≡ readOf b → readingNumber (r .answer) ≡ reading-refusal b
-unfolding readOf
-reading-number b r e = ap (λ (q : SheetRead). readingNumber (q .answer)) e ∙ number-back (reading-refusal b)
-
 pub refused-read : (b : List ℕ) (v e t l : ℕ) (es ts : List ℕ) (k : ℕ) → k ≡ reading-refusal b → (k ≡ 0 → ⊥) → (r : ℤ) → r ≡ negℤ (pos k) → ReadSheet b v e t l es ts r v e t l es ts
-unfolding signed outcome written
-refused-read b v e t l es ts zero h some r is = absurd (some refl)
-refused-read b v e t l es ts (suc k) h some r is =
+refused-read b v e t l es ts k h some r is =
     record {
-      answer = rw (← h) is;
-      vertices = rw (← h);
-      edge-count = rw (← h);
-      triangle-count = rw (← h);
-      truncation = rw (← h);
-      edge-list = rw (← h);
-      triangle-list = rw (← h);
+      answer = refused-signed (reading-refusal b) k 0 r (sym h) some is;
+      vertices = refused-kept (reading-refusal b) k (sheetIn b .complex .«n_vertices») v (sym h) some;
+      edge-count = refused-kept (reading-refusal b) k (sheetIn b .complex .«n_edges») e (sym h) some;
+      triangle-count = refused-kept (reading-refusal b) k (sheetIn b .complex .«n_triangles») t (sym h) some;
+      truncation = refused-kept (reading-refusal b) k (sheetIn b .lambda) l (sym h) some;
+      edge-list = refused-kept (reading-refusal b) k (sheetIn b .complex .edges) es (sym h) some;
+      triangle-list = refused-kept (reading-refusal b) k (sheetIn b .complex .triangles) ts (sym h) some;
     }
-
-pub sheet-read : (b : List ℕ) → reading-refusal b ≡ 0 → (r : SheetRead) → r ≡ readOf b → r .sheet ≡ sheetIn b
-unfolding readOf written
-sheet-read b h r e = ap (λ (q : SheetRead). q .sheet) e ∙ rw h
 
 pub accepted-read : (b : List ℕ) (v e t l : ℕ) (es ts : List ℕ) → reading-refusal b ≡ 0 → (s : Sheet) → s ≡ sheetIn b → ReadSheet b v e t l es ts (pos 0) (s .complex .«n_vertices») (s .complex .«n_edges») (s .complex .«n_triangles») (s .lambda) (s .complex .edges) (s .complex .triangles)
 unfolding signed outcome written
@@ -88,53 +73,36 @@ accepted-read b v e t l es ts h s is =
     }
 
 -- ---- a triangle's edges
-number-told : (b : List ℕ) (t : ℕ) (before : List ℕ) (k : ℕ) → k ≡ triangle-refusal b t → (k ≡ 0 → ⊥) → (r : ℤ) → r ≡ negℤ (pos k) → EdgeIndices b t before r before
-unfolding signed outcome written
-number-told b t before zero h some r is = absurd (some refl)
-number-told b t before (suc k) h some r is = record { answer = rw (← h) is; indices = rw (← h) }
-
-indices-told : (b : List ℕ) (t : ℕ) (before : List ℕ) → triangle-refusal b t ≡ 0 → (l : List ℕ) → l ≡ sides (complexOf (sheetIn b .complex)) t → EdgeIndices b t before (pos 0) l
-unfolding signed outcome written
-indices-told b t before h l e = record { answer = rw h; indices = rw h e }
-
 module _ (b : List ℕ) (t : ℕ) (before : List ℕ) where
-  more : List (ℕ × Bool)
-  more = (13, leb (length (complexOf (sheetIn b .complex) .triangles)) t) ∷ []
+  number-told : (k : ℕ) → triangle-refusal b t ≡ k → (k ≡ 0 → ⊥) → (r : ℤ) → r ≡ negℤ (pos k) → EdgeIndices b t before r before
+  number-told k h some r is =
+      record {
+        answer = refused-signed (triangle-refusal b t) k 0 r h some is;
+        indices = refused-kept (triangle-refusal b t) k (sides (complexOf (sheetIn b .complex)) t) before h some;
+      }
 
   pub sheet-refused : (k : ℕ) → k ≡ reading-refusal b → (k ≡ 0 → ⊥) → (r : ℤ) → r ≡ negℤ (pos k) → EdgeIndices b t before r before
-  unfolding reading-refusal triangle-refusal more
+  unfolding triangle-refusal
   sheet-refused k h some r is =
-      let tests = header-tests b in
-      let shape = shape-tests (complexOf (sheetIn b .complex)) in
-      let stop : first (tests ++ (shape ++ more)) ≡ k =
-      ap first (sym (append-assoc tests shape more)) ∙ first-stops (tests ++ shape) more (λ (z : first (tests ++ shape) ≡ 0). some (h ∙ z)) ∙ sym h in
-      number-told b t before k (sym stop) some r is
+      number-told k (sheet-stops b ((13, leb (length (complexOf (sheetIn b .complex) .triangles)) t) ∷ []) k h some) some r is
 
-  -- of an accepted sheet, the judge of the record says the same again
   same-refusal : reading-refusal b ≡ 0 → sides-refusal (complexOf (sheetIn b .complex)) t ≡ triangle-refusal b t
-  unfolding sides-refusal triangle-refusal first header-tests complexOf sheetIn numbered all more
-  same-refusal h =
-      let c = sheetIn b .complex in
-      let rest : List (ℕ × Bool) = shape-tests (complexOf c) ++ more in
-      let none = header-none b h in
-      let on : first (header-tests b ++ rest) ≡ first rest = first-goes-on (header-tests b) rest refl none in
-      let right : counts-right (getD b 5 0) (length (simplices 2 (c .edges) (getD b 6 0))) (length (simplices 3 (c .triangles) (word b 7))) ≡ true =
-      rw (simplices-length 2 (c .edges) (getD b 6 0), simplices-length 3 (c .triangles) (word b 7)) (header-of b none .counts-pass) in
-      rw right (sym on)
+  unfolding sides-refusal triangle-refusal
+  same-refusal h = sheet-goes-on b ((13, leb (length (complexOf (sheetIn b .complex) .triangles)) t) ∷ []) h
 
   triangle-of : reading-refusal b ≡ 0 → (a : Indexes) → sidesAnswer a ≡ sidesOutcome (complexOf (sheetIn b .complex)) t → (edgesOf a .refusal ≡ 0 → ⊥) → (r : ℤ) → r ≡ negℤ (pos (edgesOf a .refusal)) → EdgeIndices b t before r before
   unfolding sidesAnswer sidesOutcome edgesOf
   triangle-of h (Indices i j k) e some r is = absurd (some refl)
-  triangle-of h (NoTriangle zero) e some r is = absurd (some refl)
-  triangle-of h (NoTriangle (suc n)) e some r is =
-      let k : suc n ≡ triangle-refusal b t = refused-number (suc n) (sides-refusal (complexOf (sheetIn b .complex)) t) (sides (complexOf (sheetIn b .complex)) t) e ∙ same-refusal h in
-      number-told b t before (suc n) k some r is
+  triangle-of h (NoTriangle n) e some r is =
+      let k : n ≡ sides-refusal (complexOf (sheetIn b .complex)) t = refused-number n (sides-refusal (complexOf (sheetIn b .complex)) t) (sides (complexOf (sheetIn b .complex)) t) e in
+      number-told n (sym (same-refusal h) ∙ sym k) some r is
 
   edges-of : reading-refusal b ≡ 0 → (a : Indexes) → sidesAnswer a ≡ sidesOutcome (complexOf (sheetIn b .complex)) t → edgesOf a .refusal ≡ 0 → EdgeIndices b t before (pos 0) (edgesOf a .first ∷ edgesOf a .second ∷ edgesOf a .third ∷ [])
-  unfolding sidesAnswer sidesOutcome edgesOf
+  unfolding sidesAnswer sidesOutcome edgesOf signed outcome written
   edges-of h (Indices i j k) e none =
       let p = value-none (i ∷ j ∷ k ∷ []) (sides-refusal (complexOf (sheetIn b .complex)) t) (sides (complexOf (sheetIn b .complex)) t) e in
-      indices-told b t before (sym (same-refusal h) ∙ p .0) (i ∷ j ∷ k ∷ []) (p .1)
+      let z : triangle-refusal b t ≡ 0 = sym (same-refusal h) ∙ p .0 in
+      record { answer = rw z; indices = rw z (p .1) }
   edges-of h (NoTriangle n) e none =
       absurd (refused-some n (sides-refusal (complexOf (sheetIn b .complex)) t) (sides (complexOf (sheetIn b .complex)) t) e none)
 
@@ -149,19 +117,18 @@ module _ (b : List ℕ) (t : ℕ) (before : List ℕ) where
       rw is (edges-of h a e (sym k ∙ none))
 
 -- ---- pentachora
-refused-count : (k n : ℕ) → k ≡ n → (k ≡ 0 → ⊥) → (e f t : ℕ) (r : ℤ) → r ≡ negℤ (pos k) → (r ≡ signed (outcome n e)) × (t ≡ written n f t)
-unfolding signed outcome written
-refused-count k zero h some e f t r is = absurd (some h)
-refused-count k (suc n) h some e f t r is = (is ∙ ap (λ (m : ℕ). negℤ (pos m)) h, refl)
-
 module _ (n : ℕ) (l es ts : List ℕ) (t : ℕ) (es′ ts′ : List ℕ) where
   no-complex-of : (a : FromPentachorons) → Listed n l es ts a es′ ts′ → (numbersOf a .refusal ≡ 0 → ⊥) → (r : ℤ) → r ≡ negℤ (pos (numbersOf a .refusal)) → Pentachora n l es ts t r es′ ts′ t
   unfolding numbersOf outcomeOf
   no-complex-of (Counts e f) h some r is = absurd (some refl)
   no-complex-of (NoComplex k) h some r is =
       let e : k ≡ refusal-from n l (length es) (length ts) = refused-number k (refusal-from n l (length es) (length ts)) (length (faces 2 l), length (faces 3 l)) (h .answer) in
-      let told = refused-count k (refusal-from n l (length es) (length ts)) e some (length (faces 2 l)) (length (faces 3 l)) t r is in
-      record { answer = told .0; edge-list = h .edges; triangle-list = h .triangles; triangle-count = told .1 }
+      record {
+        answer = refused-signed (refusal-from n l (length es) (length ts)) k (length (faces 2 l)) r (sym e) some is;
+        edge-list = h .edges;
+        triangle-list = h .triangles;
+        triangle-count = refused-kept (refusal-from n l (length es) (length ts)) k (length (faces 3 l)) t (sym e) some;
+      }
 
   counts-told : (a : FromPentachorons) → Listed n l es ts a es′ ts′ → numbersOf a .refusal ≡ 0 → (refusal-from n l (length es) (length ts) ≡ 0) × (numbersOf a .edges ≡ length (faces 2 l)) × (numbersOf a .triangles ≡ length (faces 3 l))
   unfolding numbersOf outcomeOf
@@ -192,3 +159,74 @@ module _ (n : ℕ) (l es ts : List ℕ) (t : ℕ) (es′ ts′ : List ℕ) where
       let e : r ≡ pos (length (faces 2 l)) = told ∙ ap (λ (q : Numbers). pos (q .edges)) is ∙ ap pos (p .1) in
       let f : s .triangles ≡ length (faces 3 l) = ap (λ (q : Numbers). q .triangles) is ∙ p .2 in
       record { answer = rw (p .0) e; edge-list = h .edges; triangle-list = h .triangles; triangle-count = rw (p .0) f }
+
+-- ---- the spanning tree
+module _ (b tree free : List ℕ) where
+  short : List (ℕ × Bool)
+  short = (15, ltb (length tree) (length (tree-edges (complexOf (sheetIn b .complex)))) || ltb (length free) (length (free-edges (complexOf (sheetIn b .complex))))) ∷ []
+
+  pub tree-refused : (k : ℕ) → k ≡ reading-refusal b → (k ≡ 0 → ⊥) → (r : ℤ) → r ≡ negℤ (pos k) → SpanningTree b tree free r tree free
+  unfolding tree-room short
+  tree-refused k h some r is =
+      let n : tree-room b (length tree) (length free) ≡ k = sheet-stops b short k h some in
+      record {
+        answer = refused-signed (tree-room b (length tree) (length free)) k (length (free-edges (complexOf (sheetIn b .complex)))) r n some is;
+        tree-list = refused-kept (tree-room b (length tree) (length free)) k _ tree n some;
+        free-list = refused-kept (tree-room b (length tree) (length free)) k _ free n some;
+      }
+
+  same-room : reading-refusal b ≡ 0 → tree-refusal (complexOf (sheetIn b .complex)) (length tree) (length free) ≡ tree-room b (length tree) (length free)
+  unfolding tree-refusal tree-room short
+  same-room h = sheet-goes-on b short h
+
+  module _ (h : reading-refusal b ≡ 0) (c : Complex) (is : c ≡ complexOf (sheetIn b .complex)) (a : SpanningTreeAnswer) (tree′ free′ : List ℕ) (told : TreeTold c tree free a tree′ free′) where
+    told-sheet : TreeTold (complexOf (sheetIn b .complex)) tree free a tree′ free′
+    told-sheet = rw is at told
+
+    pub tree-told : (t : Told) → t ≡ toldOf (treeAnswer a) → (r : ℤ) → r ≡ signedOf t → SpanningTree b tree free r tree′ free′
+    tree-told t e r s =
+        record {
+          answer = s ∙ signed-told t (treeAnswer a) (tree-room b (length tree) (length free)) (length (free-edges (complexOf (sheetIn b .complex)))) e (rw (same-room h) at (told-sheet .answer));
+          tree-list = rw (same-room h) at (told-sheet .tree-list);
+          free-list = rw (same-room h) at (told-sheet .free-list);
+        }
+
+    pub tree-few : (t : Told) → t ≡ toldOf (treeAnswer a) → t .value < 2 ^ 31
+    tree-few t e = small-told t (treeAnswer a) _ _ e (told-sheet .answer) few
+      where
+        few : tree-refusal (complexOf (sheetIn b .complex)) (length tree) (length free) ≡ 0 → length (free-edges (complexOf (sheetIn b .complex))) < 2 ^ 31
+        few z =
+            let c = complexOf (sheetIn b .complex) in
+            let right : Accepted c = accepted (sheetIn b .complex) .0 (sym (shape-decides b (header-none b h)) ∙ h) in
+            let e = right .edges in
+            omega (arith, free-count c right)
+
+-- ---- Gauss's law
+module _ (b : List ℕ) (s : List ℤ) where
+  long : List (ℕ × Bool)
+  long = (12, not (eqb (length s) (length (complexOf (sheetIn b .complex) .edges)))) ∷ []
+
+  pub law-refused : (k : ℕ) → k ≡ reading-refusal b → (k ≡ 0 → ⊥) → (r : ℤ) → r ≡ negℤ (pos k) → GaussLaw b s r
+  unfolding long
+  law-refused k h some r is =
+      let n : on-sheet b long ≡ k = sheet-stops b long k h some in
+      record { answer = rw (yes-outcome (on-sheet b long) (lawful (complexOf (sheetIn b .complex)) (λ v. pos 0) s)) (refused-signed (on-sheet b long) k _ r n some is) }
+
+  module _ (h : reading-refusal b ≡ 0) (c : Complex) (is : c ≡ complexOf (sheetIn b .complex)) (a : GaussCheck) (told : lawAnswer a ≡ lawOutcome c s) where
+    law-sheet : yesOf (lawAnswer a) ≡ outcome (on-sheet b long) (cond (lawful (complexOf (sheetIn b .complex)) (λ v. pos 0) s) 1 0)
+    unfolding lawOutcome law-refusal long
+    law-sheet =
+        let e : lawAnswer a ≡ lawOutcome (complexOf (sheetIn b .complex)) s = rw is at told in
+        ap yesOf e ∙ rw (sheet-goes-on b long h) (yes-outcome (on-sheet b long) (lawful (complexOf (sheetIn b .complex)) (λ v. pos 0) s))
+
+    pub law-told : (t : Told) → t ≡ toldOf (yesOf (lawAnswer a)) → (r : ℤ) → r ≡ signedOf t → GaussLaw b s r
+    unfolding long
+    law-told t e r d =
+        record {
+          answer =
+              rw (yes-outcome (on-sheet b long) (lawful (complexOf (sheetIn b .complex)) (λ v. pos 0) s))
+              (d ∙ signed-told t (yesOf (lawAnswer a)) (on-sheet b long) (cond (lawful (complexOf (sheetIn b .complex)) (λ v. pos 0) s) 1 0) e law-sheet);
+        }
+
+    pub law-few : (t : Told) → t ≡ toldOf (yesOf (lawAnswer a)) → t .value < 2 ^ 31
+    law-few t e = small-told t (yesOf (lawAnswer a)) _ _ e law-sheet (λ z. yes-small (lawful (complexOf (sheetIn b .complex)) (λ v. pos 0) s))

@@ -1,40 +1,57 @@
 -- What the exported functions answer: one signed number, the value or minus the refusal.
-use Prim.Native.Nat.{ℕ, _*_, _<_, _^_}
+use Prim.Native.Nat.{ℕ, _*_}
 use mathlib.Core.List.{List, [], _∷_, _++_, flatten}
-use mathlib.Core.Bool.{Bool}
+use mathlib.Core.Bool.{Bool, not, _||_, cond}
 use mathlib.Core.Path.{_≡_}
 use lib.IntN.{ℤ, pos, negℤ}
 use lib.ListN.{length, drop}
-use lib.Dec.{leb}
+use lib.Dec.{eqb, ltb, leb}
 use Rattle.mathematics.specs.Refusals.{first, Outcome, value, refused, outcome, written}
 use Rattle.complex.specs.declared.triangle.TriEdgeIndices.{TriEdgeIndices as Indexes}
 use Rattle.complex.specs.declared.triangle.TriEdgeIndices.the-variants.{Indices, Refused as NoTriangle}
-use Rattle.sheet.specs.declared.Written.{Written}
 use Rattle.sheet.specs.declared.Reading.{Reading}
 use Rattle.sheet.specs.declared.Reading.the-variants.{Accepted, Refused}
 use Rattle.pentachora.specs.declared.FromPentachorons.{FromPentachorons}
 use Rattle.pentachora.specs.declared.FromPentachorons.the-variants.{Counts, Refused as NoComplex}
+use Rattle.gauss_law.specs.Gauss.{lawful}
+use Rattle.gauss_law.specs.Listing.{tree-edges, free-edges}
+use Rattle.zibrotka.specs.declared.Told.{Told}
+use Rattle.zibrotka.specs.declared.Opened.{Opened}
 use Rattle.zibrotka.specs.declared.Edges.{Edges}
 use Rattle.zibrotka.specs.declared.Numbers.{Numbers}
 use Rattle.complex.specs.Complex.{Complex, complexOf}
 use Rattle.complex.specs.Judge.{shape-tests}
 use Rattle.complex.specs.Sides.{sides}
 use Rattle.pentachora.specs.Pentachora.{faces, refusal-from}
-use Rattle.sheet.specs.Sheet.{sheetIn, header-tests, reading-refusal, sheetBytes, writtenAnswer}
+use Rattle.sheet.specs.Sheet.{sheetIn, header-tests, reading-refusal, sheetBytes}
 use Rattle.sheet.specs.Making.{flatComplex, making-refusal}
 
 unfoldable pub signed : Outcome ℕ → ℤ
 signed (value n) = pos n
 signed (refused n) = negℤ (pos n)
 
+-- a value with no refusal, or a refusal and 0
+unfoldable pub toldOf : Outcome ℕ → Told
+toldOf (value n) = record { refusal = 0; value = n }
+toldOf (refused n) = record { refusal = n; value = 0 }
+
+unfoldable pub signedOf : Told → ℤ
+signedOf t = cond (eqb (t .refusal) 0) (pos (t .value)) (negℤ (pos (t .refusal)))
+
+-- yes is 1, no is 0
+unfoldable pub yesOf : Outcome Bool → Outcome ℕ
+yesOf (value b) = value (cond b 1 0)
+yesOf (refused n) = refused n
+
 -- the refusal of a reading, or 0
 unfoldable pub readingNumber : Reading → ℕ
 readingNumber Accepted = 0
 readingNumber (Refused n) = n
 
--- a number of bytes that fits
-pub record SmallAnswer (w : Written) : Type 0 where
-  pub small : (n : ℕ) → writtenAnswer w ≡ value n → n < 2 ^ 31
+-- the refusal of the sheet's bytes, and where there is none the sheet
+pub record OpenedOf (b : List ℕ) (o : Opened) : Type 0 where
+  pub number : o .refusal ≡ reading-refusal b
+  pub holds : reading-refusal b ≡ 0 → o .sheet ≡ sheetIn b
 
 -- the three edge numbers of an answer, or its refusal and zeros
 unfoldable pub edgesOf : Indexes → Edges
@@ -61,12 +78,13 @@ pub record ReadSheet (b : List ℕ) (v e t l : ℕ) (edges triangles : List ℕ)
   pub edge-list : edges′ ≡ written (reading-refusal b) (sheetIn b .complex .edges) edges
   pub triangle-list : triangles′ ≡ written (reading-refusal b) (sheetIn b .complex .triangles) triangles
 
--- 1 to 9 as for a sheet, then 13 for a number that is no triangle's
+-- the refusals of a call on a sheet: 1 to 9 as for reading it, then the call's own
+unfoldable pub on-sheet : List ℕ → List (ℕ × Bool) → ℕ
+on-sheet b more = first (header-tests b ++ (shape-tests (complexOf (sheetIn b .complex)) ++ more))
+
+-- 13 for a number that is no triangle's
 unfoldable pub triangle-refusal : List ℕ → ℕ → ℕ
-triangle-refusal b t =
-    first
-    (header-tests b
-    ++ (shape-tests (complexOf (sheetIn b .complex)) ++ ((13, leb (length (complexOf (sheetIn b .complex) .triangles)) t) ∷ [])))
+triangle-refusal b t = on-sheet b ((13, leb (length (complexOf (sheetIn b .complex) .triangles)) t) ∷ [])
 
 -- zibrotka_tri_edge_indices
 pub record EdgeIndices (b : List ℕ) (t : ℕ) (before : List ℕ) (r : ℤ) (after : List ℕ) : Type 0 where
@@ -79,3 +97,19 @@ pub record Pentachora (n : ℕ) (l edges triangles : List ℕ) (t : ℕ) (r : �
   pub edge-list : edges′ ≡ written (refusal-from n l (length edges) (length triangles)) (flatten (faces 2 l) ++ drop (2 * length (faces 2 l)) edges) edges
   pub triangle-list : triangles′ ≡ written (refusal-from n l (length edges) (length triangles)) (flatten (faces 3 l) ++ drop (3 * length (faces 3 l)) triangles) triangles
   pub triangle-count : t′ ≡ written (refusal-from n l (length edges) (length triangles)) (length (faces 3 l)) t
+
+-- 15 for a list that is too short
+unfoldable pub tree-room : List ℕ → ℕ → ℕ → ℕ
+tree-room b tree free =
+    on-sheet b
+    ((15, ltb tree (length (tree-edges (complexOf (sheetIn b .complex)))) || ltb free (length (free-edges (complexOf (sheetIn b .complex))))) ∷ [])
+
+-- zibrotka_spanning_tree
+pub record SpanningTree (b tree free : List ℕ) (r : ℤ) (tree′ free′ : List ℕ) : Type 0 where
+  pub answer : r ≡ signed (outcome (tree-room b (length tree) (length free)) (length (free-edges (complexOf (sheetIn b .complex)))))
+  pub tree-list : tree′ ≡ written (tree-room b (length tree) (length free)) (tree-edges (complexOf (sheetIn b .complex)) ++ drop (length (tree-edges (complexOf (sheetIn b .complex)))) tree) tree
+  pub free-list : free′ ≡ written (tree-room b (length tree) (length free)) (free-edges (complexOf (sheetIn b .complex)) ++ drop (length (free-edges (complexOf (sheetIn b .complex)))) free) free
+
+-- zibrotka_check_gauss_law: 12 for a configuration that is not as long as the list of edges
+pub record GaussLaw (b : List ℕ) (s : List ℤ) (r : ℤ) : Type 0 where
+  pub answer : r ≡ signed (yesOf (outcome (on-sheet b ((12, not (eqb (length s) (length (complexOf (sheetIn b .complex) .edges)))) ∷ [])) (lawful (complexOf (sheetIn b .complex)) (λ v. pos 0) s)))

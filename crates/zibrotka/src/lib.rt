@@ -1,17 +1,30 @@
 // The calls for C and other languages: numbers and slices in, one signed number out, the value or minus the refusal.
+use complex::triangle::TriEdgeIndices;
+use complex::triangle::tri_edge_indices;
+use gauss_law::law::GaussCheck;
+use gauss_law::law::check_gauss_law;
+use gauss_law::spanning::SpanningTreeAnswer;
+use gauss_law::spanning::spanning_tree;
+use pentachora::FromPentachorons;
+use pentachora::from_pentachorons;
 use sheet::Reading;
+use sheet::Sheet;
 use sheet::Written;
 use sheet::make_sheet;
 use sheet::read_sheet;
-use complex::triangle::TriEdgeIndices;
-use complex::triangle::tri_edge_indices;
-use pentachora::FromPentachorons;
-use pentachora::from_pentachorons;
 ghost use mathlib.Core.Path.{_≡_};
 ghost use Prim.Native.Nat.{ℕ, _<_, _≤_, _^_};
 ghost use lib.IntN.{ℤ, pos, negℤ};
 ghost use Rattle.sheet.specs.Sheet.{writtenAnswer};
-ghost use Rattle.zibrotka.specs.Exports.{signed, readingNumber, SmallAnswer, edgesOf, MakeSheet, ReadSheet, EdgeIndices, numbersOf, Pentachora};
+ghost use Rattle.gauss_law.specs.Spanning.{treeAnswer};
+ghost use Rattle.gauss_law.specs.Law.{lawAnswer};
+ghost use Rattle.zibrotka.specs.Exports.{toldOf, signedOf, readingNumber, yesOf, OpenedOf, edgesOf, numbersOf, MakeSheet, ReadSheet, EdgeIndices, Pentachora, SpanningTree, GaussLaw};
+
+// A value, or the refusal, which is not 0.
+pub struct Told {
+    pub refusal: u8,
+    pub value: usize,
+}
 
 fn refused(number: u8) -> i64
     ensures { λ r. ⌜ r ≡ negℤ (pos number) ⌝ }
@@ -24,6 +37,120 @@ fn value(number: usize) -> i64
     ensures { λ r. ⌜ r ≡ pos number ⌝ }
 {
     number as i64
+}
+
+// One signed number for both.
+fn signed(told: Told) -> i64
+    requires { ⌜ told .value < 2 ^ 31 ⌝ }
+    ensures { λ r. ⌜ r ≡ signedOf told ⌝ }
+{
+    let number = told.refusal;
+    if number != 0 {
+        return refused(number);
+    }
+    value(told.value)
+}
+
+fn told_written(answer: Written) -> Told
+    ensures { λ r. ⌜ r ≡ toldOf (writtenAnswer answer) ⌝ }
+{
+    match answer {
+        Written::Bytes(size) => Told { refusal: 0, value: size },
+        Written::Refused(number) => Told { refusal: number, value: 0 },
+    }
+}
+
+fn told_tree(answer: SpanningTreeAnswer) -> Told
+    ensures { λ r. ⌜ r ≡ toldOf (treeAnswer answer) ⌝ }
+{
+    match answer {
+        SpanningTreeAnswer::Free(count) => Told { refusal: 0, value: count },
+        SpanningTreeAnswer::Refused(number) => Told { refusal: number, value: 0 },
+    }
+}
+
+fn told_law(answer: GaussCheck) -> Told
+    ensures { λ r. ⌜ r ≡ toldOf (yesOf (lawAnswer answer)) ⌝ }
+{
+    match answer {
+        GaussCheck::Answer(yes) => Told { refusal: 0, value: yes as usize },
+        GaussCheck::Refused(number) => Told { refusal: number, value: 0 },
+    }
+}
+
+// The refusal of a reading, or 0.
+fn refusal(answer: Reading) -> u8
+    ensures { λ r. ⌜ r ≡ readingNumber answer ⌝ }
+{
+    match answer {
+        Reading::Accepted => 0,
+        Reading::Refused(number) => number,
+    }
+}
+
+// A sheet that was read, or its refusal.
+pub struct Opened {
+    pub refusal: u8,
+    pub sheet: Sheet,
+}
+
+fn open(sheet: &[u8]) -> Opened
+    ensures { λ r. ⌜ OpenedOf (now (sheet .entry)) r ⌝ }
+{
+    let read = read_sheet(sheet);
+    let answer = read.answer;
+    let number = refusal(answer);
+    let s = read.sheet;
+    Opened {
+        refusal: number,
+        sheet: s,
+    }
+}
+
+// The sheet of flat pairs and triples: the number of its bytes.
+#[no_mangle]
+pub extern "C" fn zibrotka_make_sheet(
+    n_vertices: u64,
+    edges: &[u8],
+    triangles: &[u8],
+    lambda: u64,
+    sheet: &mut [u8],
+) -> i64
+    ensures { λ r. ⌜ MakeSheet «n_vertices» (now (edges .entry)) (now (triangles .entry)) lambda (now (sheet .entry)) r (now (sheet .exit)) ⌝ }
+{
+    let made = make_sheet(n_vertices as usize, edges, triangles, lambda as usize, sheet);
+    signed(told_written(made))
+}
+
+// What a sheet holds: 0.
+#[no_mangle]
+pub extern "C" fn zibrotka_read_sheet(
+    sheet: &[u8],
+    n_vertices: &mut u64,
+    n_edges: &mut u64,
+    n_triangles: &mut u64,
+    lambda: &mut u64,
+    edges: &mut [u8; 126],
+    triangles: &mut [u8; 768],
+) -> i64
+    ensures { λ r. ⌜ ReadSheet (now (sheet .entry)) (now («n_vertices» .entry)) (now («n_edges» .entry)) (now («n_triangles» .entry)) (now (lambda .entry)) (now (edges .entry)) (now (triangles .entry)) r (now («n_vertices» .exit)) (now («n_edges» .exit)) (now («n_triangles» .exit)) (now (lambda .exit)) (now (edges .exit)) (now (triangles .exit)) ⌝ }
+{
+    let opened = open(sheet);
+    let number = opened.refusal;
+    if number != 0 {
+        return refused(number);
+    }
+    let s = opened.sheet;
+    let c = s.complex;
+    *n_vertices = c.n_vertices as u64;
+    *n_edges = c.n_edges as u64;
+    *n_triangles = c.n_triangles as u64;
+    *lambda = s.lambda as u64;
+    let pairs = c.edges;
+    *edges = pairs;
+    let triples = c.triangles;
+    *triangles = triples;
+    0
 }
 
 // The three edge numbers of an answer, or its refusal.
@@ -53,83 +180,17 @@ fn edges_of(answer: TriEdgeIndices) -> Edges
     }
 }
 
-// What making a sheet answered.
-fn made(answer: Written) -> i64
-    requires { ⌜ SmallAnswer answer ⌝ }
-    ensures { λ r. ⌜ r ≡ signed (writtenAnswer answer) ⌝ }
-{
-    match answer {
-        Written::Bytes(size) => value(size),
-        Written::Refused(number) => refused(number),
-    }
-}
-
-// The refusal of a reading, or 0.
-fn refusal(answer: Reading) -> u8
-    ensures { λ r. ⌜ r ≡ readingNumber answer ⌝ }
-{
-    match answer {
-        Reading::Accepted => 0,
-        Reading::Refused(number) => number,
-    }
-}
-
-#[no_mangle]
-pub extern "C" fn zibrotka_make_sheet(
-    n_vertices: u64,
-    edges: &[u8],
-    triangles: &[u8],
-    lambda: u64,
-    sheet: &mut [u8],
-) -> i64
-    ensures { λ r. ⌜ MakeSheet «n_vertices» (now (edges .entry)) (now (triangles .entry)) lambda (now (sheet .entry)) r (now (sheet .exit)) ⌝ }
-{
-    made(make_sheet(n_vertices as usize, edges, triangles, lambda as usize, sheet))
-}
-
-#[no_mangle]
-pub extern "C" fn zibrotka_read_sheet(
-    sheet: &[u8],
-    n_vertices: &mut u64,
-    n_edges: &mut u64,
-    n_triangles: &mut u64,
-    lambda: &mut u64,
-    edges: &mut [u8; 126],
-    triangles: &mut [u8; 768],
-) -> i64
-    ensures { λ r. ⌜ ReadSheet (now (sheet .entry)) (now («n_vertices» .entry)) (now («n_edges» .entry)) (now («n_triangles» .entry)) (now (lambda .entry)) (now (edges .entry)) (now (triangles .entry)) r (now («n_vertices» .exit)) (now («n_edges» .exit)) (now («n_triangles» .exit)) (now (lambda .exit)) (now (edges .exit)) (now (triangles .exit)) ⌝ }
-{
-    let read = read_sheet(sheet);
-    let answer = read.answer;
-    let number = refusal(answer);
-    if number != 0 {
-        return refused(number);
-    }
-    let s = read.sheet;
-    let c = s.complex;
-    *n_vertices = c.n_vertices as u64;
-    *n_edges = c.n_edges as u64;
-    *n_triangles = c.n_triangles as u64;
-    *lambda = s.lambda as u64;
-    let pairs = c.edges;
-    *edges = pairs;
-    let triples = c.triangles;
-    *triangles = triples;
-    0
-}
-
-// The edge numbers of a triangle of a sheet.
+// The edge numbers of a triangle of a sheet: 0.
 #[no_mangle]
 pub extern "C" fn zibrotka_tri_edge_indices(sheet: &[u8], triangle: u64, indices: &mut [u64; 3]) -> i64
     ensures { λ r. ⌜ EdgeIndices (now (sheet .entry)) triangle (now (indices .entry)) r (now (indices .exit)) ⌝ }
 {
-    let read = read_sheet(sheet);
-    let answer = read.answer;
-    let number = refusal(answer);
+    let opened = open(sheet);
+    let number = opened.refusal;
     if number != 0 {
         return refused(number);
     }
-    let s = read.sheet;
+    let s = opened.sheet;
     let found = edges_of(tri_edge_indices(s.complex, triangle as usize));
     let other = found.refusal;
     if other != 0 {
@@ -139,7 +200,7 @@ pub extern "C" fn zibrotka_tri_edge_indices(sheet: &[u8], triangle: u64, indices
     0
 }
 
-// The number of edges of an answer, or its refusal.
+// The two counts of an answer, or its refusal.
 pub struct Numbers {
     pub refusal: u8,
     pub edges: usize,
@@ -163,7 +224,7 @@ fn numbers_of(answer: FromPentachorons) -> Numbers
     }
 }
 
-// The edges and triangles of pentachora.
+// The edges and triangles of pentachora: the number of edges.
 #[no_mangle]
 pub extern "C" fn zibrotka_from_pentachorons(
     n_vertices: u64,
@@ -181,4 +242,32 @@ pub extern "C" fn zibrotka_from_pentachorons(
     }
     *n_triangles = found.triangles as u64;
     value(found.edges)
+}
+
+// The tree edges and the free edges of a sheet's complex: the number of free edges.
+#[no_mangle]
+pub extern "C" fn zibrotka_spanning_tree(sheet: &[u8], tree: &mut [u32], free: &mut [u32]) -> i64
+    ensures { λ r. ⌜ SpanningTree (now (sheet .entry)) (now (tree .entry)) (now (free .entry)) r (now (tree .exit)) (now (free .exit)) ⌝ }
+{
+    let opened = open(sheet);
+    let number = opened.refusal;
+    if number != 0 {
+        return refused(number);
+    }
+    let s = opened.sheet;
+    signed(told_tree(spanning_tree(s.complex, tree, free)))
+}
+
+// Whether a configuration obeys Gauss's law on a sheet's complex: 1 or 0.
+#[no_mangle]
+pub extern "C" fn zibrotka_check_gauss_law(sheet: &[u8], configuration: &[i32]) -> i64
+    ensures { λ r. ⌜ GaussLaw (now (sheet .entry)) (now (configuration .entry)) r ⌝ }
+{
+    let opened = open(sheet);
+    let number = opened.refusal;
+    if number != 0 {
+        return refused(number);
+    }
+    let s = opened.sheet;
+    signed(told_law(check_gauss_law(s.complex, configuration)))
 }

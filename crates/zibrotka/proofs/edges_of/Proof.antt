@@ -6,20 +6,20 @@ use Rattle.zibrotka.proofs.edges_of.Tie as tie
 use Rattle.zibrotka.proofs.edges_of.Reads as reads
 use Rattle.zibrotka.proofs.edges_of.Lts as lts
 
--- src/lib.rt:39:33
+-- src/lib.rt:168:33
 enum-known-answer : tie.Need-enum-known-answer
 enum-known-answer c = search needs
 
--- src/lib.rt:45:33
+-- src/lib.rt:174:33
 enum-known-answer-2 : tie.Need-enum-known-answer-2
 enum-known-answer-2 c = search needs
 
--- src/lib.rt:35:1
+-- src/lib.rt:164:1
 returns : tie.Need-returns
 unfolding edgesOf
 returns c = sym (ap edgesOf (c .before .answer .given .1))
 
--- src/lib.rt:35:1
+-- src/lib.rt:164:1
 returns-2 : tie.Need-returns-2
 unfolding edgesOf
 returns-2 c = sym (ap edgesOf (c .before .answer2 .given .1))
