@@ -82,7 +82,7 @@ fn copy(src: &[u8], start: usize, count: usize, out: &mut [u8], at: usize)
 }
 
 // Entries from start on as an array of edges, with zeros after them.
-fn edges_in(b: &[u8], start: usize, count: usize) -> [u8; 126]
+pub fn edges_in(b: &[u8], start: usize, count: usize) -> [u8; 126]
     requires { ⌜ (start + count ≤ length (now b)) × (count ≤ 126) ⌝ }
     ensures { λ r. ⌜ r ≡ padded 126 (take count (drop start (now (b .entry)))) ⌝ }
 {
@@ -92,7 +92,7 @@ fn edges_in(b: &[u8], start: usize, count: usize) -> [u8; 126]
 }
 
 // The same for triangles.
-fn triangles_in(b: &[u8], start: usize, count: usize) -> [u8; 768]
+pub fn triangles_in(b: &[u8], start: usize, count: usize) -> [u8; 768]
     requires { ⌜ (start + count ≤ length (now b)) × (count ≤ 768) ⌝ }
     ensures { λ r. ⌜ r ≡ padded 768 (take count (drop start (now (b .entry)))) ⌝ }
 {

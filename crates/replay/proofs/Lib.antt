@@ -1,0 +1,2 @@
+mod Agreeing
+mod Inside

@@ -1,0 +1,11 @@
+use mathlib.Core.Path.{refl}
+use Rattle.replay.specs.Cases.{whole}
+use Rattle.replay.proofs.case.is_whole.Statement.{statement}
+use Rattle.replay.proofs.case.is_whole.Tie as tie
+
+returns : tie.Need-returns
+unfolding whole
+returns c = refl
+
+pub is-whole-spec : {M : Type 1} → statement M
+is-whole-spec = tie.close (tie.spec returns)

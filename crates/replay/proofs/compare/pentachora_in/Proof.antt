@@ -1,0 +1,59 @@
+use borrow.Author.Needs.{needs}
+use Prim.Native.Nat.{_-_, _≤_}
+use mathlib.Core.Path.{_≡_}
+use lib.ListN.{length}
+use Rattle.replay.proofs.compare.pentachora_in.Statement.{statement}
+use Rattle.replay.proofs.compare.pentachora_in.Tie as tie
+
+abbrev Inv-loop : tie.InvT-loop
+Inv-loop list start count vertices₀ i₀ vertices i = (i ≤ count) × (length vertices ≡ 1275)
+
+abbrev μ-loop : tie.MeasureT-loop
+μ-loop list start count vertices₀ i₀ vertices i = count - i
+
+loop-holds : tie.Need-loop-holds Inv-loop μ-loop
+loop-holds c = search needs
+
+add-wide : tie.Need-add-wide Inv-loop μ-loop
+add-wide c = search needs
+
+shared-slice-read-wide : tie.Need-shared-slice-read-wide Inv-loop μ-loop
+shared-slice-read-wide c = search needs
+
+wide-requires : tie.Need-wide-requires Inv-loop μ-loop
+wide-requires c κs = search needs
+
+mul-vertices : tie.Need-mul-vertices Inv-loop μ-loop
+mul-vertices c = search needs
+
+array-write-vertices : tie.Need-array-write-vertices Inv-loop μ-loop
+array-write-vertices c = search needs
+
+add-i : tie.Need-add-i Inv-loop μ-loop
+add-i c = search needs
+
+loop-less : tie.Need-loop-less Inv-loop μ-loop
+loop-less c = search needs
+
+loop-again : tie.Need-loop-again Inv-loop μ-loop
+loop-again c = search needs
+
+returns : tie.Need-returns Inv-loop μ-loop
+returns c = search needs
+
+pub pentachora-in-spec : {M : Type 1} → statement M
+pentachora-in-spec =
+    tie.close
+    (tie.spec
+    Inv-loop
+    μ-loop
+    loop-holds
+    add-wide
+    shared-slice-read-wide
+    wide-requires
+    mul-vertices
+    array-write-vertices
+    add-i
+    loop-less
+    loop-again
+    returns)
