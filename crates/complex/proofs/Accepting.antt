@@ -134,6 +134,7 @@ module _ (c : Complex) (two-long : Sized 2 (c .edges)) (three-long : Sized 3 (c 
           let rise : rising (c .vertices) s ≡ true = rw (at .2) at (all-at (rising (c .vertices)) [] (c .edges) h (at .0) (at .1)) in
           let p = rising-pair (c .vertices) s long rise in
           (start s, end s, p .0, p .1, p .2)
+
       triangle-plain : (s : Simplex) → In s (c .triangles) → triangles-right c ≡ true → (x y z : ℕ) × (s ≡ x ∷ y ∷ z ∷ []) × (x < y) × (y < z) × (z < c .vertices) × In (x ∷ y ∷ []) (c .edges) × In (x ∷ z ∷ []) (c .edges) × In (y ∷ z ∷ []) (c .edges)
       triangle-plain s at h =
           let fit : fitting (c .vertices) (c .edges) s ≡ true = rw (at .2) at (triangle-fits h (at .0) (at .1)) in

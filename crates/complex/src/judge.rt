@@ -91,7 +91,8 @@ fn triangle_fits(triangles: &[u8; 768], n: usize, table: &[u16; 4096], t: usize)
     if n <= c {
         return false;
     }
-    (edge_number(table, a, b) != 0) & ((edge_number(table, a, c) != 0) & (edge_number(table, b, c) != 0))
+    (edge_number(table, a, b) != 0)
+        & ((edge_number(table, a, c) != 0) & (edge_number(table, b, c) != 0))
 }
 
 fn triangles_fit(triangles: &[u8; 768], n: usize, table: &[u16; 4096], t: usize) -> bool
@@ -124,7 +125,13 @@ fn number_triangles(triangles: &[u8; 768], table: &[u16; 4096], t: usize) -> usi
     let mut keys = [0u16; 256];
     let mut count = 0;
     for i in 0..t {
-        count = note(&mut noted, &mut keys, 256, count, triangle_key(triangles, table, i));
+        count = note(
+            &mut noted,
+            &mut keys,
+            256,
+            count,
+            triangle_key(triangles, table, i),
+        );
     }
     count
 }

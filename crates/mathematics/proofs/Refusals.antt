@@ -32,6 +32,7 @@ first-goes-on (t ∷ xs) ys n h = go (t .1) h (first-goes-on xs ys (p .1))
   where
     p : (not (eqb (t .0) 0) ≡ true) × (numbered xs ≡ true)
     p = and-parts (not (eqb (t .0) 0)) (numbered xs) n
+
     go : (b : Bool) → cond b (t .0) (first xs) ≡ 0 → (first xs ≡ 0 → first (xs ++ ys) ≡ first ys) → cond b (t .0) (first (xs ++ ys)) ≡ first ys
     go true h rest = absurd (eqb-false (t .0) 0 (not-true (eqb (t .0) 0) (p .0)) h)
     go false h rest = rest h

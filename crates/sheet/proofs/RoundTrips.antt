@@ -211,8 +211,7 @@ module _ (b : List ℕ) (bytes : (i : ℕ) → i < length b → getD b i 0 < 256
     where
       marks : (71 ≡ getD b 0 0) × (76 ≡ getD b 1 0) × (83 ≡ getD b 2 0)
       marks =
-          let e : take 3 b ≡ 71 ∷ 76 ∷ 83 ∷ [] = lists-equal .equal (take 3 b) (71 ∷ 76 ∷ 83 ∷ []) (head .mark) in
-          (
+          let e : take 3 b ≡ 71 ∷ 76 ∷ 83 ∷ [] = lists-equal .equal (take 3 b) (71 ∷ 76 ∷ 83 ∷ []) (head .mark) in (
             sym (ap (λ (l : List ℕ). getD l 0 0) e) ∙ getD-take 3 b 0 0 (omega arith),
             sym (ap (λ (l : List ℕ). getD l 1 0) e) ∙ getD-take 3 b 1 0 (omega arith),
             sym (ap (λ (l : List ℕ). getD l 2 0) e) ∙ getD-take 3 b 2 0 (omega arith),

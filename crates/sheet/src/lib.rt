@@ -245,7 +245,13 @@ fn sheet_of(n_vertices: usize, edges: &[u8], triangles: &[u8], lambda: usize) ->
 }
 
 // Writes the sheet of flat pairs and triples: the number of bytes, or the first of 4 to 9 and 15 that holds.
-pub fn make_sheet(n_vertices: usize, edges: &[u8], triangles: &[u8], lambda: usize, out: &mut [u8]) -> Written
+pub fn make_sheet(
+    n_vertices: usize,
+    edges: &[u8],
+    triangles: &[u8],
+    lambda: usize,
+    out: &mut [u8],
+) -> Written
     ensures { λ r. ⌜ Made «n_vertices» (now (edges .entry)) (now (triangles .entry)) lambda (now (out .entry)) r (now (out .exit)) ⌝ }
 {
     let number = judge_sizes(n_vertices, edges, triangles, lambda);

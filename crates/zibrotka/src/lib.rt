@@ -55,8 +55,14 @@ fn told_written(answer: Written) -> Told
     ensures { λ r. ⌜ r ≡ toldOf (writtenAnswer answer) ⌝ }
 {
     match answer {
-        Written::Bytes(size) => Told { refusal: 0, value: size },
-        Written::Refused(number) => Told { refusal: number, value: 0 },
+        Written::Bytes(size) => Told {
+            refusal: 0,
+            value: size,
+        },
+        Written::Refused(number) => Told {
+            refusal: number,
+            value: 0,
+        },
     }
 }
 
@@ -64,8 +70,14 @@ fn told_tree(answer: SpanningTreeAnswer) -> Told
     ensures { λ r. ⌜ r ≡ toldOf (treeAnswer answer) ⌝ }
 {
     match answer {
-        SpanningTreeAnswer::Free(count) => Told { refusal: 0, value: count },
-        SpanningTreeAnswer::Refused(number) => Told { refusal: number, value: 0 },
+        SpanningTreeAnswer::Free(count) => Told {
+            refusal: 0,
+            value: count,
+        },
+        SpanningTreeAnswer::Refused(number) => Told {
+            refusal: number,
+            value: 0,
+        },
     }
 }
 
@@ -73,8 +85,14 @@ fn told_law(answer: GaussCheck) -> Told
     ensures { λ r. ⌜ r ≡ toldOf (yesOf (lawAnswer answer)) ⌝ }
 {
     match answer {
-        GaussCheck::Answer(yes) => Told { refusal: 0, value: yes as usize },
-        GaussCheck::Refused(number) => Told { refusal: number, value: 0 },
+        GaussCheck::Answer(yes) => Told {
+            refusal: 0,
+            value: yes as usize,
+        },
+        GaussCheck::Refused(number) => Told {
+            refusal: number,
+            value: 0,
+        },
     }
 }
 
@@ -118,7 +136,13 @@ pub extern "C" fn zibrotka_make_sheet(
 ) -> i64
     ensures { λ r. ⌜ MakeSheet «n_vertices» (now (edges .entry)) (now (triangles .entry)) lambda (now (sheet .entry)) r (now (sheet .exit)) ⌝ }
 {
-    let made = make_sheet(n_vertices as usize, edges, triangles, lambda as usize, sheet);
+    let made = make_sheet(
+        n_vertices as usize,
+        edges,
+        triangles,
+        lambda as usize,
+        sheet,
+    );
     signed(told_written(made))
 }
 
@@ -182,7 +206,11 @@ fn edges_of(answer: TriEdgeIndices) -> Edges
 
 // The edge numbers of a triangle of a sheet: 0.
 #[no_mangle]
-pub extern "C" fn zibrotka_tri_edge_indices(sheet: &[u8], triangle: u64, indices: &mut [u64; 3]) -> i64
+pub extern "C" fn zibrotka_tri_edge_indices(
+    sheet: &[u8],
+    triangle: u64,
+    indices: &mut [u64; 3],
+) -> i64
     ensures { λ r. ⌜ EdgeIndices (now (sheet .entry)) triangle (now (indices .entry)) r (now (indices .exit)) ⌝ }
 {
     let opened = open(sheet);
@@ -211,7 +239,10 @@ fn numbers_of(answer: FromPentachorons) -> Numbers
     ensures { λ r. ⌜ r ≡ numbersOf answer ⌝ }
 {
     match answer {
-        FromPentachorons::Counts { n_edges, n_triangles } => Numbers {
+        FromPentachorons::Counts {
+            n_edges,
+            n_triangles,
+        } => Numbers {
             refusal: 0,
             edges: n_edges,
             triangles: n_triangles,

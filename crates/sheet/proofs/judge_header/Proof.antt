@@ -127,7 +127,7 @@ counts-right-requires c κs = search needs
 -- src/lib.rt:62:9
 returns-4 : tie.Need-returns-4
 unfolding first header-tests
-returns-4 c = 
+returns-4 c =
     let e = c .before .before .before .before .before .before .before in
     rw (passed-1 (to-1 (to-2 e)), passed-2 (to-2 e), passed-3 e, counted (c .before), not-true (c .before .counts-right .result) (c .if4 .taken))
 
@@ -138,7 +138,7 @@ word-requires-3 c κs = search needs
 -- src/lib.rt:65:9
 returns-5 : tie.Need-returns-5
 unfolding first header-tests
-returns-5 c = 
+returns-5 c =
     let e = c .before .before in
     rw (passed-1 (to-1 (to-2 (to-3 e))), passed-2 (to-2 (to-3 e)), passed-3 (to-3 e), passed-4 e, ← c .before .word3 .ensures .0, lt-ltb _ _ (c .if5 .taken))
 
@@ -161,14 +161,14 @@ add-if6-2 c = omega (arith, few c)
 -- src/lib.rt:68:9
 returns-6 : tie.Need-returns-6
 unfolding first header-tests
-returns-6 c = 
+returns-6 c =
     let e = to-4 (c .before) in
     rw (passed-1 (to-1 (to-2 (to-3 e))), passed-2 (to-2 (to-3 e)), passed-3 (to-3 e), passed-4 e, passed-5 (c .before), ← e .before .before .before .before .before .byte .ensures, ← e .before .before .before .before .word2 .ensures .0, ne-eqb _ _ (c .if6 .taken))
 
 -- src/lib.rt:47:1
 returns-7 : tie.Need-returns-7
 unfolding first header-tests
-returns-7 c = 
+returns-7 c =
     let e = to-4 (c .before) in
     rw (passed-1 (to-1 (to-2 (to-3 e))), passed-2 (to-2 (to-3 e)), passed-3 (to-3 e), passed-4 e, passed-5 (c .before), ← e .before .before .before .before .before .byte .ensures, ← e .before .before .before .before .word2 .ensures .0, eq-eqb _ _ (c .if6 .left))
 

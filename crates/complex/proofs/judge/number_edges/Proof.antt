@@ -50,7 +50,7 @@ loop-less c = search needs
 
 -- src/judge.rt:59:5
 loop-again : tie.Need-loop-again Inv-loop μ-loop
-loop-again c = 
+loop-again c =
     let at-loop = c .before .before .before .before .before in
     (omega arith, rw (keys-next, ← c .before .edge-key .ensures .0) (c .note .ensures (notedAll eqb [] (map key (simplices 2 (at-loop .before .args .edges .now) (at-loop .loop .e)))) (at-loop .loop .inv .1)))
 
