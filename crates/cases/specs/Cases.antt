@@ -1,0 +1,85 @@
+-- The worked cases of the scope paper that it asks to have proved, as one table of expected values.
+use Prim.Native.Nat.{ℕ, zero, suc}
+use Prim.Native.String.{String}
+use mathlib.Core.List.{List, [], _∷_, _++_}
+use mathlib.Core.Path.{_≡_}
+use lib.IntN.{ℤ, pos}
+use lib.ListN.{length}
+use Rattle.complex.specs.Complex.{Complex}
+use Rattle.complex.specs.Judge.{refusal}
+use Rattle.gauss_law.specs.Listing.{tree-edges, free-edges, listing}
+use Rattle.lines.specs.Lines.{ascii, firstLine, stateLine}
+
+-- the lines of the states from a place on
+unfoldable pub stateLines : ℕ → List (List ℤ) → List ℕ
+stateLines place [] = []
+stateLines place (s ∷ ss) = stateLine place s ++ stateLines (suc place) ss
+
+-- what `basis list` prints for a complex and a truncation
+unfoldable pub printed : Complex → ℕ → List ℕ
+printed c lambda =
+    firstLine (c .vertices) (length (c .edges)) (length (c .triangles)) lambda (length (listing c (λ v. pos 0) lambda))
+    ++ stateLines 0 (listing c (λ v. pos 0) lambda)
+
+-- a complex and a truncation, with the values that are expected of them
+pub record Case : Type 0 where
+  pub complex : Complex
+  pub truncation : ℕ
+  pub tree : List ℕ
+  pub free : List ℕ
+  pub text : String
+
+-- what is claimed of a case: it is accepted, and its tree, its free edges and its printed basis are the expected ones
+pub record Holds (k : Case) : Type 0 where
+  pub accepted : refusal (k .complex) ≡ 0
+  pub tree : tree-edges (k .complex) ≡ k .tree
+  pub free : free-edges (k .complex) ≡ k .free
+  pub basis : printed (k .complex) (k .truncation) ≡ ascii (k .text)
+
+unfoldable pub triangle : Complex
+triangle =
+    record { vertices = 3; edges = (0 ∷ 1 ∷ []) ∷ (0 ∷ 2 ∷ []) ∷ (1 ∷ 2 ∷ []) ∷ []; triangles = (0 ∷ 1 ∷ 2 ∷ []) ∷ [] }
+
+unfoldable pub one-vertex : Complex
+one-vertex = record { vertices = 1; edges = []; triangles = [] }
+
+-- vertices 0 to 3 with all six edges and all four triangles, in dictionary order
+unfoldable pub tetrahedron : Complex
+tetrahedron =
+    record {
+      vertices = 4;
+      edges = (0 ∷ 1 ∷ []) ∷ (0 ∷ 2 ∷ []) ∷ (0 ∷ 3 ∷ []) ∷ (1 ∷ 2 ∷ []) ∷ (1 ∷ 3 ∷ []) ∷ (2 ∷ 3 ∷ []) ∷ [];
+      triangles = (0 ∷ 1 ∷ 2 ∷ []) ∷ (0 ∷ 1 ∷ 3 ∷ []) ∷ (0 ∷ 2 ∷ 3 ∷ []) ∷ (1 ∷ 2 ∷ 3 ∷ []) ∷ [];
+    }
+
+unfoldable pub table : List Case
+table =
+    record {
+      complex = triangle;
+      truncation = 1;
+      tree = 0 ∷ 1 ∷ [];
+      free = 2 ∷ [];
+      text = "vertices 3 edges 3 triangles 1 lambda 1 dim 3\n0 -1 1 -1\n1 0 0 0\n2 1 -1 1\n";
+    }
+    ∷ record {
+      complex = triangle;
+      truncation = 0;
+      tree = 0 ∷ 1 ∷ [];
+      free = 2 ∷ [];
+      text = "vertices 3 edges 3 triangles 1 lambda 0 dim 1\n0 0 0 0\n";
+    }
+    ∷ record {
+      complex = one-vertex;
+      truncation = 1;
+      tree = [];
+      free = [];
+      text = "vertices 1 edges 0 triangles 0 lambda 1 dim 1\n0\n";
+    }
+    ∷ record {
+      complex = tetrahedron;
+      truncation = 1;
+      tree = 0 ∷ 1 ∷ 2 ∷ [];
+      free = 3 ∷ 4 ∷ 5 ∷ [];
+      text = "vertices 4 edges 6 triangles 4 lambda 1 dim 15\n0 -1 0 1 -1 0 -1\n1 0 -1 1 0 0 -1\n2 0 0 0 -1 1 -1\n3 1 -1 0 0 1 -1\n4 -1 0 1 0 -1 0\n5 0 -1 1 1 -1 0\n6 -1 1 0 -1 0 0\n7 0 0 0 0 0 0\n8 1 -1 0 1 0 0\n9 0 1 -1 -1 1 0\n10 1 0 -1 0 1 0\n11 -1 1 0 0 -1 1\n12 0 0 0 1 -1 1\n13 0 1 -1 0 0 1\n14 1 0 -1 1 0 1\n";
+    }
+    ∷ []
