@@ -7,10 +7,10 @@ use borrow.Author.Tests.{ne-eqb}
 use lib.IntN.{ℤ, pos, negsuc, negℤ, _-ℤ_, +ℤ-idl}
 use lib.Signed.{mag}
 use mir.Syntax.{w64}
-use mir.Val.{SFits, toZ, ofZ, boolByte}
-use mir.Facts.{toZ-pos, toZ-ofZ}
-use borrow.Author.Needs.{sfits-of}
+use mir.Val.{toZ, boolByte}
+use mir.Facts.{toZ-pos}
 use Rattle.mathematics.specs.Refusals.{Outcome, value, refused, outcome, written}
+use Rattle.mathematics.proofs.Refusals.{refused-kept as kept}
 use Rattle.zibrotka.specs.declared.Told.{Told}
 use Rattle.zibrotka.specs.Exports.{signed, toldOf, signedOf, yesOf}
 
@@ -20,10 +20,6 @@ small-mag (suc n) h = omega arith
 
 pub minus : (n : ℕ) → n < 256 → pos 0 -ℤ toZ w64 n ≡ negℤ (pos n)
 minus n h = rw (toZ-pos w64 {n = n} (omega arith)) (+ℤ-idl (negℤ (pos n)))
-
--- a result as its caller sees it
-pub seen : (z : ℤ) → mag z < 2 ^ 63 → toZ w64 (ofZ w64 z) ≡ z
-seen z h = toZ-ofZ {w = w64} {z = z} (sfits-of h)
 
 -- an outcome that is a refusal is one of the number that refuses, and that is not 0
 pub refused-number : {A : Type 0} (k n : ℕ) (a : A) → refused k ≡ outcome n a → k ≡ n
@@ -75,9 +71,7 @@ refused-signed zero k a r e some is = absurd (some (sym e))
 refused-signed (suc n) k a r e some is = is ∙ ap (λ (m : ℕ). negℤ (pos m)) (sym e)
 
 pub refused-kept : {A : Type 0} (n k : ℕ) (new old : A) → n ≡ k → (k ≡ 0 → ⊥) → old ≡ written n new old
-unfolding written
-refused-kept zero k new old e some = absurd (some (sym e))
-refused-kept (suc n) k new old e some = refl
+refused-kept n k new old e some = kept n new old (λ (z : n ≡ 0). some (sym e ∙ z))
 
 pub yes-number : (b : Bool) → boolByte b ≡ cond b 1 0
 yes-number true = refl

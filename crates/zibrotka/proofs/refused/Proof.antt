@@ -2,7 +2,8 @@ use lib.IntN.{pos, negℤ}
 use mathlib.Core.Path.{_≡_, refl, sym, ap, _∙_}
 use native.Mathlib.Omega.{arith}
 use borrow.Author.Needs.{sfits-of}
-use Rattle.zibrotka.proofs.Signs.{small-mag, minus, seen}
+use Rattle.mathematics.proofs.Signed.{back64}
+use Rattle.zibrotka.proofs.Signs.{small-mag, minus}
 use borrow.Author.Needs.{needs}
 use Rattle.zibrotka.proofs.refused.Statement.{statement}
 use Rattle.zibrotka.proofs.refused.Tie as tie
@@ -19,7 +20,7 @@ sub-result c = rw (minus (c .args .number) (omega arith)) (sfits-of (small-mag (
 
 -- src/lib.rt:13:1
 returns : tie.Need-returns
-returns c = rw (minus (c .args .number) (omega arith)) (seen (negℤ (pos (c .args .number))) (small-mag (c .args .number) (omega arith)))
+returns c = rw (minus (c .args .number) (omega arith)) (back64 (negℤ (pos (c .args .number))) (small-mag (c .args .number) (omega arith)))
 
 pub refused-spec : {M : Type 1} → statement M
 refused-spec = tie.close (tie.spec cast-result sub-result returns)

@@ -1,7 +1,7 @@
 use mathlib.Core.Path.{_≡_, sym, ap, _∙_}
 use borrow.Author.Tests.{eq-eqb, ne-eqb}
 use Rattle.zibrotka.specs.Exports.{signedOf}
-use Rattle.zibrotka.proofs.Signs.{seen}
+use Rattle.mathematics.proofs.Signed.{back64}
 use borrow.Author.Needs.{needs}
 use Rattle.zibrotka.proofs.signed.Statement.{statement}
 use Rattle.zibrotka.proofs.signed.Tie as tie
@@ -17,7 +17,7 @@ refused-requires c κs = search needs
 -- src/lib.rt:49:9
 returns : tie.Need-returns
 unfolding signedOf
-returns c = rw (ne-eqb _ _ (c .before .if1 .taken)) (seen _ (c .refused .ok) ∙ c .refused .ensures)
+returns c = rw (ne-eqb _ _ (c .before .if1 .taken)) (back64 _ (c .refused .ok) ∙ c .refused .ensures)
 
 -- src/lib.rt:51:5
 value-requires : tie.Need-value-requires
@@ -26,7 +26,7 @@ value-requires c κs = search needs
 -- src/lib.rt:43:1
 returns-2 : tie.Need-returns-2
 unfolding signedOf
-returns-2 c = rw (eq-eqb _ _ (c .before .if1 .left)) (seen _ (c .value .ok) ∙ c .value .ensures)
+returns-2 c = rw (eq-eqb _ _ (c .before .if1 .left)) (back64 _ (c .value .ok) ∙ c .value .ensures)
 
 pub signed-spec : {M : Type 1} → statement M
 signed-spec = tie.close (tie.spec refused-requires returns value-requires returns-2)

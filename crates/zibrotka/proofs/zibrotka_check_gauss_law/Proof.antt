@@ -1,7 +1,7 @@
 use mathlib.Core.Path.{_≡_, sym, ap, _∙_}
 use Rattle.complex.specs.Complex.{complexOf}
 use Rattle.sheet.specs.Sheet.{sheetIn, reading-refusal}
-use Rattle.zibrotka.proofs.Signs.{seen}
+use Rattle.mathematics.proofs.Signed.{back64}
 use Rattle.zibrotka.proofs.Answers.{law-refused, law-told, law-few}
 use borrow.Author.Needs.{needs}
 use Rattle.zibrotka.proofs.zibrotka_check_gauss_law.Statement.{statement}
@@ -30,7 +30,7 @@ complex-at c = ap (λ s. complexOf (s .complex)) (c .before .open .ensures .hold
 
 -- src/lib.rt:269:9
 returns : tie.Need-returns
-returns c = law-refused _ _ _ (c .before .before .open .ensures .number) (c .before .if1 .taken) _ (seen _ (c .refused .ok) ∙ c .refused .ensures)
+returns c = law-refused _ _ _ (c .before .before .open .ensures .number) (c .before .if1 .taken) _ (back64 _ (c .refused .ok) ∙ c .refused .ensures)
 
 -- src/lib.rt:272:21
 check-gauss-law-requires : tie.Need-check-gauss-law-requires
@@ -52,7 +52,7 @@ returns-2 : tie.Need-returns-2
 returns-2 c =
     let t = c .before .before in
     let e = t .before .before in
-    law-told _ _ (none e) _ (complex-at e) _ (t .check-gauss-law .ensures) _ (c .before .told-law .ensures) _ (seen _ (c .signed .ok) ∙ c .signed .ensures)
+    law-told _ _ (none e) _ (complex-at e) _ (t .check-gauss-law .ensures) _ (c .before .told-law .ensures) _ (back64 _ (c .signed .ok) ∙ c .signed .ensures)
 
 pub zibrotka-check-gauss-law-spec : {M : Type 1} → statement M
 zibrotka-check-gauss-law-spec =

@@ -1,5 +1,5 @@
 use mathlib.Core.Path.{_≡_, sym, ap, _∙_}
-use Rattle.zibrotka.proofs.Signs.{seen}
+use Rattle.mathematics.proofs.Signed.{back64}
 use Rattle.zibrotka.proofs.Answers.{no-complex, few-edges, complex-told}
 use borrow.Author.Needs.{needs}
 use Rattle.zibrotka.proofs.zibrotka_from_pentachorons.Statement.{statement}
@@ -35,7 +35,7 @@ same-length-2 c = search needs
 returns : tie.Need-returns
 returns c =
     let f = c .before .before in
-    no-complex _ _ _ _ _ _ _ _ (f .before .before .before .before .before .from-pentachorons .ensures) _ (f .numbers-of .ensures) (c .before .if1 .taken) _ (seen _ (c .refused .ok) ∙ c .refused .ensures)
+    no-complex _ _ _ _ _ _ _ _ (f .before .before .before .before .before .from-pentachorons .ensures) _ (f .numbers-of .ensures) (c .before .if1 .taken) _ (back64 _ (c .refused .ok) ∙ c .refused .ensures)
 
 -- src/lib.rt:244:5
 value-requires : tie.Need-value-requires
@@ -55,7 +55,7 @@ same-length-4 c = search needs
 returns-2 : tie.Need-returns-2
 returns-2 c =
     let f = c .before .before in
-    complex-told _ _ _ _ _ _ _ _ (f .before .before .before .before .before .from-pentachorons .ensures) _ (f .numbers-of .ensures) (c .before .if1 .left) _ (seen _ (c .value .ok) ∙ c .value .ensures)
+    complex-told _ _ _ _ _ _ _ _ (f .before .before .before .before .before .from-pentachorons .ensures) _ (f .numbers-of .ensures) (c .before .if1 .left) _ (back64 _ (c .value .ok) ∙ c .value .ensures)
 
 pub zibrotka-from-pentachorons-spec : {M : Type 1} → statement M
 zibrotka-from-pentachorons-spec =

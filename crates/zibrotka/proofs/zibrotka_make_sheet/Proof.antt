@@ -2,7 +2,8 @@ use mathlib.Core.Path.{_≡_, sym, ap, _∙_}
 use native.Mathlib.Omega.{arith}
 use Prim.Native.Nat.{_<_, _^_}
 use Rattle.zibrotka.specs.Exports.{signed}
-use Rattle.zibrotka.proofs.Signs.{seen, signed-told}
+use Rattle.mathematics.proofs.Signed.{back64}
+use Rattle.zibrotka.proofs.Signs.{signed-told}
 use Rattle.zibrotka.proofs.Answers.{made-few}
 use borrow.Author.Needs.{needs}
 use Rattle.zibrotka.proofs.zibrotka_make_sheet.Statement.{statement}
@@ -34,7 +35,7 @@ same-length c = search needs
 returns : tie.Need-returns
 returns c =
     let m = c .before .before .before .before .make-sheet .ensures in
-    record { answer = seen _ (c .signed .ok) ∙ c .signed .ensures ∙ signed-told _ _ _ _ (c .before .told-written .ensures) (m .answer); bytes = m .bytes }
+    record { answer = back64 _ (c .signed .ok) ∙ c .signed .ensures ∙ signed-told _ _ _ _ (c .before .told-written .ensures) (m .answer); bytes = m .bytes }
 
 pub zibrotka-make-sheet-spec : {M : Type 1} → statement M
 zibrotka-make-sheet-spec =

@@ -1,5 +1,5 @@
 use mathlib.Core.Path.{_≡_, sym, ap, _∙_}
-use Rattle.zibrotka.proofs.Signs.{seen}
+use Rattle.mathematics.proofs.Signed.{back64}
 use Rattle.zibrotka.proofs.Answers.{refused-read, accepted-read}
 use borrow.Author.Needs.{needs}
 use Rattle.zibrotka.proofs.zibrotka_read_sheet.Statement.{statement}
@@ -19,7 +19,7 @@ refused-requires c κs = search needs
 
 -- src/lib.rt:141:9
 returns : tie.Need-returns
-returns c = refused-read _ _ _ _ _ _ _ _ (c .before .before .open .ensures .number) (c .before .if1 .taken) _ (seen _ (c .refused .ok) ∙ c .refused .ensures)
+returns c = refused-read _ _ _ _ _ _ _ _ (c .before .before .open .ensures .number) (c .before .if1 .taken) _ (back64 _ (c .refused .ok) ∙ c .refused .ensures)
 
 -- src/lib.rt:126:1
 returns-2 : tie.Need-returns-2

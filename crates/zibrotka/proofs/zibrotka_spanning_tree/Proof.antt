@@ -1,7 +1,7 @@
 use mathlib.Core.Path.{_≡_, sym, ap, _∙_}
 use Rattle.complex.specs.Complex.{complexOf}
 use Rattle.sheet.specs.Sheet.{sheetIn, reading-refusal}
-use Rattle.zibrotka.proofs.Signs.{seen}
+use Rattle.mathematics.proofs.Signed.{back64}
 use Rattle.zibrotka.proofs.Answers.{tree-refused, tree-told, tree-few}
 use borrow.Author.Needs.{needs}
 use Rattle.zibrotka.proofs.zibrotka_spanning_tree.Statement.{statement}
@@ -30,7 +30,7 @@ complex-at c = ap (λ s. complexOf (s .complex)) (c .before .open .ensures .hold
 
 -- src/lib.rt:255:9
 returns : tie.Need-returns
-returns c = tree-refused _ _ _ _ (c .before .before .open .ensures .number) (c .before .if1 .taken) _ (seen _ (c .refused .ok) ∙ c .refused .ensures)
+returns c = tree-refused _ _ _ _ (c .before .before .open .ensures .number) (c .before .if1 .taken) _ (back64 _ (c .refused .ok) ∙ c .refused .ensures)
 
 -- src/lib.rt:258:22
 spanning-tree-requires : tie.Need-spanning-tree-requires
@@ -60,7 +60,7 @@ returns-2 : tie.Need-returns-2
 returns-2 c =
     let t = c .before .before .before .before .before .before in
     let e = t .before .before .before .before in
-    tree-told _ _ _ (none e) _ (complex-at e) _ _ _ (t .spanning-tree .ensures) _ (c .before .told-tree .ensures) _ (seen _ (c .signed .ok) ∙ c .signed .ensures)
+    tree-told _ _ _ (none e) _ (complex-at e) _ _ _ (t .spanning-tree .ensures) _ (c .before .told-tree .ensures) _ (back64 _ (c .signed .ok) ∙ c .signed .ensures)
 
 pub zibrotka-spanning-tree-spec : {M : Type 1} → statement M
 zibrotka-spanning-tree-spec =

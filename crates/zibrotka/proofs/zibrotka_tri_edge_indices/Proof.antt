@@ -2,7 +2,7 @@ use mathlib.Core.Path.{_≡_, sym, ap, _∙_}
 use Rattle.complex.specs.Complex.{complexOf}
 use Rattle.complex.specs.Sides.{sidesAnswer, sidesOutcome}
 use Rattle.sheet.specs.Sheet.{sheetIn, reading-refusal}
-use Rattle.zibrotka.proofs.Signs.{seen}
+use Rattle.mathematics.proofs.Signed.{back64}
 use Rattle.zibrotka.proofs.Answers.{sheet-refused, triangle-told, edges-told}
 use borrow.Author.Needs.{needs}
 use Rattle.zibrotka.proofs.zibrotka_tri_edge_indices.Statement.{statement}
@@ -33,7 +33,7 @@ sides-at c =
 
 -- src/lib.rt:191:9
 returns : tie.Need-returns
-returns c = sheet-refused _ _ _ _ (c .before .before .open .ensures .number) (c .before .if1 .taken) _ (seen _ (c .refused .ok) ∙ c .refused .ensures)
+returns c = sheet-refused _ _ _ _ (c .before .before .open .ensures .number) (c .before .if1 .taken) _ (back64 _ (c .refused .ok) ∙ c .refused .ensures)
 
 -- src/lib.rt:194:26
 tri-edge-indices-requires : tie.Need-tri-edge-indices-requires
@@ -51,7 +51,7 @@ refused-requires-2 c κs = search needs
 returns-2 : tie.Need-returns-2
 returns-2 c =
     let f = c .before .before in
-    triangle-told _ _ _ (none (f .before .before .before)) _ (sides-at (f .before)) _ (f .edges-of .ensures) (c .before .if2 .taken) _ (seen _ (c .refused2 .ok) ∙ c .refused2 .ensures)
+    triangle-told _ _ _ (none (f .before .before .before)) _ (sides-at (f .before)) _ (f .edges-of .ensures) (c .before .if2 .taken) _ (back64 _ (c .refused2 .ok) ∙ c .refused2 .ensures)
 
 -- src/lib.rt:184:1
 returns-3 : tie.Need-returns-3
