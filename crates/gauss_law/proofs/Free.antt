@@ -3,6 +3,7 @@ use Prim.Native.Nat.{ℕ, _<_}
 use mathlib.Core.List.{List}
 use mathlib.Core.Bool.{not}
 use mathlib.Core.Path.{_≡_, sym, _∙_}
+use mathlib.Core.Logic.{_≢_}
 use native.Mathlib.Omega.{arith}
 use native.Mathlib.Decide.{decLt}
 use lib.Dec.{eqb}
@@ -11,7 +12,7 @@ use lib.ListN.{getD, length, List·getD-eq-default}
 use borrow.Author.Tests.{not-true}
 use Rattle.mathematics.specs.Lists.{listed}
 use Rattle.mathematics.specs.Counting.{below}
-use Rattle.mathematics.proofs.Ordered.{Each, Member, Ordered, each-to, keep-passes, keep-each, keep-ordered, keep-member}
+use Rattle.mathematics.proofs.Ordered.{Each, Member, Ordered, each-to, ordered-to, keep-passes, keep-each, keep-ordered, keep-member}
 use Rattle.mathematics.proofs.Below.{below-each, below-ordered, below-member, member-listed, not-listed, member-not-listed}
 use Rattle.complex.specs.Complex.{Complex}
 use Rattle.gauss_law.specs.Gauss.{gauss}
@@ -27,6 +28,12 @@ module _ (c : Complex) where
   pub free-rising : Ordered (λ d e. d < e) (free-edges c)
   unfolding free-edges
   free-rising = keep-ordered (λ e. not (listed eqb e (tree-edges c))) (below-ordered (length (c .edges)))
+
+  pub free-once : Ordered (λ d e. d ≢ e) (free-edges c)
+  free-once = ordered-to (λ d e a b h. apart d e h) free-below free-rising
+    where
+      apart : (d e : ℕ) → d < e → d ≢ e
+      apart d e h k = absurd (omega arith)
 
   pub free-not-tree : Each (λ e. Member e (tree-edges c) → ⊥) (free-edges c)
   unfolding free-edges

@@ -32,7 +32,7 @@ pick-here a v x h = rw (eq-eqb a v h)
 pub pick-elsewhere : (a v : ℕ) (x : ℤ) → a ≢ v → cond (eqb a v) x (pos 0) ≡ pos 0
 pick-elsewhere a v x h = rw (ne-eqb a v h)
 
-flow-zero : (e : Simplex) (v : ℕ) → flow e (pos 0) v ≡ pos 0
+pub flow-zero : (e : Simplex) (v : ℕ) → flow e (pos 0) v ≡ pos 0
 unfolding flow
 flow-zero e v = go (eqb (end e) v) (eqb (start e) v)
   where

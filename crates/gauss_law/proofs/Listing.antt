@@ -22,25 +22,25 @@ use Rattle.gauss_law.specs.Gauss.{gauss, Lawful, lawful, State}
 use Rattle.gauss_law.specs.Listing.{tree-edges, free-edges, values, placed, listing, Free, Before, Complete}
 use Rattle.gauss_law.proofs.Gauss.{lawful-true, true-lawful}
 use Rattle.gauss_law.proofs.Tree.{Solvable}
-use Rattle.gauss_law.proofs.Free.{free-below, free-rising, free-not-tree, not-tree-free, determined}
+use Rattle.gauss_law.proofs.Free.{free-below, free-rising, free-once, free-not-tree, not-tree-free, determined}
 
 -- ---- the values -L to L
 shifted : (L d : ℕ) → d < 2 * L + 1 → natAbs (pos d -ℤ pos L) ≤ L
 unfolding positive negative
 shifted L d h = omega (arith, parts-size (pos d -ℤ pos L), one-part (pos d -ℤ pos L), parts (the (pos d) ⊟ the (pos L)))
 
-values-within : (L : ℕ) → Each (λ x. natAbs x ≤ L) (values L)
+pub values-within : (L : ℕ) → Each (λ x. natAbs x ≤ L) (values L)
 unfolding values
 values-within L = each-map (λ d. pos d -ℤ pos L) (each-to (λ d h. shifted L d h) (below-each (2 * L + 1)))
 
-values-ordered : (L : ℕ) → Ordered _<ℤ_ (values L)
+pub values-ordered : (L : ℕ) → Ordered _<ℤ_ (values L)
 unfolding values positive negative
 values-ordered L =
     ordered-map (λ d. pos d -ℤ pos L)
     (ordered-to (λ d e a b h. less-by-parts (pos d -ℤ pos L) (pos e -ℤ pos L) (omega (arith, parts (the (pos d) ⊟ the (pos L)), parts (the (pos e) ⊟ the (pos L)))))
     (below-each (2 * L + 1)) (below-ordered (2 * L + 1)))
 
-values-member : (L : ℕ) (x : ℤ) → natAbs x ≤ L → Member x (values L)
+pub values-member : (L : ℕ) (x : ℤ) → natAbs x ≤ L → Member x (values L)
 unfolding values positive negative
 values-member L x h =
     let d = (positive x + L) - negative x in
@@ -67,11 +67,8 @@ module _ (c : Complex) (tree : Solvable (c .edges) (c .vertices) (tree-edges c))
 
   ranked-once : Ordered (λ d e. d ≢ e) (ranked c)
   ranked-once =
-      ordered-append (tree .once) (ordered-to (λ d e a b h. apart d e h) (free-below c) (free-rising c))
+      ordered-append (tree .once) (free-once c)
       (at-each 0 (tree-edges c) (λ i h. each-to (λ e f k. f (rw k at (place-member 0 (tree-edges c) i h))) (free-not-tree c)))
-    where
-      apart : (d e : ℕ) → d < e → d ≢ e
-      apart d e h k = absurd (omega arith)
 
   ranked-below : Each (λ e. e < length (c .edges)) (ranked c)
   ranked-below = each-append (tree .numbered) (free-below c)
@@ -107,7 +104,7 @@ module _ (c : Complex) (tree : Solvable (c .edges) (c .vertices) (tree-edges c))
       each e (k, b, f) =
           rw (← f) (placed-at (digits c s) (digits-length s) k (omega (arith, ranked-length)) ∙ map-at (λ e. getD s e (pos 0)) (ranked c) k 0 (pos 0) b)
 
-  free-place : (e : ℕ) → Free c e → (m : ℕ) × (m < length (free-edges c)) × (getD (free-edges c) m 0 ≡ e)
+  pub free-place : (e : ℕ) → Free c e → (m : ℕ) × (m < length (free-edges c)) × (getD (free-edges c) m 0 ≡ e)
   free-place e f = member-place 0 (listed-member e (free-edges c) f)
 
   -- the free edges stand past the tree edges
@@ -118,7 +115,7 @@ module _ (c : Complex) (tree : Solvable (c .edges) (c .vertices) (tree-edges c))
   edges-split = sym (length-append (tree-edges c) (free-edges c)) ∙ ranked-length
 
   -- of two free edges the lower stands earlier
-  earlier : (i m : ℕ) → i < length (free-edges c) → m < length (free-edges c) → getD (free-edges c) i 0 < getD (free-edges c) m 0 → i < m
+  pub earlier : (i m : ℕ) → i < length (free-edges c) → m < length (free-edges c) → getD (free-edges c) i 0 < getD (free-edges c) m 0 → i < m
   earlier i m a b h = go (decLt i m) (decLt m i)
     where
       go : Dec (i < m) → Dec (m < i) → i < m

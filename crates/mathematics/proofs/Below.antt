@@ -110,7 +110,7 @@ place-at d {l} h i k =
     same-place d h (place eqb (getD l i d) l) i (r .0) k (r .1)
 
 -- ---- the numbers below n that pass a test, and those that are not listed
-keep-append : {A : Type 0} (p : A → Bool) (l m : List A) → keep p (l ++ m) ≡ keep p l ++ keep p m
+pub keep-append : {A : Type 0} (p : A → Bool) (l m : List A) → keep p (l ++ m) ≡ keep p l ++ keep p m
 unfolding keep
 keep-append p [] m = refl
 keep-append p (x ∷ l) m = go (p x) (keep-append p l m)

@@ -1,13 +1,13 @@
 -- Whole numbers for `omega`: each through its positive and its negative part, two natural numbers of which one is 0.
-use Prim.Native.Nat.{ℕ, zero, suc, _+_, _-_, _<_, min}
+use Prim.Native.Nat.{ℕ, zero, suc, _+_, _-_, _<_, _≤_, min}
 use mathlib.Core.Bool.{Bool, true, false, cond, false≢true}
 use mathlib.Core.Path.{_≡_, refl, sym, _∙_, ap}
 use mathlib.Core.Logic.{_≢_}
 use native.Mathlib.Omega.{arith}
 use lib.Dec.{ltb, ltb→lt, lt→ltb}
 use lib.IntN.{ℤ, pos, negsuc, _+ℤ_, _-ℤ_, _*ℤ_, negℤ, subℕ, natAbs, sucℤ, predℤ, +ℤ-idl, +ℤ-invr, sucℤ-+ℤ, predℤ-+ℤ, sucℤ-*ℤ, predℤ-*ℤ, zero-*ℤ, *ℤ-zero, *ℤ-comm}
-use lib.Signed.{_<ℤ_}
-use borrow.Author.Tests.{ltb-true, ltb-false, eqb-true, eq-eqb}
+use lib.Signed.{ltZ, _<ℤ_}
+use borrow.Author.Tests.{ltb-true, ltb-false, lt-ltb, le-ltb, eqb-true, eq-eqb}
 use Rattle.mathematics.specs.Integers.{equal}
 
 cond-cases : {A : Type 0} (b : Bool) (x y : A) (P : A → Type 0) → (b ≡ true → P x) → (b ≡ false → P y) → P (cond b x y)
@@ -134,6 +134,35 @@ less-trans x y z h k = less-by-parts x z (omega (arith, less-to-parts x y h, les
 
 pub less-apart : (x y : ℤ) → x <ℤ y → x ≢ y
 less-apart x y h e = omega (arith, less-to-parts x y h, to-parts x y e)
+
+-- ---- the test of order
+pub less-test : (x y : ℤ) → positive x + negative y < positive y + negative x → ltZ x y ≡ true
+unfolding positive negative
+less-test (pos a) (pos b) h = lt-ltb a b (omega arith)
+less-test (pos a) (negsuc b) h = absurd (omega arith)
+less-test (negsuc a) (pos b) h = refl
+less-test (negsuc a) (negsuc b) h = lt-ltb b a (omega arith)
+
+pub not-less-test : (x y : ℤ) → positive y + negative x ≤ positive x + negative y → ltZ x y ≡ false
+unfolding positive negative
+not-less-test (pos a) (pos b) h = le-ltb a b (omega arith)
+not-less-test (pos a) (negsuc b) h = refl
+not-less-test (negsuc a) (pos b) h = absurd (omega arith)
+not-less-test (negsuc a) (negsuc b) h = le-ltb b a (omega arith)
+
+pub test-less : (x y : ℤ) → ltZ x y ≡ true → positive x + negative y < positive y + negative x
+unfolding positive negative
+test-less (pos a) (pos b) h = omega (arith, ltb-true a b h)
+test-less (pos a) (negsuc b) h = absurd (false≢true h)
+test-less (negsuc a) (pos b) h = omega arith
+test-less (negsuc a) (negsuc b) h = omega (arith, ltb-true b a h)
+
+pub test-not-less : (x y : ℤ) → ltZ x y ≡ false → positive y + negative x ≤ positive x + negative y
+unfolding positive negative
+test-not-less (pos a) (pos b) h = omega (arith, ltb-false a b h)
+test-not-less (pos a) (negsuc b) h = omega arith
+test-not-less (negsuc a) (pos b) h = absurd (false≢true (sym h))
+test-not-less (negsuc a) (negsuc b) h = omega (arith, ltb-false b a h)
 
 -- ---- the test of equality
 pub equal-true : (a b : ℤ) → equal a b ≡ true → a ≡ b

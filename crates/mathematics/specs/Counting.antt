@@ -17,3 +17,8 @@ keep p (x ∷ l) = cond (p x) (x ∷ keep p l) (keep p l)
 unfoldable pub counted : {A : Type 0} → List A → ℕ → List (List A)
 counted digits zero = [] ∷ []
 counted digits (suc n) = flatMap (λ rest. map (λ d. d ∷ rest) digits) (counted digits n)
+
+-- f applied k times
+unfoldable pub applied : {A : Type 0} → (A → A) → ℕ → A → A
+applied f zero x = x
+applied f (suc k) x = f (applied f k x)

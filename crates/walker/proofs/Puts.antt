@@ -1,0 +1,97 @@
+-- A list written over another from a place on, and lists joined one after the other.
+use Prim.Native.Nat.{ℕ, zero, suc, _+_, _-_, _*_, _≤_, _<_}
+use mathlib.Core.List.{List, [], _∷_, _++_, map, map-append, flatten, append-nil, append-assoc}
+use mathlib.Core.Path.{_≡_, refl, sym, _∙_, ap}
+use native.Mathlib.Omega.{arith}
+use native.Mathlib.Nat.{add-zero, zero-add, mul-le-mul-right}
+use native.Mathlib.Numerals.{add-one}
+use lib.IntN.{ℤ, pos}
+use lib.ListN.{length, take, drop, length-append, length-map, take-append-drop}
+use lib.Seq.{paste, length-paste, length-paste-head, take-length, take-at, drop-at, drop-drop}
+use Rattle.mathematics.specs.Counting.{below}
+use Rattle.mathematics.proofs.Below.{length-below}
+use Rattle.walker.specs.Cycles.{added}
+use Rattle.walker.specs.Walker.{rows}
+use Rattle.walker.specs.Blocks.{put}
+use Rattle.walker.proofs.Adding.{added-length}
+
+module _ {A : Type 0} (d : List A) (at : ℕ) where
+  pub paste-put : (s : List A) → paste d at s (length s) ≡ put d at s
+  unfolding put
+  paste-put s = rw (take-length s)
+
+  pub put-none : put d at [] ≡ d
+  unfolding put
+  put-none = rw (add-zero at, append-nil (take at d)) (take-append-drop at d)
+
+  pub put-length : (s : List A) → at + length s ≤ length d → length (put d at s) ≡ length d
+  put-length s room = sym (ap length (paste-put s)) ∙ length-paste d at s (length s) room (omega arith)
+
+  -- one list after the other
+  pub put-more : (s t : List A) → (at + length s) + length t ≤ length d → put (put d at s) (at + length s) t ≡ put d at (s ++ t)
+  unfolding put
+  put-more s t room =
+      let head : length (take at d ++ s) ≡ at + length s = (rw (take-length s) at (length-paste-head d at s (length s) (omega arith) (omega arith))) in
+      let e : at + length (s ++ t) ≡ (at + length s) + length t = rw (length-append s t) (omega arith) in
+      let front : take (at + length s) (take at d ++ s ++ drop (at + length s) d) ≡ take at d ++ s = take-at (take at d ++ s) (drop (at + length s) d) (at + length s) head in
+      let behind : drop ((at + length s) + length t) (take at d ++ s ++ drop (at + length s) d) ≡ drop ((at + length s) + length t) d =
+      sym (drop-drop (length t) (at + length s) (take at d ++ s ++ drop (at + length s) d))
+      ∙ ap (drop (length t)) (drop-at (take at d ++ s) (drop (at + length s) d) (at + length s) head)
+      ∙ drop-drop (length t) (at + length s) d in
+      rw (front, behind, e, append-assoc (take at d) s t)
+
+pub put-front : {A : Type 0} (d s : List A) → put d 0 s ≡ s ++ drop (length s) d
+unfolding put
+put-front d s = rw (zero-add (length s))
+
+-- ---- lists joined
+pub flatten-append : {A : Type 0} (l m : List (List A)) → flatten (l ++ m) ≡ flatten l ++ flatten m
+unfolding flatten
+flatten-append [] m = refl
+flatten-append (x ∷ l) m = rw (flatten-append l m) (sym (append-assoc x (flatten l) (flatten m)))
+
+pub flatten-last : {A : Type 0} (l : List (List A)) (x : List A) → flatten (l ++ (x ∷ [])) ≡ flatten l ++ x
+unfolding flatten
+flatten-last l x = flatten-append l (x ∷ []) ∙ ap (λ m. flatten l ++ m) (append-nil x)
+
+-- ---- the rows of a block
+module _ (s z : List ℤ) (from : ℕ) where
+  pub rows-none : (to : ℕ) → to - from ≡ 0 → rows s z from to ≡ []
+  unfolding rows below
+  rows-none to h = rw h
+
+  pub rows-same : (to to′ : ℕ) → to - from ≡ to′ - from → rows s z from to ≡ rows s z from to′
+  unfolding rows
+  rows-same to to′ h = rw h
+
+  pub rows-more : (d : ℕ) → from ≤ d → rows s z from (d + 1) ≡ rows s z from d ++ (added s (pos d) z ∷ [])
+  unfolding rows below
+  rows-more d h =
+      let e : d + 1 - from ≡ suc (d - from) = omega arith in
+      let f : from + (d - from) ≡ d = omega arith in
+      rw (e, map-append (λ i. added s (pos (from + i)) z) (below (d - from)) ((d - from) ∷ []), f)
+
+  pub rows-length : (to : ℕ) → length (rows s z from to) ≡ to - from
+  unfolding rows
+  rows-length to = length-map (below (to - from)) (λ i. added s (pos (from + i)) z) ∙ length-below (to - from)
+
+  pub rows-long : (to : ℕ) → length (flatten (rows s z from to)) ≡ (to - from) * length s
+  unfolding rows below flatten
+  rows-long to = go (to - from)
+    where
+      go : (n : ℕ) → length (flatten (map (λ i. added s (pos (from + i)) z) (below n))) ≡ n * length s
+      go zero = omega arith
+      go (suc n) =
+          let f : ℕ → List ℤ = λ i. added s (pos (from + i)) z in
+          rw (map-append f (below n) (n ∷ []), flatten-last (map f (below n)) (f n), length-append (flatten (map f (below n))) (f n), go n, added-length s (pos (from + n)) z) (omega arith)
+
+-- one row more has room
+pub row-room : (from d to m : ℕ) → from ≤ d → d < to → (d - from) * m + m ≤ (to - from) * m
+row-room from d to m h k =
+    let l : suc (d - from) ≤ to - from = omega arith in
+    omega (arith, mul-le-mul-right m l)
+
+pub row-after : (from d m : ℕ) → from ≤ d → (d + 1 - from) * m ≡ (d - from) * m + m
+row-after from d m h =
+    let e : d + 1 - from ≡ suc (d - from) = omega arith in
+    rw e (omega arith)

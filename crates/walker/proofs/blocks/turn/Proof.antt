@@ -1,0 +1,32 @@
+use mathlib.Core.Path.{_≡_, ap₂, _∙_}
+use native.Mathlib.Omega.{arith}
+use lib.IntN.{_*ℤ_, natAbs, *ℤ-comm}
+use mir.Syntax.{w32}
+use mir.Val.{toZ, ofZ}
+use mir.Facts.{toZ-ofZ}
+use Rattle.mathematics.proofs.Signed.{back32, size-fits}
+use Rattle.walker.proofs.Signs.{back8, size-sign}
+use borrow.Author.Needs.{needs}
+use Rattle.walker.proofs.blocks.turn.Statement.{statement}
+use Rattle.walker.proofs.blocks.turn.Tie as tie
+
+is : (c : tie.After-wide) → toZ w32 (ofZ w32 (c .wide .result)) *ℤ toZ w32 (ofZ w32 (c .before .args .x)) ≡ c .before .args .x *ℤ c .before .args .sign
+is c =
+    ap₂ _*ℤ_ (back32 (c .wide .result) (c .wide .ok) ∙ c .wide .ensures ∙ back8 (c .before .args .sign) (c .before .fits .sign .sfits)) (back32 (c .before .args .x) (c .before .fits .x .sfits))
+    ∙ *ℤ-comm (c .before .args .sign) (c .before .args .x)
+
+wide-requires : tie.Need-wide-requires
+wide-requires c κs = search needs
+
+mul-result : tie.Need-mul-result
+mul-result c =
+    let x = c .before .args .x in
+    let sign = c .before .args .sign in
+    let pre = c .before .pre in
+    rw (is c) (size-fits w32 (x *ℤ sign) (omega (arith, size-sign x sign (pre .0))))
+
+returns : tie.Need-returns
+returns c = toZ-ofZ (mul-result c) ∙ is c ∙ *ℤ-comm (c .before .args .x) (c .before .args .sign)
+
+pub turn-spec : {M : Type 1} → statement M
+turn-spec = tie.close (tie.spec wide-requires mul-result returns)

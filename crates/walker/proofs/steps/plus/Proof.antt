@@ -1,0 +1,38 @@
+use mathlib.Core.Path.{_≡_, ap₂, _∙_}
+use lib.IntN.{pos, _+ℤ_, _*ℤ_}
+use mir.Syntax.{w8, w32}
+use mir.Val.{toZ, ofZ}
+use mir.Facts.{toZ-ofZ}
+use Rattle.mathematics.proofs.Signed.{back32}
+use Rattle.walker.proofs.Signs.{back8, product-small, product-back, sum-small}
+use borrow.Author.Needs.{needs}
+use Rattle.walker.proofs.steps.plus.Statement.{statement}
+use Rattle.walker.proofs.steps.plus.Tie as tie
+
+product : (c : tie.After-wide) → toZ w32 (ofZ w32 (c .before .args .times)) *ℤ toZ w32 (ofZ w32 (c .wide .result)) ≡ c .before .args .times *ℤ c .before .args .sign
+product c =
+    ap₂ _*ℤ_ (back32 (c .before .args .times) (c .before .fits .times .sfits))
+    (back32 (c .wide .result) (c .wide .ok) ∙ c .wide .ensures ∙ back8 (c .before .args .sign) (c .before .fits .sign .sfits))
+
+wide-requires : tie.Need-wide-requires
+wide-requires c κs = search needs
+
+mul-result : tie.Need-mul-result
+mul-result c =
+    let start = c .before in
+    rw (product c) (product-small (start .args .x) (start .args .times) (start .args .sign) (start .pre .0) (start .pre .1) (start .pre .2))
+
+add-result : tie.Need-add-result
+add-result c =
+    let start = c .before in
+    rw (product c, product-back (start .args .x) (start .args .times) (start .args .sign) (start .pre .0) (start .pre .1) (start .pre .2), back32 (start .args .x) (start .fits .x .sfits))
+    (sum-small (start .args .x) (start .args .times) (start .args .sign) (start .pre .0) (start .pre .1) (start .pre .2))
+
+returns : tie.Need-returns
+returns c =
+    let start = c .before in
+    toZ-ofZ (add-result c)
+    ∙ rw (product c, product-back (start .args .x) (start .args .times) (start .args .sign) (start .pre .0) (start .pre .1) (start .pre .2), back32 (start .args .x) (start .fits .x .sfits))
+
+pub plus-spec : {M : Type 1} → statement M
+plus-spec = tie.close (tie.spec wide-requires mul-result add-result returns)

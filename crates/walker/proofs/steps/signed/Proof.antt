@@ -1,0 +1,17 @@
+use lib.IntN.{pos}
+use mir.Syntax.{w32}
+use native.Mathlib.Omega.{arith}
+use Rattle.mathematics.proofs.Signed.{size-fits}
+use Rattle.walker.proofs.Signs.{small-back}
+use borrow.Author.Needs.{needs}
+use Rattle.walker.proofs.steps.signed.Statement.{statement}
+use Rattle.walker.proofs.steps.signed.Tie as tie
+
+cast-result : tie.Need-cast-result
+cast-result c = size-fits w32 (pos (c .args .x)) (omega (arith, c .pre))
+
+returns : tie.Need-returns
+returns c = small-back (pos (c .args .x)) (omega (arith, c .pre))
+
+pub signed-spec : {M : Type 1} → statement M
+signed-spec = tie.close (tie.spec cast-result returns)

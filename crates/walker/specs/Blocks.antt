@@ -1,0 +1,27 @@
+-- The interval of a block, as the code keeps it.
+use Prim.Native.Nat.{ℕ, _+_, min, max}
+use mathlib.Core.List.{List, _++_, flatten}
+use mathlib.Core.Path.{_≡_}
+use lib.IntN.{ℤ}
+use lib.ListN.{length, take, drop}
+use Rattle.walker.specs.declared.blocks.Span.{Span}
+use Rattle.walker.specs.Walker.{entry-start, entry-stop, start, stop}
+
+-- a span narrowed by one entry x and its sign s
+pub record Narrowed (L n : ℕ) (x s : ℤ) (old new : Span) : Type 0 where
+  pub from : new .from ≡ max (old .from) (entry-start L n x s)
+  pub to : new .to ≡ min (old .to) (entry-stop L n x s)
+
+-- the span of a block, by its first m entries
+pub record Spans (L n : ℕ) (s z : List ℤ) (m : ℕ) (r : Span) : Type 0 where
+  pub from : r .from ≡ start L n s z m
+  pub to : r .to ≡ stop L n s z m
+
+-- s written over a list from a place on
+unfoldable pub put : {A : Type 0} → List A → ℕ → List A → List A
+put d at s = take at d ++ s ++ drop (at + length s) d
+
+-- the states are counted, and written over the beginning of a list
+pub record Written (states : List (List ℤ)) (old new : List ℤ) (r : ℕ) : Type 0 where
+  pub count : r ≡ length states
+  pub list : new ≡ put old 0 (flatten states)

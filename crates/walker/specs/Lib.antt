@@ -1,0 +1,6 @@
+pub mod Cycles
+pub mod Walker
+pub mod Steps
+pub mod Blocks
+pub mod Tables
+pub mod Enumeration

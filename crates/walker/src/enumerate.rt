@@ -1,0 +1,92 @@
+// The list of all states of a complex.
+use crate::states::width;
+use crate::tables::Walker;
+use crate::tables::count_states;
+use crate::tables::prepare;
+use crate::tables::write_states;
+use complex::SimplicialComplex;
+use complex::judge::judge_truncated;
+ghost use mathlib.Core.Path.{_≡_};
+ghost use mathlib.Core.Bool.{cond};
+ghost use Prim.Native.Nat.{_+_, _*_, _-_, _^_, _≤_};
+ghost use lib.Dec.{ltb};
+ghost use lib.ListN.{length};
+ghost use Rattle.complex.specs.Complex.{complexOf};
+ghost use Rattle.walker.specs.Tables.{states-of, Fit};
+ghost use Rattle.walker.specs.Enumeration.{Limited, Listed};
+
+// One factor more, as long as the product is within the limit.
+fn grow(product: usize, factor: usize) -> usize
+    requires { ⌜ (product ≤ 1048576 * 2001) × (factor ≤ 2001) ⌝ }
+    ensures { λ r. ⌜ r ≡ cond (ltb 1048576 product) product (product * factor) ⌝ }
+{
+    if 1048576 < product {
+        return product;
+    }
+    product * factor
+}
+
+// A power, or any number above the limit where the power is above it.
+fn power(base: usize, exponent: usize) -> usize
+    requires { ⌜ (1 ≤ base) × (base ≤ 2001) ⌝ }
+    ensures { λ r. ⌜ Limited (base ^ exponent) r ⌝ }
+{
+    let mut product = 1;
+    for j in 0..exponent {
+        product = grow(product, base);
+    }
+    product
+}
+
+// The number of blocks, where all candidates are within the limit.
+pub fn count_of_blocks(n_free: usize, lambda: usize) -> usize
+    requires { ⌜ (lambda ≤ 1000) × ((2 * lambda + 1) ^ «n_free» ≤ 1048576) ⌝ }
+    ensures { λ r. ⌜ r ≡ (2 * lambda + 1) ^ («n_free» - 1) ⌝ }
+{
+    if n_free == 0 {
+        return 1;
+    }
+    power(2 * lambda + 1, n_free - 1)
+}
+
+// Whether a list of a length is too short for all states. They are counted only where it could be.
+fn too_short(w: Walker, lambda: usize, blocks: usize, room: usize) -> bool
+    requires { ⌜ Fit w lambda blocks ⌝ }
+    ensures { λ r. ⌜ r ≡ ltb room (length (states-of w lambda blocks) * w .«n_edges») ⌝ }
+{
+    let m = w.n_edges;
+    let candidates = blocks * width(w.n_free, lambda);
+    if candidates * m <= room {
+        return false;
+    }
+    room < count_states(w, lambda, blocks) * m
+}
+
+pub enum Enumerated {
+    States(usize),
+    Refused(u8),
+}
+
+// All states of a record within -lambda to lambda go to the beginning of the list. The record is judged first.
+pub fn enumerate_gauge_invariant(
+    c: SimplicialComplex,
+    lambda: usize,
+    states: &mut [i32],
+) -> Enumerated
+    ensures { λ r. ⌜ Listed (complexOf c) lambda (now (states .entry)) (now (states .exit)) r ⌝ }
+{
+    let number = judge_truncated(c, lambda);
+    if number != 0 {
+        return Enumerated::Refused(number);
+    }
+    let w = prepare(c);
+    let n_free = w.n_free;
+    if 1048576 < power(2 * lambda + 1, n_free) {
+        return Enumerated::Refused(10);
+    }
+    let blocks = count_of_blocks(n_free, lambda);
+    if too_short(w, lambda, blocks, states.len()) {
+        return Enumerated::Refused(15);
+    }
+    Enumerated::States(write_states(w, lambda, blocks, states))
+}

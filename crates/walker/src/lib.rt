@@ -1,0 +1,8 @@
+// The walk over all states of a complex, and the list that it gives.
+
+pub mod blocks;
+pub mod cycles;
+pub mod enumerate;
+pub mod states;
+pub mod steps;
+pub mod tables;

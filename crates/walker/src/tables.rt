@@ -1,0 +1,72 @@
+// The tables of a record, by which its states are walked.
+use crate::cycles::fundamental_cycles;
+use crate::cycles::tree_paths;
+use crate::states::count_blocks;
+use crate::states::write_blocks;
+use crate::steps::begin;
+use complex::SimplicialComplex;
+use complex::search::search;
+use gauss_law::spanning::free_edges;
+ghost use mathlib.Core.Path.{_≡_};
+ghost use Prim.Native.Nat.{_*_, _≤_};
+ghost use lib.ListN.{length};
+ghost use Rattle.complex.specs.Complex.{complexOf};
+ghost use Rattle.complex.specs.Judge.{refusal};
+ghost use Rattle.walker.specs.Tables.{Walks, states-of, Fit};
+ghost use Rattle.walker.specs.Blocks.{Written};
+
+// The first n_free entries of free are the free edges; row j of cycles is the cycle of the j-th.
+pub struct Walker {
+    pub n_edges: usize,
+    pub n_free: usize,
+    pub free: [u8; 63],
+    pub cycles: [i8; 3969],
+}
+
+// The tables of an accepted record.
+pub fn prepare(c: SimplicialComplex) -> Walker
+    requires { ⌜ refusal (complexOf c) ≡ 0 ⌝ }
+    ensures { λ r. ⌜ Walks (complexOf c) r ⌝ }
+{
+    let tree = search(&c.edges, c.n_vertices, c.n_edges);
+    let free = free_edges(c, tree);
+    let paths = tree_paths(c, tree);
+    let cycles = fundamental_cycles(c, &paths, free);
+    let list = free.list;
+    Walker {
+        n_edges: c.n_edges,
+        n_free: free.count,
+        free: list,
+        cycles: cycles,
+    }
+}
+
+// How many states the first blocks have.
+pub fn count_states(w: Walker, lambda: usize, blocks: usize) -> usize
+    requires { ⌜ Fit w lambda blocks ⌝ }
+    ensures { λ r. ⌜ r ≡ length (states-of w lambda blocks) ⌝ }
+{
+    let free = w.free;
+    let cycles = w.cycles;
+    let n_free = w.n_free;
+    let mut space = [0i32; 63];
+    let m = w.n_edges;
+    let config = &mut space[0..m];
+    begin(config, &cycles, n_free, lambda);
+    count_blocks(config, &free, n_free, &cycles, lambda, blocks)
+}
+
+// The states of the first blocks go to the beginning of a list. How many they are.
+pub fn write_states(w: Walker, lambda: usize, blocks: usize, states: &mut [i32]) -> usize
+    requires { ⌜ Fit w lambda blocks × (length (states-of w lambda blocks) * w .«n_edges» ≤ length (now states)) ⌝ }
+    ensures { λ r. ⌜ Written (states-of w lambda blocks) (now (states .entry)) (now (states .exit)) r ⌝ }
+{
+    let free = w.free;
+    let cycles = w.cycles;
+    let n_free = w.n_free;
+    let mut space = [0i32; 63];
+    let m = w.n_edges;
+    let config = &mut space[0..m];
+    begin(config, &cycles, n_free, lambda);
+    write_blocks(states, config, &free, n_free, &cycles, lambda, blocks)
+}
