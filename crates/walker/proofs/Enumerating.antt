@@ -14,26 +14,17 @@ use Rattle.mathematics.proofs.Refusals.{first-stops, first-goes-on, numbered, r
 use Rattle.complex.specs.declared.SimplicialComplex.{SimplicialComplex}
 use Rattle.complex.specs.Complex.{Complex, complexOf}
 use Rattle.complex.specs.Judge.{refusal, truncated-tests}
-use Rattle.complex.proofs.Judging.{with-truncation}
 use Rattle.gauss_law.specs.Listing.{free-edges, listing, Complete}
 use Rattle.gauss_law.proofs.Accepted.{listing-complete}
 use Rattle.walker.specs.declared.tables.Walker.{Walker}
 use Rattle.walker.specs.declared.enumerate.Enumerated.the-variants.{States, Refused}
+use Rattle.walker.specs.Walker.{width}
 use Rattle.walker.specs.Tables.{Walks, states-of, Fit}
 use Rattle.walker.specs.Blocks.{put, Written}
 use Rattle.walker.specs.Enumeration.{Limited, states, enumeratedAnswer, enumerated-refusal, Listed}
 use Rattle.walker.proofs.Puts.{put-front}
-use Rattle.walker.proofs.Limits.{power-above, power-within, power-less}
+use Rattle.walker.proofs.Limits.{power-above, power-less, states-within, all-candidates}
 use Rattle.walker.proofs.Fitting.{walks-fit, walks-states, states-of-long}
-
--- a record and a truncation that are not refused
-pub truncated-none : (c : SimplicialComplex) (L : ℕ) → first (truncated-tests (complexOf c) L) ≡ 0 → (refusal (complexOf c) ≡ 0) × (L ≤ 1000)
-truncated-none c L h = go (eqb (refusal (complexOf c)) 4) (ltb 1000 L) refl (sym (with-truncation c L) ∙ h)
-  where
-    go : (a b : Bool) → ltb 1000 L ≡ b → cond a 4 (cond b 5 (refusal (complexOf c))) ≡ 0 → (refusal (complexOf c) ≡ 0) × (L ≤ 1000)
-    go true b e k = absurd (omega arith)
-    go false true e k = absurd (omega arith)
-    go false false e k = (k, ltb-false 1000 L e)
 
 module _ (c : Complex) (L : ℕ) (old : List ℤ) where
   -- a refusal leaves the list
@@ -44,6 +35,7 @@ module _ (c : Complex) (L : ℕ) (old : List ℤ) where
         answer = rw e (refused-outcome k _ some);
         list = rw e (refused-kept k _ old some);
         complete = λ z. absurd (some (sym e ∙ z));
+        few = λ z. absurd (some (sym e ∙ z));
       }
 
   pub record-refused : (k : ℕ) → k ≡ first (truncated-tests c L) → (k ≡ 0 → ⊥) → Listed c L old old (Refused k)
@@ -77,6 +69,12 @@ module _ (c : Complex) (L : ℕ) (old : List ℤ) where
       unfolding states
       all-listed = listing-complete c (walks .accepted) (λ v. pos 0) L
 
+      few-states : length (states c L) ≤ 1048576
+      few-states =
+          let most : blocks * width L (w .«n_free») ≡ (2 * L + 1) ^ w .«n_free» = rw number (all-candidates L (w .«n_free»)) in
+          let all : length (states-of w L blocks) ≤ 1048576 = omega (arith, states-within w L blocks blocks-fit) in
+          rw states-are at all
+
       pub states-listed : ltb (length old) (length (states-of w L blocks) * w .«n_edges») ≡ false → (new : List ℤ) (r : ℕ) → Written (states-of w L blocks) old new r → Listed c L old new (States r)
       unfolding enumeratedAnswer outcome written
       states-listed e new r h =
@@ -86,4 +84,5 @@ module _ (c : Complex) (L : ℕ) (old : List ℤ) where
             answer = rw none-left (ap value (h .count ∙ ap length states-are));
             list = rw none-left (h .list ∙ ap (λ l. put old 0 (flatten l)) states-are ∙ put-front old (flatten (states c L)) ∙ ap (λ n. flatten (states c L) ++ drop n old) long);
             complete = λ z. all-listed;
+            few = λ z. few-states;
           }

@@ -77,3 +77,9 @@ module _ (b n p : ℕ) (h : Limited (b ^ n) p) where
 -- a lower power is no larger
 pub power-less : (L n : ℕ) → (2 * L + 1) ^ (n - 1) ≤ (2 * L + 1) ^ n
 power-less L n = pow-le-pow-right (omega arith) (omega arith)
+
+-- the candidates of all blocks are all candidates
+pub all-candidates : (L n : ℕ) → (2 * L + 1) ^ (n - 1) * width L n ≡ (2 * L + 1) ^ n
+unfolding width
+all-candidates L zero = let e : (2 * L + 1) ^ 0 * 1 ≡ (2 * L + 1) ^ 0 = omega arith in e
+all-candidates L (suc n) = let e : suc n - 1 ≡ n = omega arith in rw e (sym (pow-suc (2 * L + 1) n))

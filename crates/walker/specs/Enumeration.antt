@@ -32,8 +32,9 @@ unfoldable pub enumerated-refusal : Complex → ℕ → ℕ → ℕ
 enumerated-refusal c L room =
     first (truncated-tests c L ++ ((10, ltb 1048576 ((2 * L + 1) ^ length (free-edges c))) ∷ (15, ltb room (length (states c L) * length (c .edges))) ∷ []))
 
--- The number of states is told, and the list begins with them, state after state; it is complete.
+-- The number of states is told, and the list begins with them, state after state; it is complete, and no longer than the limit.
 pub record Listed (c : Complex) (L : ℕ) (old new : List ℤ) (r : Enumerated) : Type 0 where
   pub answer : enumeratedAnswer r ≡ outcome (enumerated-refusal c L (length old)) (length (states c L))
   pub list : new ≡ written (enumerated-refusal c L (length old)) (flatten (states c L) ++ drop (length (states c L) * length (c .edges)) old) old
   pub complete : enumerated-refusal c L (length old) ≡ 0 → Complete c (λ v. pos 0) L (states c L)
+  pub few : enumerated-refusal c L (length old) ≡ 0 → length (states c L) ≤ 1048576

@@ -7,7 +7,8 @@ use Rattle.complex.specs.Complex.{complexOf}
 use Rattle.complex.specs.Judge.{refusal, truncated-tests}
 use Rattle.walker.specs.Tables.{Fit}
 use Rattle.walker.proofs.Limits.{power-within}
-use Rattle.walker.proofs.Enumerating.{truncated-none, record-refused, candidates-refused, blocks-fit, room-refused, states-listed}
+use Rattle.complex.proofs.Judging.{truncated-passed}
+use Rattle.walker.proofs.Enumerating.{record-refused, candidates-refused, blocks-fit, room-refused, states-listed}
 use borrow.Author.Needs.{needs}
 use Rattle.walker.proofs.enumerate.enumerate_gauge_invariant.Statement.{statement}
 use Rattle.walker.proofs.enumerate.enumerate_gauge_invariant.Tie as tie
@@ -17,7 +18,7 @@ none : (c : tie.Else1) → first (truncated-tests (complexOf (c .before .before 
 none c = sym (c .before .judge-truncated .ensures) ∙ c .if1 .left
 
 accepted : (c : tie.Else1) → (refusal (complexOf (c .before .before .args .c)) ≡ 0) × (c .before .before .args .lambda ≤ 1000)
-accepted c = truncated-none (c .before .before .args .c) (c .before .before .args .lambda) (none c)
+accepted c = truncated-passed (c .before .before .args .c) (c .before .before .args .lambda) (none c)
 
 within : (c : tie.Else2) → (2 * c .before .before .before .before .before .args .lambda + 1) ^ c .before .before .prepare .result .«n_free» ≤ 1048576
 within c = power-within _ _ _ (c .before .power .ensures) (c .if2 .left)
