@@ -1,5 +1,5 @@
 -- What the exported functions tell, from what the entries answer.
-use Prim.Native.Nat.{ℕ, zero, suc, _<_, _≤_, _^_}
+use Prim.Native.Nat.{ℕ, zero, suc, _+_, _*_, _<_, _≤_, _^_}
 use mathlib.Core.List.{List, [], _∷_, _++_}
 use mathlib.Core.Path.{_≡_, refl, sym, ap, _∙_}
 use mathlib.Core.Bool.{Bool, not, _||_, cond}
@@ -33,12 +33,14 @@ use Rattle.gauss_law.specs.Gauss.{lawful}
 use Rattle.gauss_law.specs.Listing.{tree-edges, free-edges}
 use Rattle.gauss_law.specs.Spanning.{treeAnswer, tree-refusal, TreeTold}
 use Rattle.gauss_law.specs.Law.{lawAnswer, law-refusal, lawOutcome}
+use Rattle.walker.specs.declared.enumerate.Enumerated.{Enumerated}
+use Rattle.walker.specs.Enumeration.{states, enumeratedAnswer, enumerated-refusal, Listed as AllListed}
 use Rattle.zibrotka.specs.declared.Told.{Told}
 use Rattle.zibrotka.specs.declared.Edges.{Edges}
 use Rattle.zibrotka.specs.declared.Numbers.{Numbers}
-use Rattle.zibrotka.specs.Exports.{signed, toldOf, signedOf, yesOf, on-sheet, edgesOf, numbersOf, ReadSheet, triangle-refusal, EdgeIndices, Pentachora, tree-room, SpanningTree, GaussLaw}
+use Rattle.zibrotka.specs.Exports.{signed, toldOf, signedOf, yesOf, on-sheet, edgesOf, numbersOf, ReadSheet, triangle-refusal, EdgeIndices, Pentachora, tree-room, SpanningTree, GaussLaw, states-refusal, States}
 use Rattle.zibrotka.proofs.Signs.{refused-number, refused-some, value-none, signed-told, small-told, yes-outcome, yes-small, refused-signed, refused-kept}
-use Rattle.zibrotka.proofs.OnSheets.{sheet-stops, sheet-goes-on}
+use Rattle.zibrotka.proofs.OnSheets.{sheet-stops, sheet-goes-on, truncated-goes-on}
 
 -- ---- making
 pub made-few : (n : ℕ) (edges triangles : List ℕ) (lambda : ℕ) (before : List ℕ) (w : Written) (after : List ℕ) → Made n edges triangles lambda before w after → (t : Told) → t ≡ toldOf (writtenAnswer w) → t .value < 2 ^ 31
@@ -230,3 +232,45 @@ module _ (b : List ℕ) (s : List ℤ) where
 
     pub law-few : (t : Told) → t ≡ toldOf (yesOf (lawAnswer a)) → t .value < 2 ^ 31
     law-few t e = small-told t (yesOf (lawAnswer a)) _ _ e law-sheet (λ z. yes-small (lawful (complexOf (sheetIn b .complex)) (λ v. pos 0) s))
+
+-- ---- all states
+module _ (b : List ℕ) (old : List ℤ) where
+  c : Complex
+  c = complexOf (sheetIn b .complex)
+
+  L : ℕ
+  L = sheetIn b .lambda
+
+  own : List (ℕ × Bool)
+  own = (10, ltb 1048576 ((2 * L + 1) ^ length (free-edges c))) ∷ (15, ltb (length old) (length (states c L) * length (c .edges))) ∷ []
+
+  pub states-refused : (k : ℕ) → k ≡ reading-refusal b → (k ≡ 0 → ⊥) → (r : ℤ) → r ≡ negℤ (pos k) → States b old r old
+  unfolding states-refusal own c L
+  states-refused k h some r is =
+      let n : states-refusal b (length old) ≡ k = sheet-stops b own k h some in
+      record {
+        answer = refused-signed (states-refusal b (length old)) k _ r n some is;
+        list = refused-kept (states-refusal b (length old)) k _ old n some;
+        complete = λ z. absurd (some (sym n ∙ z));
+      }
+
+  same-states : reading-refusal b ≡ 0 → enumerated-refusal c L (length old) ≡ states-refusal b (length old)
+  unfolding enumerated-refusal states-refusal own c L
+  same-states h = truncated-goes-on b own h
+
+  module _ (h : reading-refusal b ≡ 0) (s : Sheet) (is : s ≡ sheetIn b) (a : Enumerated) (new : List ℤ) (told : AllListed (complexOf (s .complex)) (s .lambda) old new a) where
+    told-states : AllListed c L old new a
+    unfolding c L
+    told-states = rw is at told
+
+    pub states-told : (t : Told) → t ≡ toldOf (enumeratedAnswer a) → (r : ℤ) → r ≡ signedOf t → States b old r new
+    unfolding c L
+    states-told t e r d =
+        record {
+          answer = d ∙ signed-told t (enumeratedAnswer a) (states-refusal b (length old)) (length (states c L)) e (rw (same-states h) at (told-states .answer));
+          list = rw (same-states h) at (told-states .list);
+          complete = λ z. told-states .complete (same-states h ∙ z);
+        }
+
+    pub states-few : (t : Told) → t ≡ toldOf (enumeratedAnswer a) → t .value < 2 ^ 31
+    states-few t e = small-told t (enumeratedAnswer a) _ _ e (told-states .answer) (λ z. omega (arith, told-states .few z))

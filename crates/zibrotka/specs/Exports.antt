@@ -1,5 +1,5 @@
 -- What the exported functions answer: one signed number, the value or minus the refusal.
-use Prim.Native.Nat.{ℕ, _*_}
+use Prim.Native.Nat.{ℕ, _+_, _*_, _^_}
 use mathlib.Core.List.{List, [], _∷_, _++_, flatten}
 use mathlib.Core.Bool.{Bool, not, _||_, cond}
 use mathlib.Core.Path.{_≡_}
@@ -14,7 +14,8 @@ use Rattle.sheet.specs.declared.Reading.the-variants.{Accepted, Refused}
 use Rattle.pentachora.specs.declared.FromPentachorons.{FromPentachorons}
 use Rattle.pentachora.specs.declared.FromPentachorons.the-variants.{Counts, Refused as NoComplex}
 use Rattle.gauss_law.specs.Gauss.{lawful}
-use Rattle.gauss_law.specs.Listing.{tree-edges, free-edges}
+use Rattle.gauss_law.specs.Listing.{tree-edges, free-edges, Complete}
+use Rattle.walker.specs.Enumeration.{states}
 use Rattle.zibrotka.specs.declared.Told.{Told}
 use Rattle.zibrotka.specs.declared.Opened.{Opened}
 use Rattle.zibrotka.specs.declared.Edges.{Edges}
@@ -113,3 +114,17 @@ pub record SpanningTree (b tree free : List ℕ) (r : ℤ) (tree′ free′ : Li
 -- zibrotka_check_gauss_law: 12 for a configuration that is not as long as the list of edges
 pub record GaussLaw (b : List ℕ) (s : List ℤ) (r : ℤ) : Type 0 where
   pub answer : r ≡ signed (yesOf (outcome (on-sheet b ((12, not (eqb (length s) (length (complexOf (sheetIn b .complex) .edges)))) ∷ [])) (lawful (complexOf (sheetIn b .complex)) (λ v. pos 0) s)))
+
+-- 10 for too many candidates, 15 for a list that is too short
+unfoldable pub states-refusal : List ℕ → ℕ → ℕ
+states-refusal b room =
+    on-sheet b
+    ((10, ltb 1048576 ((2 * sheetIn b .lambda + 1) ^ length (free-edges (complexOf (sheetIn b .complex)))))
+    ∷ (15, ltb room (length (states (complexOf (sheetIn b .complex)) (sheetIn b .lambda)) * length (complexOf (sheetIn b .complex) .edges)))
+    ∷ [])
+
+-- zibrotka_enumerate_gauge_invariant: the list begins with all states, state after state
+pub record States (b : List ℕ) (old : List ℤ) (r : ℤ) (new : List ℤ) : Type 0 where
+  pub answer : r ≡ signed (outcome (states-refusal b (length old)) (length (states (complexOf (sheetIn b .complex)) (sheetIn b .lambda))))
+  pub list : new ≡ written (states-refusal b (length old)) (flatten (states (complexOf (sheetIn b .complex)) (sheetIn b .lambda)) ++ drop (length (states (complexOf (sheetIn b .complex)) (sheetIn b .lambda)) * length (complexOf (sheetIn b .complex) .edges)) old) old
+  pub complete : states-refusal b (length old) ≡ 0 → Complete (complexOf (sheetIn b .complex)) (λ v. pos 0) (sheetIn b .lambda) (states (complexOf (sheetIn b .complex)) (sheetIn b .lambda))

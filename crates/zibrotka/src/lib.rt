@@ -12,13 +12,16 @@ use sheet::Sheet;
 use sheet::Written;
 use sheet::make_sheet;
 use sheet::read_sheet;
+use walker::enumerate::Enumerated;
+use walker::enumerate::enumerate_gauge_invariant;
 ghost use mathlib.Core.Path.{_≡_};
 ghost use Prim.Native.Nat.{ℕ, _<_, _≤_, _^_};
 ghost use lib.IntN.{ℤ, pos, negℤ};
 ghost use Rattle.sheet.specs.Sheet.{writtenAnswer};
 ghost use Rattle.gauss_law.specs.Spanning.{treeAnswer};
 ghost use Rattle.gauss_law.specs.Law.{lawAnswer};
-ghost use Rattle.zibrotka.specs.Exports.{toldOf, signedOf, readingNumber, yesOf, OpenedOf, edgesOf, numbersOf, MakeSheet, ReadSheet, EdgeIndices, Pentachora, SpanningTree, GaussLaw};
+ghost use Rattle.walker.specs.Enumeration.{enumeratedAnswer};
+ghost use Rattle.zibrotka.specs.Exports.{toldOf, signedOf, readingNumber, yesOf, OpenedOf, edgesOf, numbersOf, MakeSheet, ReadSheet, EdgeIndices, Pentachora, SpanningTree, GaussLaw, States};
 
 // A value, or the refusal, which is not 0.
 pub struct Told {
@@ -90,6 +93,21 @@ fn told_law(answer: GaussCheck) -> Told
             value: yes as usize,
         },
         GaussCheck::Refused(number) => Told {
+            refusal: number,
+            value: 0,
+        },
+    }
+}
+
+fn told_states(answer: Enumerated) -> Told
+    ensures { λ r. ⌜ r ≡ toldOf (enumeratedAnswer answer) ⌝ }
+{
+    match answer {
+        Enumerated::States(count) => Told {
+            refusal: 0,
+            value: count,
+        },
+        Enumerated::Refused(number) => Told {
             refusal: number,
             value: 0,
         },
@@ -301,4 +319,18 @@ pub extern "C" fn zibrotka_check_gauss_law(sheet: &[u8], configuration: &[i32]) 
     }
     let s = opened.sheet;
     signed(told_law(check_gauss_law(s.complex, configuration)))
+}
+
+// All states of a sheet: their number.
+#[no_mangle]
+pub extern "C" fn zibrotka_enumerate_gauge_invariant(sheet: &[u8], states: &mut [i32]) -> i64
+    ensures { λ r. ⌜ States (now (sheet .entry)) (now (states .entry)) r (now (states .exit)) ⌝ }
+{
+    let opened = open(sheet);
+    let number = opened.refusal;
+    if number != 0 {
+        return refused(number);
+    }
+    let s = opened.sheet;
+    signed(told_states(enumerate_gauge_invariant(s.complex, s.lambda, states)))
 }
