@@ -80,6 +80,30 @@ int64_t zibrotka_from_pentachorons(uint64_t n_vertices,
                                    uint8_t *triangles, size_t triangles_len,
                                    uint64_t *n_triangles);
 
+/*
+ * The spanning tree of a sheet's complex, from vertex 0, first come first served, the edges at a vertex by rising number: V-1 tree edges
+ * in the order in which they are found go to the front of `tree`, all other edges by rising number to the front of `free_edges`. Answers
+ * the number of free edges, or minus one of 1 to 9 or 15 (either list too short).
+ */
+int64_t zibrotka_spanning_tree(const uint8_t *sheet, size_t sheet_len,
+                               uint32_t *tree, size_t tree_len,
+                               uint32_t *free_edges, size_t free_len);
+
+/*
+ * Whether a configuration, one value for each edge by number, obeys Gauss's law: at every vertex the values on the edges that end there
+ * add up to those on the edges that start there, an edge (a, b) going from a to b. Nothing wraps. Answers 1 or 0, or minus one of 1 to 9
+ * or 12 (not as many values as edges).
+ */
+int64_t zibrotka_check_gauss_law(const uint8_t *sheet, size_t sheet_len, const int32_t *configuration, size_t configuration_len);
+
+/*
+ * Lists every configuration with values from -L to L that obeys Gauss's law. Of two, the one with the smaller value on the
+ * highest-numbered free edge where they differ comes first. States times E values go to the front of `states`, state after state, each
+ * one's values by edge number. Answers the number of states, which is at least 1, or minus one of 1 to 9, 10 (2L+1 to the number of free
+ * edges is over 1,048,576) or 15 (fewer than states times E entries).
+ */
+int64_t zibrotka_enumerate_gauge_invariant(const uint8_t *sheet, size_t sheet_len, int32_t *states, size_t states_len);
+
 #ifdef __cplusplus
 }
 #endif

@@ -134,10 +134,102 @@ static int pentachora(void)
     return 0;
 }
 
+/* every entry of a list has one value */
+static int entries_are(const uint32_t *list, size_t len, uint32_t value)
+{
+    for (size_t i = 0; i < len; i++)
+        if (list[i] != value)
+            return 0;
+    return 1;
+}
+
+/* one vertex; four vertices with the edges (2,3) (0,2) (1,2) (0,1) in this order; two vertices apart; the square (0,1) (1,2) (2,3) (0,3) */
+static const uint8_t point_sheet[11] = {'G', 'L', 'S', 1, 0, 1, 0, 0, 0, 1, 0};
+static const uint8_t kite_sheet[19] = {'G', 'L', 'S', 1, 0, 4, 4, 0, 0, 1, 0, 2, 3, 0, 2, 1, 2, 0, 1};
+static const uint8_t apart_sheet[11] = {'G', 'L', 'S', 1, 0, 2, 0, 0, 0, 1, 0};
+static const uint8_t square_sheet[19] = {'G', 'L', 'S', 1, 0, 4, 4, 0, 0, 1, 0, 0, 1, 1, 2, 2, 3, 0, 3};
+
+static int trees(void)
+{
+    uint32_t tree[8], free_edges[8];
+
+    memset(tree, 0xEE, sizeof tree);
+    memset(free_edges, 0xEE, sizeof free_edges);
+    CHECK(zibrotka_spanning_tree(NULL, 0, tree, 8, free_edges, 8) == -ZIBROTKA_SHEET_SHORT);
+    CHECK(zibrotka_spanning_tree(triangle_sheet, 19, tree, 8, free_edges, 8) == -ZIBROTKA_SHEET_LENGTH);
+    CHECK(zibrotka_spanning_tree(apart_sheet, 11, tree, 8, free_edges, 8) == -ZIBROTKA_UNREACHED);
+    CHECK(zibrotka_spanning_tree(apart_sheet, 11, NULL, 0, NULL, 0) == -ZIBROTKA_UNREACHED);
+    CHECK(zibrotka_spanning_tree(triangle_sheet, 20, tree, 1, free_edges, 8) == -ZIBROTKA_ROOM);
+    CHECK(zibrotka_spanning_tree(triangle_sheet, 20, tree, 8, NULL, 0) == -ZIBROTKA_ROOM);
+    CHECK(entries_are(tree, 8, 0xEEEEEEEE) && entries_are(free_edges, 8, 0xEEEEEEEE));
+
+    CHECK(zibrotka_spanning_tree(triangle_sheet, 20, tree, 8, free_edges, 8) == 1);
+    CHECK(tree[0] == 0 && tree[1] == 1 && entries_are(tree + 2, 6, 0xEEEEEEEE));
+    CHECK(free_edges[0] == 2 && entries_are(free_edges + 1, 7, 0xEEEEEEEE));
+    CHECK(zibrotka_spanning_tree(kite_sheet, 19, tree, 3, free_edges, 1) == 1);
+    CHECK(tree[0] == 1 && tree[1] == 3 && tree[2] == 0 && entries_are(tree + 3, 5, 0xEEEEEEEE));
+    CHECK(free_edges[0] == 2 && entries_are(free_edges + 1, 7, 0xEEEEEEEE));
+    CHECK(zibrotka_spanning_tree(point_sheet, 11, NULL, 0, NULL, 0) == 0);
+    return 0;
+}
+
+static int laws(void)
+{
+    const int32_t lawful[] = {INT32_MAX, -INT32_MAX, INT32_MAX, 0}, one_off[] = {1, -1, 2}, one_way[] = {1, 1, 1, 1};
+    const int32_t wrapping[] = {INT32_MIN, INT32_MIN, INT32_MIN, INT32_MIN};
+
+    CHECK(zibrotka_check_gauss_law(NULL, 0, lawful, 3) == -ZIBROTKA_SHEET_SHORT);
+    CHECK(zibrotka_check_gauss_law(apart_sheet, 11, lawful, 3) == -ZIBROTKA_UNREACHED);
+    CHECK(zibrotka_check_gauss_law(triangle_sheet, 20, lawful, 2) == -ZIBROTKA_LENGTH);
+    CHECK(zibrotka_check_gauss_law(triangle_sheet, 20, lawful, 4) == -ZIBROTKA_LENGTH);
+    CHECK(zibrotka_check_gauss_law(triangle_sheet, 20, NULL, 0) == -ZIBROTKA_LENGTH);
+    CHECK(zibrotka_check_gauss_law(triangle_sheet, 20, lawful, 3) == 1);
+    CHECK(zibrotka_check_gauss_law(triangle_sheet, 20, one_off, 3) == 0);
+    CHECK(zibrotka_check_gauss_law(triangle_sheet, 20, one_way, 3) == 0);
+    CHECK(zibrotka_check_gauss_law(square_sheet, 19, one_way, 4) == 0);
+    CHECK(zibrotka_check_gauss_law(square_sheet, 19, wrapping, 4) == 0);
+    CHECK(zibrotka_check_gauss_law(point_sheet, 11, NULL, 0) == 1);
+    return 0;
+}
+
+#ifdef LISTING
+static int listings(void)
+{
+    const int32_t on_triangle[] = {-1, 1, -1, 0, 0, 0, 1, -1, 1};
+    const int32_t on_kite[] = {0, 1, -1, -1, 0, 0, 0, 0, 0, -1, 1, 1};
+    /* (0,1) (0,2) (1,2) (0,3) (1,3): two free edges, and L 512 */
+    const uint8_t over[] = {'G', 'L', 'S', 1, 0, 4, 5, 0, 0, 0, 2, 0, 1, 0, 2, 1, 2, 0, 3, 1, 3};
+    int32_t states[16];
+    const uint8_t *bytes = (const uint8_t *)states;
+
+    memset(states, 0xEE, sizeof states);
+    CHECK(zibrotka_enumerate_gauge_invariant(NULL, 0, states, 16) == -ZIBROTKA_SHEET_SHORT);
+    CHECK(zibrotka_enumerate_gauge_invariant(apart_sheet, 11, states, 16) == -ZIBROTKA_UNREACHED);
+    CHECK(zibrotka_enumerate_gauge_invariant(over, sizeof over, states, 16) == -ZIBROTKA_CANDIDATES);
+    CHECK(zibrotka_enumerate_gauge_invariant(over, sizeof over, NULL, 0) == -ZIBROTKA_CANDIDATES);
+    CHECK(zibrotka_enumerate_gauge_invariant(triangle_sheet, 20, states, 8) == -ZIBROTKA_ROOM);
+    CHECK(zibrotka_enumerate_gauge_invariant(triangle_sheet, 20, NULL, 0) == -ZIBROTKA_ROOM);
+    CHECK(all_are(bytes, sizeof states, 0xEE));
+
+    CHECK(zibrotka_enumerate_gauge_invariant(triangle_sheet, 20, states, 16) == 3);
+    CHECK(memcmp(states, on_triangle, sizeof on_triangle) == 0);
+    CHECK(all_are(bytes + sizeof on_triangle, sizeof states - sizeof on_triangle, 0xEE));
+    CHECK(zibrotka_enumerate_gauge_invariant(kite_sheet, 19, states, 12) == 3);
+    CHECK(memcmp(states, on_kite, sizeof on_kite) == 0);
+    CHECK(all_are(bytes + sizeof on_kite, sizeof states - sizeof on_kite, 0xEE));
+    CHECK(zibrotka_enumerate_gauge_invariant(point_sheet, 11, NULL, 0) == 1);
+    return 0;
+}
+#endif
+
 int main(void)
 {
-    if (making() || reading() || triangle_edges() || pentachora())
+    if (making() || reading() || triangle_edges() || pentachora() || trees() || laws())
         return 1;
+#ifdef LISTING
+    if (listings())
+        return 1;
+#endif
     printf("C: %d checks passed\n", passed);
     return 0;
 }

@@ -3,7 +3,7 @@
 use std::collections::BTreeMap;
 use std::sync::Mutex;
 use std::sync::atomic::{AtomicU64, Ordering};
-use std::time::Duration;
+use std::time::{Duration, Instant};
 
 /// What is counted apart in the last line.
 #[derive(Clone, Copy, PartialEq, Eq, PartialOrd, Ord)]
@@ -14,6 +14,12 @@ pub enum Kind {
     SheetRead,
     ReadBack,
     WrittenAgain,
+    Trees,
+    Lawful,
+    NotLawful,
+    LawfulBeyond,
+    NotLawfulBeyond,
+    Listings,
 }
 
 impl Kind {
@@ -25,6 +31,12 @@ impl Kind {
             Kind::SheetRead => "sheets read",
             Kind::ReadBack => "made sheets read back",
             Kind::WrittenAgain => "read sheets written again",
+            Kind::Trees => "spanning trees",
+            Kind::Lawful => "lawful configurations",
+            Kind::NotLawful => "other configurations",
+            Kind::LawfulBeyond => "lawful ones beyond the Rust",
+            Kind::NotLawfulBeyond => "other ones beyond the Rust",
+            Kind::Listings => "lists of states",
         }
     }
 
@@ -35,12 +47,31 @@ impl Kind {
             Kind::TriangleEdges => &[1, 2, 3, 4, 5, 6, 7, 8, 9, 13],
             Kind::SheetMade => &[4, 5, 6, 7, 8, 9, 15],
             Kind::SheetRead => &[1, 2, 3, 4, 5, 6, 7, 8, 9],
-            Kind::ReadBack | Kind::WrittenAgain => &[],
+            Kind::ReadBack | Kind::WrittenAgain | Kind::Lawful | Kind::LawfulBeyond | Kind::NotLawfulBeyond => &[],
+            Kind::Trees => &[1, 2, 3, 4, 5, 6, 7, 8, 9, 15],
+            Kind::NotLawful => &[1, 2, 3, 4, 5, 6, 7, 8, 9, 12],
+            Kind::Listings => &[1, 2, 3, 4, 5, 6, 7, 8, 9, 10, 15],
         }
     }
 
-    const ALL: [Kind; 6] =
-        [Kind::FromPentachora, Kind::TriangleEdges, Kind::SheetMade, Kind::SheetRead, Kind::ReadBack, Kind::WrittenAgain];
+    /// Those that this library can be asked for.
+    fn all() -> impl Iterator<Item = Kind> {
+        const ALL: [Kind; 12] = [
+            Kind::FromPentachora,
+            Kind::TriangleEdges,
+            Kind::SheetMade,
+            Kind::SheetRead,
+            Kind::ReadBack,
+            Kind::WrittenAgain,
+            Kind::Trees,
+            Kind::Lawful,
+            Kind::NotLawful,
+            Kind::LawfulBeyond,
+            Kind::NotLawfulBeyond,
+            Kind::Listings,
+        ];
+        ALL.into_iter().filter(|&kind| kind != Kind::Listings || port::LISTING)
+    }
 }
 
 /// How many comparisons were made, by kind and by what was expected (0 for an accepted input, else the refusal).
@@ -59,7 +90,7 @@ impl Tally {
     }
 
     pub fn print_answers(&self) {
-        for kind in Kind::ALL {
+        for kind in Kind::all() {
             let met = |expected: u8| self.counts.get(&(kind, expected)).copied().unwrap_or(0);
             let refused: Vec<String> = kind.refusals().iter().map(|&number| format!("{number}: {}", met(number))).collect();
             let refused = if refused.is_empty() { String::new() } else { format!(", refused {}", refused.join(", ")) };
@@ -70,7 +101,7 @@ impl Tally {
     /// The kinds with an answer that no input asked for: then the run itself is too thin.
     pub fn missed(&self) -> Vec<String> {
         let mut missed = vec![];
-        for kind in Kind::ALL {
+        for kind in Kind::all() {
             for &expected in [0].iter().chain(kind.refusals()) {
                 if !self.counts.contains_key(&(kind, expected)) {
                     missed.push(format!("{} {expected}", kind.name()));
@@ -81,7 +112,8 @@ impl Tally {
     }
 
     pub fn last_line(&self) -> String {
-        let kinds: Vec<String> = Kind::ALL.iter().map(|&kind| format!("{} {}", self.of(kind), kind.name())).collect();
+        let met = Kind::all().filter(|&kind| self.of(kind) > 0);
+        let kinds: Vec<String> = met.map(|kind| format!("{} {}", self.of(kind), kind.name())).collect();
         let total: u64 = self.counts.values().sum();
         format!("judge: {total} comparisons, no difference: {}", kinds.join(", "))
     }
@@ -109,11 +141,12 @@ pub fn run<C: Case>(case: &C, tally: &mut Tally) {
 fn smallest<C: Case>(mut case: C, mut what: String) -> (C, String) {
     let mut unused = Tally::default();
     let mut tries = 0;
+    let end = Instant::now() + Duration::from_secs(60);
     'smaller: loop {
         let size = case.size();
         for other in case.simpler() {
             tries += 1;
-            if tries > 200_000 {
+            if tries > 200_000 || Instant::now() > end {
                 return (case, what);
             }
             if other.size() < size {

@@ -1,6 +1,7 @@
 //! Random inputs: right ones of every size, and damaged ones.
 
-use crate::pentachora::{FromPentachora, Room};
+use crate::lent::Room;
+use crate::pentachora::FromPentachora;
 use crate::random::Random;
 use crate::reference::{Complex, HEADER, MOST_EDGES, MOST_TRIANGLES, Sheet, encode};
 use crate::sheets::MakeSheet;
@@ -145,6 +146,16 @@ pub fn right_complex(random: &mut Random) -> Complex {
         3 => random.between(60, 64),
         _ => random.between(1, 64),
     };
+    grown_complex(random, vertices, |random, most| if random.one_in(3) { most } else { random.between(vertices - 1, most) })
+}
+
+/// An accepted complex with so many vertices and, where that many fit, so many free edges.
+pub fn complex_with(random: &mut Random, vertices: u64, free: u64) -> Complex {
+    grown_complex(random, vertices, |_, most| (vertices - 1 + free).min(most))
+}
+
+/// A random tree on so many vertices and edges on top of it, up to a number that is chosen once the tree stands.
+fn grown_complex(random: &mut Random, vertices: u64, goal: impl Fn(&mut Random, u64) -> u64) -> Complex {
     let names = random.some(vertices, vertices);
     let mut edges: Vec<[u64; 2]> = vec![];
     let shape = random.below(4);
@@ -158,7 +169,7 @@ pub fn right_complex(random: &mut Random) -> Complex {
         edges.push([before, vertex]);
     }
     let most = (vertices * (vertices - 1) / 2).min(MOST_EDGES as u64);
-    let goal = if random.one_in(3) { most } else { random.between(vertices - 1, most) };
+    let goal = goal(random, most);
     let mut there: BTreeSet<[u64; 2]> = edges.iter().copied().collect();
     let mut tries = 0;
     while (edges.len() as u64) < goal && tries < 4_000 {

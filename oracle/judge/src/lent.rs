@@ -13,9 +13,48 @@ impl Pattern for u8 {
     }
 }
 
+impl Pattern for u32 {
+    fn before(at: usize) -> u32 {
+        0xA5C3_0000_u32.wrapping_add(at as u32)
+    }
+}
+
+impl Pattern for i32 {
+    fn before(at: usize) -> i32 {
+        0x4BAD_0000_i32.wrapping_add(at as i32)
+    }
+}
+
 impl Pattern for u64 {
     fn before(at: usize) -> u64 {
         0xA5C3_0000_0000_0000 + at as u64
+    }
+}
+
+/// How long two lent lists are, seen from what the result needs.
+#[derive(Clone, Copy, PartialEq, Eq, Debug)]
+pub enum Room {
+    Ample,
+    Exact,
+    FirstShort,
+    SecondShort,
+    BothShort,
+    Nothing,
+}
+
+impl Room {
+    pub const ALL: [Room; 6] = [Room::Ample, Room::Exact, Room::FirstShort, Room::SecondShort, Room::BothShort, Room::Nothing];
+
+    pub fn lengths(self, first: usize, second: usize) -> (usize, usize) {
+        let (first_less, second_less) = (first.saturating_sub(1), second.saturating_sub(1));
+        match self {
+            Room::Ample => (first + 13, second + 17),
+            Room::Exact => (first, second),
+            Room::FirstShort => (first_less, second + 17),
+            Room::SecondShort => (first + 13, second_less),
+            Room::BothShort => (first_less, second_less),
+            Room::Nothing => (0, 0),
+        }
     }
 }
 

@@ -1,8 +1,12 @@
 //! Holds the port against the Rust, and against document 01 where the Rust has no say.
 
 mod case;
+mod configurations;
 mod inputs;
+mod law;
+mod law_runs;
 mod lent;
+mod listing;
 mod pentachora;
 mod random;
 mod record;
@@ -15,7 +19,7 @@ use case::Tally;
 use std::process::ExitCode;
 
 const USAGE: &str = "\
-judge quick               every short input, then random ones of a fixed seed: some 20 seconds
+judge quick               every short input, then random ones of a fixed seed: under a minute
 judge long SEED MINUTES   random inputs of a seed for so many minutes
 judge record FILE         writes the fixed list of the Rust's answers
 judge replay FILE         holds the port against such a list";

@@ -1,35 +1,8 @@
 //! `from_pentachorons`: the Rust judges the edges and triangles, the reference the refusals.
 
 use crate::case::{Case, Kind, Tally};
-use crate::lent::Lent;
+use crate::lent::{Lent, Room};
 use crate::{reference, rust};
-
-/// How long the lent lists are, seen from what the result needs.
-#[derive(Clone, Copy, PartialEq, Eq, Debug)]
-pub enum Room {
-    Ample,
-    Exact,
-    EdgesShort,
-    TrianglesShort,
-    BothShort,
-    Nothing,
-}
-
-impl Room {
-    pub const ALL: [Room; 6] = [Room::Ample, Room::Exact, Room::EdgesShort, Room::TrianglesShort, Room::BothShort, Room::Nothing];
-
-    fn lengths(self, edges: usize, triangles: usize) -> (usize, usize) {
-        let (edges_less, triangles_less) = (edges.saturating_sub(1), triangles.saturating_sub(1));
-        match self {
-            Room::Ample => (edges + 13, triangles + 17),
-            Room::Exact => (edges, triangles),
-            Room::EdgesShort => (edges_less, triangles + 17),
-            Room::TrianglesShort => (edges + 13, triangles_less),
-            Room::BothShort => (edges_less, triangles_less),
-            Room::Nothing => (0, 0),
-        }
-    }
-}
 
 #[derive(Clone)]
 pub struct FromPentachora {

@@ -2,7 +2,8 @@
 
 use crate::case::{Tally, run};
 use crate::inputs;
-use crate::pentachora::{FromPentachora, Room};
+use crate::lent::Room;
+use crate::pentachora::FromPentachora;
 use crate::random::Random;
 use crate::reference::{self, Complex, Sheet};
 use crate::rust;

@@ -6,6 +6,7 @@ pub const MOST_VERTICES: u64 = 64;
 pub const MOST_EDGES: usize = 63;
 pub const MOST_TRIANGLES: usize = 256;
 pub const MOST_LAMBDA: u64 = 1000;
+pub const MOST_CANDIDATES: u64 = 1_048_576;
 pub const HEADER: usize = 11;
 
 /// A complex as lists; not yet judged.
@@ -188,4 +189,67 @@ pub fn after_faces(complex: &Complex, edge_room: usize, triangle_room: usize) ->
         return Err(15);
     }
     Ok(())
+}
+
+// ---- Gauss's law, of a complex in one part
+
+/// The numbers of the tree's edges as they are found from vertex 0, and those of all other edges, rising.
+pub fn tree(complex: &Complex) -> (Vec<u32>, Vec<u32>) {
+    let (mut found, mut tree) = (vec![0], vec![]);
+    let mut at = 0;
+    while at < found.len() {
+        for (number, &[a, b]) in complex.edges.iter().enumerate() {
+            let far_end = match found[at] {
+                here if here == a => b,
+                here if here == b => a,
+                _ => continue,
+            };
+            if !found.contains(&far_end) {
+                found.push(far_end);
+                tree.push(number as u32);
+            }
+        }
+        at += 1;
+    }
+    let free = (0..complex.edges.len() as u32).filter(|number| !tree.contains(number)).collect();
+    (tree, free)
+}
+
+/// Whether at every vertex as much ends as starts.
+pub fn lawful(complex: &Complex, configuration: &[i32]) -> bool {
+    let mut sums = vec![0_i128; complex.vertices as usize];
+    for (&[a, b], &value) in complex.edges.iter().zip(configuration) {
+        sums[usize::from(b)] += i128::from(value);
+        sums[usize::from(a)] -= i128::from(value);
+    }
+    sums.iter().all(|&sum| sum == 0)
+}
+
+/// (2L+1)^F, unless it is over the limit.
+pub fn candidates(free: usize, lambda: u64) -> Option<u64> {
+    let mut product = 1;
+    for _ in 0..free {
+        product *= 2 * lambda + 1;
+        if product > MOST_CANDIDATES {
+            return None;
+        }
+    }
+    Some(product)
+}
+
+/// The largest L that the limit lets pass with so many free edges.
+pub fn largest_lambda(free: usize) -> u64 {
+    (0..=MOST_LAMBDA).rev().find(|&lambda| candidates(free, lambda).is_some()).expect("L 0 has one candidate")
+}
+
+/// The listing by its definition: of all assignments within ±L the lawful ones, ordered by their values on the free edges, the
+/// highest-numbered one first. For few edges only.
+pub fn states(complex: &Complex, lambda: u64) -> Vec<Vec<i32>> {
+    let (n_edges, values) = (complex.edges.len() as u32, 2 * lambda + 1);
+    let digit = |code: u64, edge: u32| (code / values.pow(edge) % values) as i32 - lambda as i32;
+    let assignments = (0..values.pow(n_edges)).map(|code| (0..n_edges).map(|edge| digit(code, edge)).collect::<Vec<i32>>());
+    let mut states: Vec<Vec<i32>> = assignments.filter(|state| lawful(complex, state)).collect();
+    let free = tree(complex).1;
+    states.sort_by_key(|state| free.iter().rev().map(|&edge| state[edge as usize]).collect::<Vec<i32>>());
+    states
 }

@@ -2,7 +2,9 @@
 
 use crate::case::{Tally, run};
 use crate::inputs;
-use crate::pentachora::{FromPentachora, Room};
+use crate::law_runs;
+use crate::lent::Room;
+use crate::pentachora::FromPentachora;
 use crate::random::Random;
 use crate::reference::{self, HEADER, Sheet};
 use crate::rust;
@@ -17,7 +19,7 @@ type Part = (&'static str, fn(&mut Tally));
 pub fn quick() -> Tally {
     let mut tally = Tally::default();
     println!("quick run, seed {QUICK_SEED}");
-    let parts: [Part; 6] = [
+    let parts: [Part; 10] = [
         ("cases that were written down", written_down),
         ("every short list of pentachora", short_pentachora),
         ("every sheet of a few small numbers", small_sheets),
@@ -29,6 +31,10 @@ pub fn quick() -> Tally {
                 random_round(&mut random, tally);
             }
         }),
+        ("trees, laws and lists that were written down", law_runs::written_down),
+        ("every graph on up to five vertices", law_runs::small_graphs),
+        ("every number of free edges", law_runs::limits),
+        ("random complexes and configurations", law_runs::random_rounds),
     ];
     for (name, part) in parts {
         let start = Instant::now();
@@ -44,8 +50,9 @@ pub fn long(seed: u64, minutes: f64) -> Tally {
     let mut random = Random::new(seed);
     let end = Instant::now() + Duration::from_secs_f64(60.0 * minutes);
     while Instant::now() < end {
-        for _ in 0..100 {
+        for round in 0..100 {
             random_round(&mut random, &mut tally);
+            law_runs::random_round(&mut random, if round == 0 { reference::MOST_CANDIDATES } else { 3_000 }, &mut tally);
         }
     }
     tally
@@ -290,6 +297,7 @@ fn one_byte_changed(tally: &mut Tally) {
                 let mut changed = bytes.clone();
                 changed[at] = value;
                 run(&TriangleEdges { sheet: changed.clone() }, tally);
+                law_runs::any_bytes(&changed, tally);
                 run(&ReadSheet { bytes: changed }, tally);
             }
         }
@@ -302,6 +310,7 @@ fn lengths(tally: &mut Tally) {
             let mut other = bytes.clone();
             other.resize(len, 1);
             run(&ReadSheet { bytes: other.clone() }, tally);
+            law_runs::any_bytes(&other, tally);
             run(&TriangleEdges { sheet: other }, tally);
         }
         // each byte taken out, and each put in twice

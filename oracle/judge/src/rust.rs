@@ -1,7 +1,11 @@
-//! The Rust that judges: its complex, asked in the judge's terms.
+//! The Rust that judges: its complex and its Gauss law, asked in the judge's terms.
 
 use crate::reference::Complex;
+use phyz_quantum::gauss_law;
 use phyz_regge::SimplicialComplex;
+
+/// The Rust adds in 32 bits: it is asked about values up to this only, of which no sum wraps.
+pub const MOST_VALUE: u32 = 1 << 24;
 
 /// The complex that the Rust makes of pentachora.
 pub fn from_pentachora(vertices: u64, list: &[u64]) -> SimplicialComplex {
@@ -29,4 +33,21 @@ pub fn lists(record: &SimplicialComplex) -> Complex {
 
 pub fn tri_edge_indices(record: &SimplicialComplex, triangle: usize) -> [u64; 3] {
     record.tri_edge_indices(triangle).map(|number| number as u64)
+}
+
+/// Tree edges as found, free edges rising.
+pub fn spanning_tree(complex: &Complex) -> (Vec<u32>, Vec<u32>) {
+    let (tree, free) = gauss_law::spanning_tree(&filled(complex));
+    let numbers = |list: Vec<usize>| list.into_iter().map(|number| number as u32).collect();
+    (numbers(tree), numbers(free))
+}
+
+/// Nothing where a value is too large for it.
+pub fn check_gauss_law(complex: &Complex, configuration: &[i32]) -> Option<bool> {
+    let small = configuration.iter().all(|value| value.unsigned_abs() <= MOST_VALUE);
+    small.then(|| gauss_law::check_gauss_law(&filled(complex), configuration))
+}
+
+pub fn enumerate_gauge_invariant(complex: &Complex, lambda: u64) -> Vec<Vec<i32>> {
+    gauss_law::enumerate_gauge_invariant(&filled(complex), lambda as u32)
 }

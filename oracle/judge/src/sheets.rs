@@ -274,12 +274,12 @@ impl Case for TriangleEdges {
     }
 }
 
-fn hexadecimal(bytes: &[u8]) -> String {
+pub fn hexadecimal(bytes: &[u8]) -> String {
     let pairs: Vec<String> = bytes.iter().map(|byte| format!("{byte:02X}")).collect();
     format!("{} bytes {}", bytes.len(), pairs.join(" "))
 }
 
-fn sheet_size(bytes: &[u8]) -> Vec<u128> {
+pub fn sheet_size(bytes: &[u8]) -> Vec<u128> {
     vec![bytes.len() as u128, bytes.iter().map(|&byte| u128::from(byte)).sum()]
 }
 
@@ -290,7 +290,7 @@ fn without(flat: &[u8], per: usize, gone: u8) -> Vec<u8> {
 }
 
 /// Sheets to try in the place of one: whole simplices and vertices go where the counts fit the length, then single bytes.
-fn simpler_sheets(bytes: &[u8]) -> Vec<Vec<u8>> {
+pub fn simpler_sheets(bytes: &[u8]) -> Vec<Vec<u8>> {
     let mut simpler = vec![];
     if bytes.len() >= HEADER {
         let (n_edges, n_triangles) = (usize::from(bytes[6]), usize::from(bytes[7]) + 256 * usize::from(bytes[8]));

@@ -5,6 +5,10 @@
 pub const EDGE_BYTES: usize = 2 * 63;
 pub const TRIANGLE_BYTES: usize = 3 * 256;
 
+/// Whether the library has `zibrotka_enumerate_gauge_invariant`; the build looks for it. The listing's one switch: once every library has
+/// it, this, its lines in build.rs and run, and what asks for it go.
+pub const LISTING: bool = cfg!(listing);
+
 // A slice goes over as two arguments, pointer and length: `&[T]` in such a declaration would be one argument of two words.
 mod raw {
     use super::{EDGE_BYTES, TRIANGLE_BYTES};
@@ -41,6 +45,22 @@ mod raw {
             triangles_len: usize,
             n_triangles: *mut u64,
         ) -> i64;
+        pub fn zibrotka_spanning_tree(
+            sheet: *const u8,
+            sheet_len: usize,
+            tree: *mut u32,
+            tree_len: usize,
+            free_edges: *mut u32,
+            free_len: usize,
+        ) -> i64;
+        pub fn zibrotka_check_gauss_law(
+            sheet: *const u8,
+            sheet_len: usize,
+            configuration: *const i32,
+            configuration_len: usize,
+        ) -> i64;
+        #[cfg(listing)]
+        pub fn zibrotka_enumerate_gauge_invariant(sheet: *const u8, sheet_len: usize, states: *mut i32, states_len: usize) -> i64;
     }
 }
 
@@ -99,4 +119,34 @@ pub fn from_pentachorons(
             n_triangles,
         )
     }
+}
+
+/// The tree edges as found and the free edges rising; answers the number of free edges.
+pub fn spanning_tree(sheet: &[u8], tree: &mut [u32], free_edges: &mut [u32]) -> i64 {
+    unsafe {
+        raw::zibrotka_spanning_tree(
+            sheet.as_ptr(),
+            sheet.len(),
+            tree.as_mut_ptr(),
+            tree.len(),
+            free_edges.as_mut_ptr(),
+            free_edges.len(),
+        )
+    }
+}
+
+/// Whether a configuration obeys Gauss's law; answers 1 or 0.
+pub fn check_gauss_law(sheet: &[u8], configuration: &[i32]) -> i64 {
+    unsafe { raw::zibrotka_check_gauss_law(sheet.as_ptr(), sheet.len(), configuration.as_ptr(), configuration.len()) }
+}
+
+/// Every state, state after state; answers the number of states.
+#[cfg(listing)]
+pub fn enumerate_gauge_invariant(sheet: &[u8], states: &mut [i32]) -> i64 {
+    unsafe { raw::zibrotka_enumerate_gauge_invariant(sheet.as_ptr(), sheet.len(), states.as_mut_ptr(), states.len()) }
+}
+
+#[cfg(not(listing))]
+pub fn enumerate_gauge_invariant(_sheet: &[u8], _states: &mut [i32]) -> i64 {
+    panic!("this library has no zibrotka_enumerate_gauge_invariant")
 }

@@ -1,0 +1,244 @@
+//! The runs of `spanning_tree`, `check_gauss_law` and `enumerate_gauge_invariant`.
+
+use crate::case::{Tally, run};
+use crate::law::{GaussLaw, SpanningTree};
+use crate::lent::Room;
+use crate::listing::{Listing, free_edges};
+use crate::random::Random;
+use crate::reference::{self, Complex, MOST_CANDIDATES, MOST_EDGES, MOST_LAMBDA, Sheet};
+use crate::runs::QUICK_SEED;
+use crate::sheets::sheet;
+use crate::{configurations, inputs, rust};
+
+const QUICK_ROUNDS: usize = 8_000;
+
+/// A listing is asked for where the library has it and its candidates are not too many.
+fn list(listing: &Listing, most: u64, tally: &mut Tally) {
+    if port::LISTING && listing.candidates() <= most {
+        run(listing, tally);
+    }
+}
+
+/// The three calls on one complex and L, with every length of lent lists that matters.
+fn whole(sheet: &Sheet, tally: &mut Tally) {
+    let bytes = reference::encode(sheet);
+    for room in Room::ALL {
+        run(&SpanningTree { sheet: bytes.clone(), room }, tally);
+    }
+    let n_edges = sheet.complex.edges.len();
+    for len in [n_edges, n_edges + 1, n_edges.saturating_sub(1), 0, 2 * n_edges] {
+        for value in [0, 1] {
+            run(&GaussLaw { sheet: bytes.clone(), configuration: vec![value; len] }, tally);
+        }
+    }
+    for spare in [0, 1, 700, -1, Listing::NO_ROOM] {
+        list(&Listing { sheet: bytes.clone(), spare }, MOST_CANDIDATES, tally);
+    }
+}
+
+/// The three calls on any bytes: with room and a right length, and without.
+pub fn any_bytes(bytes: &[u8], tally: &mut Tally) {
+    let n_edges = bytes.get(6).map_or(0, |&count| usize::from(count));
+    for (room, len, spare) in [(Room::Ample, n_edges, 30), (Room::Nothing, 0, Listing::NO_ROOM)] {
+        run(&SpanningTree { sheet: bytes.to_vec(), room }, tally);
+        run(&GaussLaw { sheet: bytes.to_vec(), configuration: vec![1; len] }, tally);
+        list(&Listing { sheet: bytes.to_vec(), spare }, 2_500, tally);
+    }
+}
+
+/// All pairs of the first vertices in dictionary order.
+fn pairs(vertices: u8) -> Vec<[u8; 2]> {
+    (0..vertices).flat_map(|a| (a + 1..vertices).map(move |b| [a, b])).collect()
+}
+
+fn path(vertices: u8) -> Vec<[u8; 2]> {
+    (1..vertices).map(|vertex| [vertex - 1, vertex]).collect()
+}
+
+/// The cases of document 01, the ends of the ranges, and the differences from the Rust that are intended.
+pub fn written_down(tally: &mut Tally) {
+    let two_apart = [[0, 1], [0, 2], [1, 2], [3, 4], [3, 5], [4, 5]];
+    let square = [[0, 1], [1, 2], [2, 3], [0, 3]];
+    for lambda in [0, 1, 2, 7, 1000] {
+        for sheet in [
+            sheet(1, &[], &[], lambda),
+            sheet(2, &pairs(2), &[], lambda),
+            sheet(3, &pairs(3), &[[0, 1, 2]], lambda),
+            sheet(3, &[[1, 2], [0, 2], [0, 1]], &[], lambda),
+            sheet(4, &pairs(4), &inputs::closed(&pairs(4)), lambda),
+            sheet(4, &square, &[], lambda),
+            sheet(64, &path(64), &[], lambda),
+            sheet(64, &path(64).into_iter().rev().collect::<Vec<_>>(), &[], lambda),
+            sheet(64, &(1..64).map(|vertex| [0, vertex]).collect::<Vec<_>>(), &[], lambda),
+            sheet(64, &(0..63).map(|vertex| [vertex, 63]).collect::<Vec<_>>(), &[], lambda),
+            sheet(6, &two_apart, &[[0, 1, 2], [3, 4, 5]], lambda),
+            sheet(2, &[], &[], lambda),
+            sheet(0, &[], &[], lambda),
+            sheet(65, &path(64), &[], lambda),
+        ] {
+            whole(&sheet, tally);
+        }
+    }
+    // the fullest complexes, and one edge too many
+    for triangles in [0, 193, 194, 256] {
+        for lambda in [0, 1, 1000, 1001] {
+            whole(&Sheet { complex: inputs::fullest(triangles), lambda }, tally);
+        }
+    }
+    let mut over = inputs::fullest(0);
+    over.edges.push([10, 11]);
+    assert_eq!(over.edges.len(), MOST_EDGES + 1);
+    whole(&Sheet { complex: over, lambda: 0 }, tally);
+
+    // two free edges: one candidate number below the limit and one over it
+    let five = &pairs(4)[..5];
+    for lambda in [510, 511, 512, 513] {
+        for spare in [100, 0, -1] {
+            list(&Listing::of(&sheet(4, five, &[], lambda), spare), MOST_CANDIDATES, tally);
+        }
+    }
+    // the longest list of states: 65,931,327 entries
+    let longest = [path(62), vec![[0, 2], [2, 4]]].concat();
+    list(&Listing::of(&sheet(62, &longest, &[], 511), 5), MOST_CANDIDATES, tally);
+
+    // sums that wrap in 32 bits, some of them to zero
+    let on_square = reference::encode(&sheet(4, &square, &[], 1));
+    let on_star: Vec<[u8; 2]> = (1..64).map(|vertex| [0, vertex]).collect();
+    for value in [i32::MIN, i32::MAX, 1 << 30, -(1 << 30), 1 << 24, 1 << 26, -(1 << 26)] {
+        for signs in 0..16 {
+            let signed = |at: i32| if signs >> at & 1 == 1 { value.wrapping_neg() } else { value };
+            run(&GaussLaw { sheet: on_square.clone(), configuration: (0..4).map(signed).collect() }, tally);
+        }
+        run(&GaussLaw { sheet: reference::encode(&sheet(64, &on_star, &[], 1)), configuration: vec![value; 63] }, tally);
+    }
+
+    // what docs/DIFFERENCES.md says of the Rust: 1 and 3
+    let wrapping = rust::filled(&sheet(4, &square, &[], 1).complex);
+    assert!(phyz_quantum::gauss_law::check_gauss_law(&wrapping, &[i32::MIN; 4]), "the Rust no longer wraps");
+    let apart = sheet(6, &two_apart, &[], 1).complex;
+    assert_eq!(rust::enumerate_gauge_invariant(&apart, 1).len(), 81, "the Rust no longer lists two parts");
+}
+
+/// Every graph on up to five vertices, its edges in dictionary order and in two others, with L 0 to 2.
+pub fn small_graphs(tally: &mut Tally) {
+    let mut random = Random::new(QUICK_SEED);
+    for vertices in 1..=5_u8 {
+        let pairs = pairs(vertices);
+        for mask in 0..1_u32 << pairs.len() {
+            let mut edges: Vec<[u8; 2]> = (0..pairs.len()).filter(|&at| mask >> at & 1 == 1).map(|at| pairs[at]).collect();
+            for order in 0..3 {
+                if order > 0 {
+                    random.shuffle(&mut edges);
+                }
+                let triangles = if order == 1 { vec![] } else { inputs::closed(&edges) };
+                for lambda in 0..=2 {
+                    let sheet = Sheet {
+                        complex: Complex { vertices: vertices.into(), edges: edges.clone(), triangles: triangles.clone() },
+                        lambda,
+                    };
+                    small_graph(&sheet, &mut random, tally);
+                }
+            }
+        }
+    }
+}
+
+fn small_graph(sheet: &Sheet, random: &mut Random, tally: &mut Tally) {
+    let bytes = reference::encode(sheet);
+    let spare = random.pick(&[0, 1, 40]);
+    list(&Listing { sheet: bytes.clone(), spare }, MOST_CANDIDATES, tally);
+    list(&Listing { sheet: bytes.clone(), spare: -1 }, 500, tally);
+    for room in if sheet.lambda == 1 { &Room::ALL[..] } else { &Room::ALL[..1] } {
+        run(&SpanningTree { sheet: bytes.clone(), room: *room }, tally);
+    }
+    if reference::read_sheet(&bytes).is_err() {
+        run(&GaussLaw { sheet: bytes, configuration: vec![0; sheet.complex.edges.len()] }, tally);
+        return;
+    }
+    // every listed state is lawful; with one value changed it is not
+    let states = rust::enumerate_gauge_invariant(&sheet.complex, sheet.lambda);
+    for state in states.iter().step_by(1 + states.len() / 20) {
+        run(&GaussLaw { sheet: bytes.clone(), configuration: state.clone() }, tally);
+        for at in 0..state.len() {
+            let mut other = state.clone();
+            other[at] += random.pick(&[1, -1, 2]);
+            run(&GaussLaw { sheet: bytes.clone(), configuration: other }, tally);
+        }
+    }
+}
+
+/// Every number of free edges with the L that matter: 0, 1, the largest that the limit lets pass, and all beyond it.
+pub fn limits(tally: &mut Tally) {
+    let mut random = Random::new(QUICK_SEED);
+    for free in 0..=52_u64 {
+        // the fewest vertices that bear so many edges, a few more, and many
+        let fewest =
+            (1..=12).find(|vertices| vertices * (vertices - 1) / 2 >= vertices - 1 + free).expect("12 vertices bear 63 edges");
+        let most = 64 - free;
+        let few = random.between(fewest, most.min(12));
+        let mut sizes = vec![fewest, few];
+        if most >= 40 {
+            sizes.extend([random.between(40, most), most]);
+        }
+        for (at, vertices) in sizes.into_iter().enumerate() {
+            let complex = inputs::complex_with(&mut random, vertices, free);
+            let free = complex.edges.len() + 1 - vertices as usize;
+            let largest = reference::largest_lambda(free);
+            let mut some =
+                vec![0, 1, largest, largest + 1, largest + 2, random.between(largest, MOST_LAMBDA), MOST_LAMBDA, MOST_LAMBDA + 1];
+            some.sort_unstable();
+            some.dedup();
+            for lambda in some {
+                let sheet = Sheet { complex: complex.clone(), lambda };
+                run(&SpanningTree { sheet: reference::encode(&sheet), room: random.pick(&Room::ALL) }, tally);
+                list(&Listing::of(&sheet, random.pick(&[0, 1, 100])), MOST_CANDIDATES, tally);
+                list(&Listing::of(&sheet, -1), 50_000, tally);
+            }
+            if at == 0 {
+                for lambda in largest + 1..=MOST_LAMBDA {
+                    list(&Listing::of(&Sheet { complex: complex.clone(), lambda }, 0), MOST_CANDIDATES, tally);
+                }
+            }
+        }
+    }
+}
+
+pub fn random_rounds(tally: &mut Tally) {
+    let mut random = Random::new(QUICK_SEED);
+    for round in 0..QUICK_ROUNDS {
+        random_round(&mut random, if round % 400 == 0 { MOST_CANDIDATES } else { 3_000 }, tally);
+    }
+}
+
+/// A complex with a few configurations and lists of states of up to so many candidates, then damaged sheets.
+pub fn random_round(random: &mut Random, most: u64, tally: &mut Tally) {
+    let complex = any_complex(random);
+    let mut sheet = Sheet { complex, lambda: random.below(MOST_LAMBDA + 1) };
+    let bytes = reference::encode(&sheet);
+    run(&SpanningTree { sheet: bytes.clone(), room: random.pick(&Room::ALL) }, tally);
+    for _ in 0..6 {
+        run(&GaussLaw { sheet: bytes.clone(), configuration: configurations::any_length(random, &sheet.complex) }, tally);
+    }
+    let free = free_edges(&sheet);
+    let affordable = (0..=MOST_LAMBDA).rev().find(|&lambda| reference::candidates(free, lambda).is_some_and(|count| count <= most));
+    let affordable = affordable.expect("L 0 has one candidate");
+    let largest = reference::largest_lambda(free);
+    for lambda in [affordable, random.below(affordable + 1), largest + 1, random.between(largest, MOST_LAMBDA + 1)] {
+        sheet.lambda = lambda;
+        let spare = if random.one_in(6) { random.pick(&[-1, -1, -2, -60, Listing::NO_ROOM]) } else { random.between(0, 70) as i64 };
+        list(&Listing::of(&sheet, spare), most, tally);
+    }
+    any_bytes(&inputs::any_sheet_bytes(random), tally);
+}
+
+/// Often few vertices, or so many that few edges can be free.
+fn any_complex(random: &mut Random) -> Complex {
+    let vertices = match random.below(6) {
+        0 | 1 => random.between(40, 64),
+        2 => random.between(1, 64),
+        _ => random.between(1, 12),
+    };
+    let most = 64 - vertices;
+    let free = if random.one_in(4) { random.below(most + 1) } else { random.below(most.min(7) + 1) };
+    inputs::complex_with(random, vertices, free)
+}
