@@ -19,7 +19,7 @@ use Rattle.walker.specs.Steps.{Small, Addable, CyclesFit, FreeFit, Walka
 use Rattle.walker.specs.Blocks.{Spans, put, Written}
 use Rattle.walker.proofs.Interval.{stop-bound}
 use Rattle.walker.proofs.Stepping.{cycle-long, cycle-signs}
-use Rattle.walker.proofs.Puts.{put-more, flatten-append, rows-length, rows-long}
+use Rattle.walker.proofs.Puts.{put-more, flatten-append, rows-length, rows-at, rows-long}
 
 pub width-bound : (L n : ℕ) → L ≤ 1000 → width L n ≤ 2001
 unfolding width
@@ -34,18 +34,6 @@ pub width-some : (L n : ℕ) → (n ≡ 0 → ⊥) → 2 * L + 1 ≡ width L n
 unfolding width
 width-some L zero h = absurd (h refl)
 width-some L (suc n) h = refl
-
--- the span of a block gives its rows
-module _ (L n : ℕ) (s z : List ℤ) (r : Span) (spans : Spans L n s z (length s) r) where
-  pub span-rows : rows s z (r .from) (r .to) ≡ block L n s z
-  unfolding block
-  span-rows = rw (spans .from, spans .to)
-
-  pub span-size : length (block L n s z) ≡ r .to - r .from
-  span-size = sym (ap length span-rows) ∙ rows-length s z (r .from) (r .to)
-
-  pub span-to : r .to ≤ n
-  span-to = rw (spans .to) (stop-bound L n s z (length s))
 
 block-long : (L n : ℕ) (s z : List ℤ) → length (flatten (block L n s z)) ≡ length (block L n s z) * length s
 unfolding block
@@ -144,21 +132,19 @@ module _ (free : List ℕ) (cycles : List ℤ) (L n : ℕ) (s : List ℤ) (block
     pub step-made : (new : List ℤ) → new ≡ stepped free (row (length config) cycles) L (n - 1) 1 config → new ≡ walked free cycle L n s (k + 1)
     step-made new h = h ∙ rw (config-long, is) (sym (walked-next free cycle L n s k))
 
-    module _ (w : ℕ) (wide : w ≡ width L n) (r : Span) (spans : Spans L w config (take (length s - 0) cycles) (length config) r) where
-      spans-here : Spans L (width L n) (walked free cycle L n s k) (cycle 0) (length (walked free cycle L n s k)) r
-      spans-here = rw (← is, ← wide, ← first-part) spans
+    module _ (w : ℕ) (wide : w ≡ width L n) (r : Span) (spans : Spans L w config (take (length s - 0) cycles) r) where
+      pub span-block : rows config (take (length s - 0) cycles) (r .from) (r .to) ≡ block L (width L n) (walked free cycle L n s k) (cycle 0)
+      span-block = spans .is ∙ rw (is, wide, first-part)
 
       pub span-few : r .to ≤ 2001
-      span-few = omega (arith, span-to L (width L n) (walked free cycle L n s k) (cycle 0) r spans-here, width-bound L n (fit .cycles-fit .truncation))
+      span-few = omega (arith, spans .bound, wide, width-bound L n (fit .cycles-fit .truncation))
 
       pub span-counts : length (walked-states free cycle L n s (k + 1)) ≡ length (walked-states free cycle L n s k) + (r .to - r .from)
       span-counts =
           let old = walked-states free cycle L n s k in
           let new = block L (width L n) (walked free cycle L n s k) (cycle 0) in
-          rw (states-next free cycle L n s k, length-append old new) (omega (arith, span-size L (width L n) (walked free cycle L n s k) (cycle 0) r spans-here))
-
-      pub span-block : rows config (take (length s - 0) cycles) (r .from) (r .to) ≡ block L (width L n) (walked free cycle L n s k) (cycle 0)
-      span-block = rw (is, first-part) (span-rows L (width L n) (walked free cycle L n s k) (cycle 0) r spans-here)
+          let size : length new ≡ r .to - r .from = sym (ap length span-block) ∙ rows-length config (take (length s - 0) cycles) (r .from) (r .to) in
+          rw (states-next free cycle L n s k, length-append old new) (omega arith)
 
       -- ---- written
       pub write-ready : (list : List ℤ) → length (walked-states free cycle L n s blocks) * length s ≤ length list → (count : ℕ) → count ≡ length (walked-states free cycle L n s k)
@@ -186,3 +172,26 @@ module _ (free : List ℕ) (cycles : List ℤ) (L n : ℕ) (s : List ℤ) (block
           let enough : (0 + length (flatten old-states)) + length (flatten B) ≤ length old =
           omega (arith, states-long free cycle L n s (fit .sized) (k + 1), mul-le-mul-right (length s) (states-grow free cycle L n s (k + 1) blocks (omega arith))) in
           after ∙ rw (before, place, span-block) (put-more old 0 (flatten old-states) (flatten B) enough ∙ ap (put old 0) (sym (flatten-append old-states B) ∙ ap flatten (sym (states-next free cycle L n s k))))
+
+      -- ---- found
+      pub add-ready : (i : ℕ) → i < r .to - r .from → Addable config (pos (r .from + i)) (take (length s - 0) cycles) × (r .from + i ≤ 2001)
+      add-ready i h =
+          let ready = interval-ready in
+          let few = span-few in
+          (record { sized = ready .0; values = λ e. omega (arith, config-small e); times = omega arith; signs = ready .2 }, omega arith)
+
+      pub state-found : (place i : ℕ) → i < r .to - r .from → i + length (walked-states free cycle L n s k) ≡ place
+          → getD (walked-states free cycle L n s blocks) place [] ≡ added config (pos (r .from + i)) (take (length s - 0) cycles)
+      state-found place i h e =
+          let old = walked-states free cycle L n s k in
+          let B = block L (width L n) (walked free cycle L n s k) (cycle 0) in
+          let later = states-later free cycle L n s (k + 1) blocks (omega arith) in
+          let next = states-next free cycle L n s k in
+          let inside : place < length (walked-states free cycle L n s (k + 1)) = omega (arith, span-counts) in
+          let at : length old + i ≡ place = omega arith in
+          ap (λ l. getD l place []) (later .1)
+          ∙ List·getD-append (walked-states free cycle L n s (k + 1)) (later .0) [] place inside
+          ∙ ap (λ l. getD l place []) next
+          ∙ (rw at at (getD-append-add old B i []))
+          ∙ ap (λ l. getD l i []) (sym span-block)
+          ∙ rows-at config (take (length s - 0) cycles) (r .from) (r .to) i h

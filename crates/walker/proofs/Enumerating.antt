@@ -7,7 +7,7 @@ use native.Mathlib.Omega.{arith}
 use lib.Dec.{eqb, ltb}
 use lib.IntN.{ℤ, pos}
 use lib.ListN.{length, drop}
-use borrow.Author.Tests.{ltb-false, lt-ltb, le-ltb}
+use borrow.Author.Tests.{ltb-false, le-ltb}
 use Rattle.mathematics.specs.Tests.{all}
 use Rattle.mathematics.specs.Refusals.{first, value, outcome, written}
 use Rattle.mathematics.proofs.Refusals.{first-stops, first-goes-on, numbered, refused-outcome, refused-kept}
@@ -21,9 +21,9 @@ use Rattle.walker.specs.declared.enumerate.Enumerated.the-variants.{Stat
 use Rattle.walker.specs.Walker.{width}
 use Rattle.walker.specs.Tables.{Walks, states-of, Fit}
 use Rattle.walker.specs.Blocks.{put, Written}
-use Rattle.walker.specs.Enumeration.{Limited, states, enumeratedAnswer, enumerated-refusal, Listed}
+use Rattle.walker.specs.Enumeration.{states, enumeratedAnswer, enumerated-refusal, Listed}
 use Rattle.walker.proofs.Puts.{put-front}
-use Rattle.walker.proofs.Limits.{power-above, power-less, states-within, all-candidates}
+use Rattle.walker.proofs.Limits.{power-less, states-within, all-candidates}
 use Rattle.walker.proofs.Fitting.{walks-fit, walks-states, states-of-long}
 
 module _ (c : Complex) (L : ℕ) (old : List ℤ) where
@@ -48,8 +48,8 @@ module _ (c : Complex) (L : ℕ) (old : List ℤ) where
     unfolding enumerated-refusal first numbered all
     by-tests = rw (walks .count) (first-goes-on (truncated-tests c L) ((10, ltb 1048576 ((2 * L + 1) ^ length (free-edges c))) ∷ (15, ltb (length old) (length (states c L) * length (c .edges))) ∷ []) refl none)
 
-    pub candidates-refused : (p : ℕ) → Limited ((2 * L + 1) ^ w .«n_free») p → 1048576 < p → Listed c L old old (Refused 10)
-    candidates-refused p h k = refused-listed 10 (by-tests ∙ rw (lt-ltb 1048576 _ (power-above (2 * L + 1) (w .«n_free») p h k))) (λ z. omega arith)
+    pub candidates-refused : ltb 1048576 ((2 * L + 1) ^ w .«n_free») ≡ true → Listed c L old old (Refused 10)
+    candidates-refused h = refused-listed 10 (by-tests ∙ rw h) (λ z. omega arith)
 
     module _ (within : (2 * L + 1) ^ w .«n_free» ≤ 1048576) (blocks : ℕ) (number : blocks ≡ (2 * L + 1) ^ (w .«n_free» - 1)) where
       pub blocks-fit : Fit w L blocks

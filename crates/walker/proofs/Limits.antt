@@ -58,21 +58,13 @@ module _ (w : Walker) (L k : ℕ) (fit : Fit w L k) where
       let enough : k * width L (w .«n_free») * w .«n_edges» ≤ room = rw e at h in
       sym (le-ltb room (length (states-of w L k) * w .«n_edges») (omega (arith, mul-le-mul-right (w .«n_edges») states-within)))
 
--- ---- what a limited power tells
-module _ (b n p : ℕ) (h : Limited (b ^ n) p) where
-  pub power-above : 1048576 < p → 1048576 < b ^ n
-  power-above k = go (decLt 1048576 (b ^ n))
-    where
-      go : Dec (1048576 < b ^ n) → 1048576 < b ^ n
-      go (yes l) = l
-      go (no l) = let e = h .exact (omega arith) in absurd (omega arith)
-
-  pub power-within : p ≤ 1048576 → b ^ n ≤ 1048576
-  power-within k = go (decLt 1048576 (b ^ n))
-    where
-      go : Dec (1048576 < b ^ n) → b ^ n ≤ 1048576
-      go (yes l) = let m = h .above l in absurd (omega arith)
-      go (no l) = omega arith
+-- a limited power is above the limit just where the power is
+pub limited-test : (number p : ℕ) → Limited number p → ltb 1048576 p ≡ ltb 1048576 number
+limited-test number p h = go (decLt 1048576 number)
+  where
+    go : Dec (1048576 < number) → ltb 1048576 p ≡ ltb 1048576 number
+    go (yes k) = rw (lt-ltb 1048576 number k, lt-ltb 1048576 p (h .above k))
+    go (no k) = rw (h .exact (omega arith))
 
 -- a lower power is no larger
 pub power-less : (L n : ℕ) → (2 * L + 1) ^ (n - 1) ≤ (2 * L + 1) ^ n

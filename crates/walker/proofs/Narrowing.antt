@@ -5,6 +5,7 @@ use mathlib.Core.Bool.{Bool, true, false, _&&_, cond, false≢true}
 use mathlib.Core.Path.{_≡_, refl, sym, _∙_, ap}
 use native.Mathlib.Omega.{arith}
 use native.Mathlib.Numerals.{add-one}
+use native.Mathlib.Nat.{add-zero, add-suc}
 use lib.Dec.{T, eqb, leb}
 use lib.IntN.{ℤ, pos, negsuc, negℤ, natAbs, _-ℤ_, _*ℤ_}
 use lib.Signed.{mag, ltZ, leZ, nonNeg}
@@ -17,10 +18,11 @@ use Rattle.mathematics.proofs.Tests.{and-parts, and-both, same-tests}
 use Rattle.mathematics.proofs.Integers.{positive, negative, parts, parts-size, one-part, the, _⊟_, test-less}
 use Rattle.mathematics.proofs.Signed.{size-difference, size-fits}
 use Rattle.walker.specs.declared.blocks.Span.{Span}
-use Rattle.walker.specs.Walker.{excess, entry-start, entry-stop, start, stop}
-use Rattle.walker.specs.Blocks.{Narrowed, Spans}
+use Rattle.walker.specs.Walker.{excess, entry-start, entry-stop, start, stop, block}
+use Rattle.walker.specs.Blocks.{Narrowed, SpanTo, Spans}
 use Rattle.walker.proofs.Signs.{small-back}
 use Rattle.walker.proofs.Interval.{stop-bound}
+use Rattle.walker.proofs.Puts.{rows-none}
 
 -- a value is within -L to L
 pub within-test : (L : ℕ) (x : ℤ) → (leZ (negℤ (pos L)) x && leZ x (pos L)) ≡ leb (natAbs x) L
@@ -82,16 +84,38 @@ module _ (L n : ℕ) (x s : ℤ) (span : Span) (bound : span .to ≤ n) where
   narrow-signed z a b e f = record { from = rw z e; to = rw (z, ← (add-one L)) f }
 
 -- ---- entry after entry
-pub span-none : (L n : ℕ) (s z : List ℤ) → Spans L n s z 0 (record { from = 0; to = n })
+pub span-none : (L n : ℕ) (s z : List ℤ) → SpanTo L n s z 0 (record { from = 0; to = n })
 unfolding start stop
 span-none L n s z = record { from = refl; to = refl }
 
-pub span-more : (L n : ℕ) (s z : List ℤ) (m : ℕ) (old new : Span) → Spans L n s z m old → Narrowed L n (getD s m (pos 0)) (getD z m (pos 0)) old new → Spans L n s z (m + 1) new
+pub span-more : (L n : ℕ) (s z : List ℤ) (m : ℕ) (old new : Span) → SpanTo L n s z m old → Narrowed L n (getD s m (pos 0)) (getD z m (pos 0)) old new → SpanTo L n s z (m + 1) new
 unfolding start stop
-span-more L n s z m old new h k = 
+span-more L n s z m old new h k =
     let x = getD s m (pos 0) in
     let y = getD z m (pos 0) in
     rw (add-one m) (record { from = k .from ∙ ap (λ a. max a (entry-start L n x y)) (h .from); to = k .to ∙ ap (λ a. min a (entry-stop L n x y)) (h .to) })
 
-pub span-bound : (L n : ℕ) (s z : List ℤ) (m : ℕ) (r : Span) → Spans L n s z m r → r .to ≤ n
-span-bound L n s z m r h = rw (h .to) (stop-bound L n s z m)
+module _ (L n : ℕ) (s z : List ℤ) (m : ℕ) (r : Span) (h : SpanTo L n s z m r) where
+  pub span-bound : r .to ≤ n
+  span-bound = rw (h .to) (stop-bound L n s z m)
+
+  -- more entries narrow it further
+  narrower : (d : ℕ) → (start L n s z m ≤ start L n s z (m + d)) × (stop L n s z (m + d) ≤ stop L n s z m)
+  unfolding start stop
+  narrower zero = rw (add-zero m) (omega arith, omega arith)
+  narrower (suc d) = let k = narrower d in rw (add-suc m d) (omega (arith, k .0), omega (arith, k .1))
+
+  -- all entries, or the span is empty already
+  pub span-all : m ≡ length s → Spans L n s z r
+  unfolding block
+  span-all e = record { is = rw (h .from, h .to, e); bound = span-bound }
+
+  pub span-empty : m ≤ length s → r .to ≤ r .from → Spans L n s z r
+  unfolding block
+  span-empty few none =
+      let e : m + (length s - m) ≡ length s = omega arith in
+      let k = rw e at (narrower (length s - m)) in
+      record {
+        is = rows-none s z (r .from) (r .to) (omega arith) ∙ sym (rows-none s z _ _ (omega (arith, k .0, k .1, h .from, h .to)));
+        bound = span-bound;
+      }

@@ -6,10 +6,10 @@ use native.Mathlib.Omega.{arith}
 use native.Mathlib.Nat.{add-zero, zero-add, mul-le-mul-right}
 use native.Mathlib.Numerals.{add-one}
 use lib.IntN.{ℤ, pos}
-use lib.ListN.{length, take, drop, length-append, length-map, take-append-drop}
+use lib.ListN.{getD, length, take, drop, length-append, length-map, take-append-drop}
 use lib.Seq.{paste, length-paste, length-paste-head, take-length, take-at, drop-at, drop-drop}
 use Rattle.mathematics.specs.Counting.{below}
-use Rattle.mathematics.proofs.Below.{length-below}
+use Rattle.mathematics.proofs.Below.{length-below, map-below-at}
 use Rattle.walker.specs.Cycles.{added}
 use Rattle.walker.specs.Walker.{rows}
 use Rattle.walker.specs.Blocks.{put}
@@ -74,6 +74,10 @@ module _ (s z : List ℤ) (from : ℕ) where
   pub rows-length : (to : ℕ) → length (rows s z from to) ≡ to - from
   unfolding rows
   rows-length to = length-map (below (to - from)) (λ i. added s (pos (from + i)) z) ∙ length-below (to - from)
+
+  pub rows-at : (to i : ℕ) → i < to - from → getD (rows s z from to) i [] ≡ added s (pos (from + i)) z
+  unfolding rows
+  rows-at to i h = map-below-at (λ i. added s (pos (from + i)) z) (to - from) i [] h
 
   pub rows-long : (to : ℕ) → length (flatten (rows s z from to)) ≡ (to - from) * length s
   unfolding rows below flatten

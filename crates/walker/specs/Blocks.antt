@@ -1,11 +1,11 @@
 -- The interval of a block, as the code keeps it.
-use Prim.Native.Nat.{ℕ, _+_, min, max}
+use Prim.Native.Nat.{ℕ, _+_, _≤_, min, max}
 use mathlib.Core.List.{List, _++_, flatten}
 use mathlib.Core.Path.{_≡_}
 use lib.IntN.{ℤ}
 use lib.ListN.{length, take, drop}
 use Rattle.walker.specs.declared.blocks.Span.{Span}
-use Rattle.walker.specs.Walker.{entry-start, entry-stop, start, stop}
+use Rattle.walker.specs.Walker.{entry-start, entry-stop, start, stop, rows, block}
 
 -- a span narrowed by one entry x and its sign s
 pub record Narrowed (L n : ℕ) (x s : ℤ) (old new : Span) : Type 0 where
@@ -13,9 +13,14 @@ pub record Narrowed (L n : ℕ) (x s : ℤ) (old new : Span) : Type 0 where
   pub to : new .to ≡ min (old .to) (entry-stop L n x s)
 
 -- the span of a block, by its first m entries
-pub record Spans (L n : ℕ) (s z : List ℤ) (m : ℕ) (r : Span) : Type 0 where
+pub record SpanTo (L n : ℕ) (s z : List ℤ) (m : ℕ) (r : Span) : Type 0 where
   pub from : r .from ≡ start L n s z m
   pub to : r .to ≡ stop L n s z m
+
+-- a span whose rows are the states of a block
+pub record Spans (L n : ℕ) (s z : List ℤ) (r : Span) : Type 0 where
+  pub is : rows s z (r .from) (r .to) ≡ block L n s z
+  pub bound : r .to ≤ n
 
 -- s written over a list from a place on
 unfoldable pub put : {A : Type 0} → List A → ℕ → List A → List A

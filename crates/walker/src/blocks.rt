@@ -89,13 +89,16 @@ fn narrow(span: Span, x: i32, sign: i8, lambda: usize, width: usize) -> Span
 // The multiples of a cycle that keep an assignment within the bounds, below a width.
 pub fn interval(config: &[i32], cycle: &[i8], lambda: usize, width: usize) -> Span
     requires { ⌜ (length (now cycle) ≡ length (now config)) × Small (2 ^ 20) (now config) × Small 1 (now cycle) × (lambda ≤ 1000) ⌝ }
-    ensures { λ r. ⌜ Spans lambda width (now (config .entry)) (now (cycle .entry)) (length (now (config .entry))) r ⌝ }
+    ensures { λ r. ⌜ Spans lambda width (now (config .entry)) (now (cycle .entry)) r ⌝ }
 {
     let mut span = Span {
         from: 0,
         to: width,
     };
     for e in 0..config.len() {
+        if span.to <= span.from {
+            return span;
+        }
         span = narrow(span, config[e], cycle[e], lambda, width);
     }
     span

@@ -38,6 +38,14 @@ fn power(base: usize, exponent: usize) -> usize
     product
 }
 
+// Whether the candidates are over the limit.
+pub fn too_many(n_free: usize, lambda: usize) -> bool
+    requires { ⌜ lambda ≤ 1000 ⌝ }
+    ensures { λ r. ⌜ r ≡ ltb 1048576 ((2 * lambda + 1) ^ «n_free») ⌝ }
+{
+    1048576 < power(2 * lambda + 1, n_free)
+}
+
 // The number of blocks, where all candidates are within the limit.
 pub fn count_of_blocks(n_free: usize, lambda: usize) -> usize
     requires { ⌜ (lambda ≤ 1000) × ((2 * lambda + 1) ^ «n_free» ≤ 1048576) ⌝ }
@@ -50,7 +58,7 @@ pub fn count_of_blocks(n_free: usize, lambda: usize) -> usize
 }
 
 // Whether a list of a length is too short for all states. They are counted only where it could be.
-fn too_short(w: Walker, lambda: usize, blocks: usize, room: usize) -> bool
+pub fn too_short(w: Walker, lambda: usize, blocks: usize, room: usize) -> bool
     requires { ⌜ Fit w lambda blocks ⌝ }
     ensures { λ r. ⌜ r ≡ ltb room (length (states-of w lambda blocks) * w .«n_edges») ⌝ }
 {
@@ -81,7 +89,7 @@ pub fn enumerate_gauge_invariant(
     }
     let w = prepare(c);
     let n_free = w.n_free;
-    if 1048576 < power(2 * lambda + 1, n_free) {
+    if too_many(n_free, lambda) {
         return Enumerated::Refused(10);
     }
     let blocks = count_of_blocks(n_free, lambda);

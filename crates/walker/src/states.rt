@@ -67,3 +67,31 @@ pub fn write_blocks(
     }
     count
 }
+
+// From the first candidate to the state with a number.
+pub fn find_state(
+    config: &mut [i32],
+    free: &[u8; 63],
+    n_free: usize,
+    cycles: &[i8],
+    lambda: usize,
+    blocks: usize,
+    place: usize,
+)
+    requires { ⌜ Walkable (now free) (now cycles) lambda «n_free» (now config) blocks × (place < length (walked-states (now free) (row (length (now config)) (now cycles)) lambda «n_free» (now config) blocks)) ⌝ }
+    ensures { λ _. ⌜ now (config .exit) ≡ getD (walked-states (now (free .entry)) (row (length (now (config .entry))) (now (cycles .entry))) lambda «n_free» (now (config .entry)) blocks) place [] ⌝ }
+{
+    let m = config.len();
+    let n = width(n_free, lambda);
+    let mut left = place;
+    for k in 0..blocks {
+        let span = interval(config, &cycles[0..m], lambda, n);
+        let count = size(span);
+        if left < count {
+            add(config, &cycles[0..m], signed(span.from + left));
+            return;
+        }
+        left -= count;
+        step(config, free, n_free, cycles, lambda);
+    }
+}

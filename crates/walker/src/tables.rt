@@ -2,14 +2,16 @@
 use crate::cycles::fundamental_cycles;
 use crate::cycles::tree_paths;
 use crate::states::count_blocks;
+use crate::states::find_state;
 use crate::states::write_blocks;
 use crate::steps::begin;
 use complex::SimplicialComplex;
 use complex::search::search;
 use gauss_law::spanning::free_edges;
 ghost use mathlib.Core.Path.{_≡_};
-ghost use Prim.Native.Nat.{_*_, _≤_};
-ghost use lib.ListN.{length};
+ghost use mathlib.Core.List.{[]};
+ghost use Prim.Native.Nat.{_*_, _<_, _≤_};
+ghost use lib.ListN.{getD, length, take};
 ghost use Rattle.complex.specs.Complex.{complexOf};
 ghost use Rattle.complex.specs.Judge.{refusal};
 ghost use Rattle.walker.specs.Tables.{Walks, states-of, Fit};
@@ -69,4 +71,20 @@ pub fn write_states(w: Walker, lambda: usize, blocks: usize, states: &mut [i32])
     let config = &mut space[0..m];
     begin(config, &cycles, n_free, lambda);
     write_blocks(states, config, &free, n_free, &cycles, lambda, blocks)
+}
+
+// The state with a number stands in the first n_edges entries.
+pub fn state_at(w: Walker, lambda: usize, blocks: usize, place: usize) -> [i32; 63]
+    requires { ⌜ Fit w lambda blocks × (place < length (states-of w lambda blocks)) ⌝ }
+    ensures { λ r. ⌜ take (w .«n_edges») r ≡ getD (states-of w lambda blocks) place [] ⌝ }
+{
+    let free = w.free;
+    let cycles = w.cycles;
+    let n_free = w.n_free;
+    let mut space = [0i32; 63];
+    let m = w.n_edges;
+    let config = &mut space[0..m];
+    begin(config, &cycles, n_free, lambda);
+    find_state(config, &free, n_free, &cycles, lambda, blocks, place);
+    space
 }

@@ -3,22 +3,27 @@ use mathlib.Core.Path.{_≡_, refl, _∙_}
 use native.Mathlib.Omega.{arith}
 use lib.IntN.{pos}
 use lib.ListN.{length, getD}
-use Rattle.walker.specs.Blocks.{Spans}
+use Rattle.walker.specs.Blocks.{SpanTo}
 use Rattle.mathematics.proofs.Signed.{back32}
 use Rattle.walker.proofs.Signs.{back8}
-use Rattle.walker.proofs.Narrowing.{span-none, span-more, span-bound}
+use Rattle.walker.proofs.Narrowing.{span-none, span-more, span-bound, span-all, span-empty}
 use borrow.Author.Needs.{needs}
 use Rattle.walker.proofs.blocks.interval.Statement.{statement}
 use Rattle.walker.proofs.blocks.interval.Tie as tie
 
 abbrev Inv-loop : tie.InvT-loop
-Inv-loop config cycle lambda width span₀ e₀ e-end span e = (e ≤ length config) × (e-end ≡ length config) × Spans lambda width config cycle e span
+Inv-loop config cycle lambda width span₀ e₀ e-end span e = (e ≤ length config) × (e-end ≡ length config) × SpanTo lambda width config cycle e span
 
 abbrev μ-loop : tie.MeasureT-loop
 μ-loop config cycle lambda width span₀ e₀ e-end span e = length config - e
 
 loop-holds : tie.Need-loop-holds Inv-loop μ-loop
 loop-holds c = (omega arith, refl, span-none (c .args .lambda) (c .args .width) (c .args .config .now) (c .args .cycle .now))
+
+returns : tie.Need-returns Inv-loop μ-loop
+returns c = 
+    let at-loop = c .before .before .before in
+    span-empty _ _ _ _ _ _ (at-loop .loop .inv .2) (at-loop .loop .inv .0) (c .if1 .taken)
 
 mul-narrow : tie.Need-mul-narrow Inv-loop μ-loop
 mul-narrow c = search needs
@@ -27,11 +32,11 @@ shared-slice-copy-out-narrow : tie.Need-shared-slice-copy-out-narrow Inv-loop μ
 shared-slice-copy-out-narrow c = search needs
 
 shared-slice-copy-out-narrow-2 : tie.Need-shared-slice-copy-out-narrow-2 Inv-loop μ-loop
-shared-slice-copy-out-narrow-2 c = omega (arith, c .before .before .before .pre .0)
+shared-slice-copy-out-narrow-2 c = omega (arith, c .before .before .before .before .before .pre .0)
 
 narrow-requires : tie.Need-narrow-requires Inv-loop μ-loop
-narrow-requires c κs =
-    let at-loop = c .before .before .before in
+narrow-requires c κs = 
+    let at-loop = c .before .before .before .before .before in
     let start = at-loop .before in
     let e = at-loop .loop .e in
     rw (back32 _ (c .before .narrow-arg .given), back8 _ (c .narrow-arg2 .given))
@@ -44,15 +49,15 @@ loop-less : tie.Need-loop-less Inv-loop μ-loop
 loop-less c = search needs
 
 loop-again : tie.Need-loop-again Inv-loop μ-loop
-loop-again c =
-    let at-loop = c .before .before .before .before in
+loop-again c = 
+    let at-loop = c .before .before .before .before .before .before in
     let made = rw (back32 _ (c .before .before .narrow-arg .given), back8 _ (c .before .narrow-arg2 .given)) at (c .narrow .ensures) in
     (omega arith, refl, span-more _ _ _ _ _ _ _ (at-loop .loop .inv .2) made)
 
-returns : tie.Need-returns Inv-loop μ-loop
-returns c =
+returns-2 : tie.Need-returns-2 Inv-loop μ-loop
+returns-2 c = 
     let past : c .before .loop .e ≡ length (c .before .before .args .config .now) = omega arith in
-    rw past at (c .before .loop .inv .2)
+    span-all _ _ _ _ _ _ (c .before .loop .inv .2) past
 
 pub interval-spec : {M : Type 1} → statement M
 interval-spec =
@@ -61,6 +66,7 @@ interval-spec =
     Inv-loop
     μ-loop
     loop-holds
+    returns
     mul-narrow
     shared-slice-copy-out-narrow
     shared-slice-copy-out-narrow-2
@@ -68,4 +74,4 @@ interval-spec =
     add-e
     loop-less
     loop-again
-    returns)
+    returns-2)

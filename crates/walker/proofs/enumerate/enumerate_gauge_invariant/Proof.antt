@@ -1,12 +1,10 @@
 use Prim.Native.Nat.{_+_, _*_, _^_, _≤_}
 use mathlib.Core.Path.{_≡_, sym, _∙_}
-use native.Mathlib.Omega.{arith}
 use borrow.Author.Tests.{ltb-false}
 use Rattle.mathematics.specs.Refusals.{first}
 use Rattle.complex.specs.Complex.{complexOf}
 use Rattle.complex.specs.Judge.{refusal, truncated-tests}
 use Rattle.walker.specs.Tables.{Fit}
-use Rattle.walker.proofs.Limits.{power-within}
 use Rattle.complex.proofs.Judging.{truncated-passed}
 use Rattle.walker.proofs.Enumerating.{record-refused, candidates-refused, blocks-fit, room-refused, states-listed}
 use borrow.Author.Needs.{needs}
@@ -21,7 +19,7 @@ accepted : (c : tie.Else1) → (refusal (complexOf (c .before .before .args .c))
 accepted c = truncated-passed (c .before .before .args .c) (c .before .before .args .lambda) (none c)
 
 within : (c : tie.Else2) → (2 * c .before .before .before .before .before .args .lambda + 1) ^ c .before .before .prepare .result .«n_free» ≤ 1048576
-within c = power-within _ _ _ (c .before .power .ensures) (c .if2 .left)
+within c = ltb-false _ _ (sym (c .before .too-many .ensures) ∙ c .if2 .left)
 
 fit : (c : tie.After-count-of-blocks) → Fit (c .before .before .before .prepare .result) (c .before .before .before .before .before .before .args .lambda) (c .count-of-blocks .result)
 fit c =
@@ -38,20 +36,14 @@ returns c = record-refused _ _ _ _ (c .before .judge-truncated .ensures) (c .if1
 prepare-requires : tie.Need-prepare-requires
 prepare-requires c κs = accepted c .0
 
-mul-power : tie.Need-mul-power
-mul-power c = let h = accepted (c .before) .1 in search needs
-
-add-power : tie.Need-add-power
-add-power c = let h = accepted (c .before) .1 in search needs
-
-power-requires : tie.Need-power-requires
-power-requires c κs = let h = accepted (c .before) .1 in (omega arith, omega arith)
+too-many-requires : tie.Need-too-many-requires
+too-many-requires c κs = accepted (c .before) .1
 
 returns-2 : tie.Need-returns-2
 returns-2 c =
     let judged = c .before .before .before in
     let start = judged .before .before in
-    candidates-refused (complexOf (start .args .c)) (start .args .lambda) (start .args .states .now) (none judged) (accepted judged .1) _ (c .before .before .prepare .ensures) _ (c .before .power .ensures) (c .if2 .taken)
+    candidates-refused (complexOf (start .args .c)) (start .args .lambda) (start .args .states .now) (none judged) (accepted judged .1) _ (c .before .before .prepare .ensures) (sym (c .before .too-many .ensures) ∙ c .if2 .taken)
 
 count-of-blocks-requires : tie.Need-count-of-blocks-requires
 count-of-blocks-requires c κs = (accepted (c .before .before .before) .1, within c)
@@ -89,9 +81,7 @@ enumerate-gauge-invariant-spec =
     judge-truncated-requires
     returns
     prepare-requires
-    mul-power
-    add-power
-    power-requires
+    too-many-requires
     returns-2
     count-of-blocks-requires
     too-short-requires
