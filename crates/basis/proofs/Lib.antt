@@ -1,1 +1,3 @@
-mod Accepted
+mod Prints
+mod BlockLines
+mod Answers

@@ -11,8 +11,9 @@ use Rattle.complex.specs.Search.{search, served, serve, scan, look, touches, ac
 use Rattle.complex.specs.Judge.{counts-right, rising, simplices-right, sides-listed, triangles-right, refusal}
 use Rattle.gauss_law.specs.Gauss.{flow, gauss, lawful}
 use Rattle.gauss_law.specs.Listing.{tree-edges, free-edges, values, placed, listing}
-use Rattle.lines.specs.Lines.{ascii, last-digits, digits, signedText, valueText, valuesText, stateLine, named, countsText, firstLine}
-use Rattle.cases.specs.Cases.{stateLines, printed, Holds, triangle, one-vertex, tetrahedron, table}
+use Rattle.lines.specs.Lines.{ascii, last-digits, digits, signedText, valueText, valuesText, stateLine, stateLines, named, countsText, firstLine}
+use Rattle.lines.specs.Printed.{printed}
+use Rattle.cases.specs.Cases.{Holds, triangle, one-vertex, tetrahedron, table}
 
 pub cases : Each Holds table
 unfolding table triangle one-vertex tetrahedron refusal first counts-right rising simplices-right sides-listed triangles-right same listed place distinct choose all every search served serve scan look touches across connected tree-edges free-edges below keep counted values placed listing lawful gauss flow equal flatMap printed stateLines firstLine countsText named stateLine valuesText valueText signedText digits last-digits ascii

@@ -7,19 +7,9 @@ use lib.IntN.{ℤ, pos}
 use lib.ListN.{length}
 use Rattle.complex.specs.Complex.{Complex}
 use Rattle.complex.specs.Judge.{refusal}
-use Rattle.gauss_law.specs.Listing.{tree-edges, free-edges, listing}
-use Rattle.lines.specs.Lines.{ascii, firstLine, stateLine}
-
--- the lines of the states from a place on
-unfoldable pub stateLines : ℕ → List (List ℤ) → List ℕ
-stateLines place [] = []
-stateLines place (s ∷ ss) = stateLine place s ++ stateLines (suc place) ss
-
--- what `basis list` prints for a complex and a truncation
-unfoldable pub printed : Complex → ℕ → List ℕ
-printed c lambda =
-    firstLine (c .vertices) (length (c .edges)) (length (c .triangles)) lambda (length (listing c (λ v. pos 0) lambda))
-    ++ stateLines 0 (listing c (λ v. pos 0) lambda)
+use Rattle.gauss_law.specs.Listing.{tree-edges, free-edges}
+use Rattle.lines.specs.Lines.{ascii}
+use Rattle.lines.specs.Printed.{printed}
 
 -- a complex and a truncation, with the values that are expected of them
 pub record Case : Type 0 where

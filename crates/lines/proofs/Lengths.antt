@@ -23,11 +23,11 @@ values-long (z ∷ l) small =
     let rest = values-long l (λ k h. small (suc k) (omega arith)) in
     omega (arith, length-append (valueText z) (flatMap valueText l))
 
-pub state-line-long : (place : ℕ) (values : List ℤ) → place < 2 ^ 21 → ((k : ℕ) → k < length values → natAbs (getD values k (pos 0)) ≤ 1000) → length (stateLine place values) ≤ 8 + 6 * length values
+pub state-line-long : (place : ℕ) (values : List ℤ) → place < 2 ^ 64 → ((k : ℕ) → k < length values → natAbs (getD values k (pos 0)) ≤ 1000) → length (stateLine place values) ≤ 21 + 6 * length values
 unfolding stateLine ascii
 state-line-long place values few small =
     omega
-    (arith, length-append (digits place) (valuesText values ++ (10 ∷ [])), length-append (valuesText values) (10 ∷ []), few-digits 6 place (omega arith), values-long values small)
+    (arith, length-append (digits place) (valuesText values ++ (10 ∷ [])), length-append (valuesText values) (10 ∷ []), number-long place few, values-long values small)
 
 named-long : (name : List ℕ) (n : ℕ) → n < 2 ^ 64 → length (name ++ digits n) ≤ length name + 20
 named-long name n h = omega (arith, length-append name (digits n), number-long n h)

@@ -40,6 +40,11 @@ valuesText values = flatMap valueText values
 unfoldable pub stateLine : ℕ → List ℤ → List ℕ
 stateLine place values = digits place ++ (valuesText values ++ ascii "\n")
 
+-- the lines of the states from a place on
+unfoldable pub stateLines : ℕ → List (List ℤ) → List ℕ
+stateLines place [] = []
+stateLines place (s ∷ ss) = stateLine place s ++ stateLines (suc place) ss
+
 -- a name and a number
 unfoldable pub named : String → ℕ → List ℕ
 named name n = ascii name ++ digits n

@@ -5,6 +5,7 @@ pub mod Candidates
 pub mod Combined
 pub mod Between
 pub mod Interval
+pub mod BlockValues
 pub mod Walk
 pub mod Uncharged
 pub mod Paths

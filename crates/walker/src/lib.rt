@@ -3,6 +3,7 @@
 pub mod blocks;
 pub mod cycles;
 pub mod enumerate;
+pub mod row;
 pub mod states;
 pub mod steps;
 pub mod tables;

@@ -1,7 +1,23 @@
-use Rattle.basis.proofs.Accepted.{accepted-counts}
+use mathlib.Core.Path.{sym}
+use lib.Seq.{length-take-le}
 use borrow.Author.Needs.{needs}
 use Rattle.basis.proofs.main.Statement.{statement}
 use Rattle.basis.proofs.main.Tie as tie
+
+is-list-requires : tie.Need-is-list-requires
+is-list-requires c κs = search needs
+
+slice-aggregate-write-all : tie.Need-slice-aggregate-write-all
+slice-aggregate-write-all c = search needs
+
+write-all-requires : tie.Need-write-all-requires
+write-all-requires c κs = search needs
+
+returns : tie.Need-returns
+returns c = search needs
+
+buffer-requires : tie.Need-buffer-requires
+buffer-requires c κs = search needs
 
 slice-aggregate-read-full : tie.Need-slice-aggregate-read-full
 slice-aggregate-read-full c = search needs
@@ -9,29 +25,26 @@ slice-aggregate-read-full c = search needs
 read-full-requires : tie.Need-read-full-requires
 read-full-requires c κs = search needs
 
+slice-aggregate-print-answer : tie.Need-slice-aggregate-print-answer
+slice-aggregate-print-answer c = search needs
+
 array-share-prefix-input : tie.Need-array-share-prefix-input
 array-share-prefix-input c = search needs
 
-slice-aggregate-read-sheet : tie.Need-slice-aggregate-read-sheet
-slice-aggregate-read-sheet c = search needs
+slice-aggregate-print-answer-2 : tie.Need-slice-aggregate-print-answer-2
+slice-aggregate-print-answer-2 c = search needs
 
-read-sheet-requires : tie.Need-read-sheet-requires
-read-sheet-requires c κs = search needs
+print-answer-requires : tie.Need-print-answer-requires
+print-answer-requires c κs = search needs
 
-enum-told : tie.Need-enum-told
-enum-told c = search needs
+array-share-prefix-out : tie.Need-array-share-prefix-out
+array-share-prefix-out c = search needs
 
-print-sheet-requires : tie.Need-print-sheet-requires
-print-sheet-requires c κs = accepted-counts _ _ (c .before .before .read-sheet .ensures) (c .enum-told .given .1)
+slice-aggregate-write-all-2 : tie.Need-slice-aggregate-write-all-2
+slice-aggregate-write-all-2 c = sym (length-take-le _ _ (c .before .before .print-answer .ensures .inside))
 
-enum-known-answer : tie.Need-enum-known-answer
-enum-known-answer c = search needs
-
-print-refused-requires : tie.Need-print-refused-requires
-print-refused-requires c κs = search needs
-
-returns : tie.Need-returns
-returns c = search needs
+write-all-requires-2 : tie.Need-write-all-requires-2
+write-all-requires-2 c κs = search needs
 
 returns-2 : tie.Need-returns-2
 returns-2 c = search needs
@@ -40,14 +53,18 @@ pub main-spec : {M : Type 1} → statement M
 main-spec =
     tie.close
     (tie.spec
+    is-list-requires
+    slice-aggregate-write-all
+    write-all-requires
+    returns
+    buffer-requires
     slice-aggregate-read-full
     read-full-requires
+    slice-aggregate-print-answer
     array-share-prefix-input
-    slice-aggregate-read-sheet
-    read-sheet-requires
-    enum-told
-    print-sheet-requires
-    enum-known-answer
-    print-refused-requires
-    returns
+    slice-aggregate-print-answer-2
+    print-answer-requires
+    array-share-prefix-out
+    slice-aggregate-write-all-2
+    write-all-requires-2
     returns-2)
