@@ -13,4 +13,4 @@ pub mod Ordered
 pub mod Below
 pub mod Flags
 pub mod Digits
-pub mod Joined
+pub mod Pasted

@@ -2,11 +2,12 @@
 use Prim.Native.Nat.{ℕ, zero, suc, _<_}
 use mathlib.Core.List.{List, [], _∷_, map}
 use mathlib.Core.Path.{_≡_, refl}
-use mathlib.Core.Bool.{Bool, true}
+use mathlib.Core.Bool.{Bool, true, false, cond}
 use native.Mathlib.Nat.{not-suc-le-zero}
 use native.Mathlib.Omega.{arith}
 use lib.ListN.{length, getD}
 use Rattle.mathematics.specs.Tests.{all}
+use Rattle.mathematics.specs.Counting.{keep}
 use Rattle.mathematics.proofs.Tests.{and-parts}
 
 -- entry i, whatever stands past the ends
@@ -22,3 +23,17 @@ map-back p f g back [] h = refl
 map-back p f g back (x ∷ l) h =
     let r = and-parts (p x) (all p l) h in
     rw (back x (r .0), map-back p f g back l (r .1))
+
+pub map-same : {A B : Type 0} (f g : A → B) (l : List A) → ((x : A) → f x ≡ g x) → map f l ≡ map g l
+map-same f g [] h = refl
+map-same f g (x ∷ l) h = rw (h x, map-same f g l h)
+
+-- what passes of the new entries
+pub keep-map : {A B : Type 0} (p : B → Bool) (f : A → B) (l : List A) → keep p (map f l) ≡ map f (keep (λ x. p (f x)) l)
+unfolding keep
+keep-map p f [] = refl
+keep-map p f (x ∷ l) = go (p (f x)) (keep-map p f l)
+  where
+    go : (b : Bool) → keep p (map f l) ≡ map f (keep (λ x. p (f x)) l) → cond b (f x ∷ keep p (map f l)) (keep p (map f l)) ≡ map f (cond b (x ∷ keep (λ x. p (f x)) l) (keep (λ x. p (f x)) l))
+    go true e = rw e
+    go false e = e

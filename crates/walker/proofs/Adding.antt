@@ -1,13 +1,13 @@
 -- Laws of one assignment added to another a number of times.
-use Prim.Native.Nat.{ℕ, zero, suc, _<_}
+use Prim.Native.Nat.{ℕ, zero, suc}
 use mathlib.Core.List.{List, [], _∷_}
 use mathlib.Core.Bool.{Bool, true, false, cond}
-use mathlib.Core.Path.{_≡_, refl, sym, _∙_, ap}
+use mathlib.Core.Path.{_≡_, refl, _∙_, ap}
 use native.Mathlib.Omega.{arith}
 use lib.Dec.{eqb}
-use lib.IntN.{ℤ, pos, _+ℤ_, _-ℤ_, _*ℤ_, *ℤ-zero, +ℤ-idr}
+use lib.IntN.{ℤ, pos, _+ℤ_, _*ℤ_, *ℤ-zero, +ℤ-idr}
 use lib.ListN.{getD, length}
-use Rattle.mathematics.proofs.Integers.{linear, the, nought, _⊞_, _⊟_, times-sum, times-difference}
+use Rattle.mathematics.proofs.Integers.{linear, the, _⊞_, _⊟_, times-sum, times-difference}
 use Rattle.complex.specs.Complex.{Simplex, start, end}
 use Rattle.gauss_law.specs.Gauss.{flow, gauss}
 use Rattle.walker.specs.Cycles.{added}

@@ -1,25 +1,23 @@
 -- The states of the first blocks, one block more.
 use Prim.Native.Nat.{ℕ, zero, suc, _+_, _-_, _*_, _^_, _≤_, _<_}
-use mathlib.Core.List.{List, [], _∷_, _++_, flatMap, flatten, append-nil, append-assoc}
+use mathlib.Core.List.{List, [], _++_, flatMap, flatten, append-nil, append-assoc}
 use mathlib.Core.Path.{_≡_, refl, sym, _∙_, ap}
 use native.Mathlib.Omega.{arith}
 use native.Mathlib.Numerals.{add-one}
 use native.Mathlib.Nat.{mul-le-mul-right, sub-zero, add-zero, zero-add, add-suc}
-use native.Mathlib.Decide.{decLe}
 use lib.IntN.{ℤ, pos}
 use lib.ListN.{getD, length, take, length-append, List·getD-append}
 use lib.Seq.{getD-append-add}
 use Rattle.mathematics.specs.Counting.{below, applied}
-use Rattle.mathematics.proofs.Below.{length-below, map-below-at}
-use Rattle.mathematics.proofs.Joined.{flatMap-last}
+use Rattle.mathematics.proofs.Flat.{flatMap-last, flatten-append}
 use Rattle.walker.specs.declared.blocks.Span.{Span}
 use Rattle.walker.specs.Cycles.{row, added}
 use Rattle.walker.specs.Walker.{stepped, start, stop, rows, block, width, walked, walked-states}
 use Rattle.walker.specs.Steps.{Small, Addable, CyclesFit, FreeFit, Walkable}
-use Rattle.walker.specs.Blocks.{Spans, put, Written}
+use Rattle.walker.specs.Blocks.{Spans, put}
 use Rattle.walker.proofs.Interval.{stop-bound}
 use Rattle.walker.proofs.Stepping.{cycle-long, cycle-signs}
-use Rattle.walker.proofs.Puts.{put-more, flatten-append, rows-length, rows-at, rows-long}
+use Rattle.walker.proofs.Puts.{put-more, rows-length, rows-at, rows-long}
 
 pub width-bound : (L n : ℕ) → L ≤ 1000 → width L n ≤ 2001
 unfolding width
@@ -162,7 +160,7 @@ module _ (free : List ℕ) (cycles : List ℤ) (L n : ℕ) (s : List ℤ) (block
       pub written-more : (old list new : List ℤ) → length (walked-states free cycle L n s blocks) * length s ≤ length old → (count : ℕ) → count ≡ length (walked-states free cycle L n s k)
           → list ≡ put old 0 (flatten (walked-states free cycle L n s k)) → new ≡ put list (count * length s) (flatten (rows config (take (length s - 0) cycles) (r .from) (r .to)))
           → new ≡ put old 0 (flatten (walked-states free cycle L n s (k + 1)))
-      written-more old list new room count h before after = 
+      written-more old list new room count h before after =
           let old-states = walked-states free cycle L n s k in
           let B = block L (width L n) (walked free cycle L n s k) (cycle 0) in
           let long : length (flatten old-states) ≡ length old-states * length s = states-long free cycle L n s (fit .sized) k in

@@ -1,9 +1,8 @@
 -- Candidates: the lawful assignments with given values on the free edges. The states are the candidates within -L to L, in counting order.
 use Prim.Native.Nat.{ℕ, zero, suc, _+_, _*_, _≤_, _<_}
-use mathlib.Core.List.{List, [], _∷_, map}
+use mathlib.Core.List.{List, map}
 use mathlib.Core.Bool.{Bool, true, false, cond}
-use mathlib.Core.Path.{_≡_, refl, sym, _∙_, ap}
-use mathlib.Core.Logic.{_≢_}
+use mathlib.Core.Path.{_≡_, sym, _∙_, ap}
 use native.Mathlib.Omega.{arith}
 use native.Mathlib.Decide.{ℕ-discrete}
 use borrow.Author.Tests.{leb-true, le-leb}
@@ -13,17 +12,17 @@ use lib.Signed.{ltZ, _<ℤ_}
 use lib.ListN.{getD, length, set, length-set, length-map}
 use lib.Seq.{getD-set-same, getD-set-other}
 use Rattle.mathematics.specs.Integers.{sum}
-use Rattle.mathematics.specs.Lists.{listed, place}
+use Rattle.mathematics.specs.Lists.{place}
 use Rattle.mathematics.specs.Tests.{all}
 use Rattle.mathematics.specs.Counting.{keep, counted}
 use Rattle.mathematics.proofs.Tests.{all-at, at-all}
-use Rattle.mathematics.proofs.Ordered.{Each, Member, Ordered, each-to, each-all, each-both, each-map, place-member, member-place, member-map, ordered-map, ordered-to, keep-passes, keep-each, keep-member, keep-ordered}
+use Rattle.mathematics.proofs.Ordered.{Each, Member, Ordered, each-to, each-all, each-both, each-map, place-member, member-map, ordered-map, ordered-to, keep-passes, keep-each, keep-member, keep-ordered}
 use Rattle.mathematics.proofs.Below.{map-at, member-listed, same-place, place-at}
 use Rattle.mathematics.proofs.Digits.{Smaller, counted-each, counted-member, counted-ordered}
 use Rattle.complex.specs.Complex.{Complex}
 use Rattle.complex.specs.Judge.{Accepted}
-use Rattle.gauss_law.specs.Gauss.{gauss, Lawful, State}
-use Rattle.gauss_law.specs.Listing.{tree-edges, free-edges, values, listing, Free, Before}
+use Rattle.gauss_law.specs.Gauss.{Lawful, State}
+use Rattle.gauss_law.specs.Listing.{tree-edges, free-edges, values, listing, Before}
 use Rattle.walker.specs.Cycles.{added, Cycle, Tables}
 use Rattle.walker.specs.Walker.{counted-up, stepped}
 use Rattle.gauss_law.proofs.Tree.{Solvable}
@@ -31,7 +30,7 @@ use Rattle.gauss_law.proofs.Free.{free-below, free-once, determined}
 use Rattle.gauss_law.proofs.Listing.{values-within, values-ordered, values-member, free-place, earlier, complete-from}
 use Rattle.gauss_law.proofs.Extension.{Extends}
 use Rattle.gauss_law.proofs.Accepted.{accepted-tree, accepted-extension, complete-listing}
-use Rattle.walker.proofs.Signs.{times-one}
+use Rattle.mathematics.proofs.Integers.{times-one}
 use Rattle.walker.proofs.Adding.{added-length, added-at, gauss-closed}
 use Rattle.walker.proofs.Counter.{moved, up-from}
 

@@ -2,7 +2,6 @@
 use Prim.Native.Nat.{ℕ, zero, suc, _+_, _*_, _≤_, _<_}
 use mathlib.Core.List.{List, [], _∷_}
 use mathlib.Core.Path.{_≡_, refl, sym, _∙_}
-use mathlib.Core.Logic.{_≢_}
 use native.Mathlib.Omega.{arith}
 use native.Mathlib.Decide.{ℕ-discrete}
 use lib.IntN.{ℤ, pos, _+ℤ_, _*ℤ_, negℤ, natAbs, +ℤ-idl}
@@ -11,12 +10,11 @@ use lib.Seq.{getD-set-same, getD-set-other}
 use Rattle.complex.specs.Complex.{Simplex, Complex}
 use Rattle.gauss_law.specs.Gauss.{gauss}
 use Rattle.gauss_law.specs.Listing.{tree-edges, free-edges}
-use Rattle.walker.specs.Cycles.{added, Tables}
+use Rattle.walker.specs.Cycles.{Tables}
 use Rattle.walker.specs.Walker.{combined, lowest}
-use Rattle.mathematics.proofs.Signed.{size-sum}
-use Rattle.walker.proofs.Signs.{size-sign}
+use Rattle.mathematics.proofs.Signed.{size-sum, size-sign}
 use Rattle.gauss_law.proofs.Tree.{Solvable}
-use Rattle.walker.proofs.Adding.{added-at, added-length}
+use Rattle.walker.proofs.Adding.{added-at}
 use Rattle.gauss_law.proofs.Gauss.{flow-zero}
 use Rattle.walker.proofs.Counter.{moved, value}
 use Rattle.walker.proofs.Candidates.{Chosen, chosen-once, added-chosen, moved-length}

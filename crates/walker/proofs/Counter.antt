@@ -2,7 +2,7 @@
 use Prim.Native.Nat.{ℕ, zero, suc, _+_, _*_, _^_, _≤_, _<_}
 use mathlib.Core.List.{List, [], _∷_, _++_, map, map-append, map-map, flatMap, append-nil, append-assoc}
 use mathlib.Core.Bool.{Bool, true, false, cond}
-use mathlib.Core.Path.{_≡_, refl, sym, _∙_, ap}
+use mathlib.Core.Path.{_≡_, refl, sym, _∙_}
 use native.Mathlib.Omega.{arith}
 use native.Mathlib.Nat.{pow-zero, pow-succ', add-zero, add-suc}
 use lib.IntN.{ℤ, pos, _+ℤ_, _-ℤ_, negℤ}
@@ -10,7 +10,7 @@ use lib.Signed.{ltZ}
 use lib.ListN.{getD, length, set, length-set, replicate, length-replicate}
 use Rattle.mathematics.specs.Counting.{below, counted, applied}
 use Rattle.mathematics.proofs.Integers.{positive, negative, integral, parts, the, _⊞_, _⊟_, ⊖_, less-test, not-less-test}
-use Rattle.mathematics.proofs.Joined.{flatMap-last}
+use Rattle.mathematics.proofs.Flat.{flatMap-last}
 use Rattle.gauss_law.specs.Listing.{values}
 use Rattle.walker.specs.Walker.{counted-up}
 

@@ -1,20 +1,19 @@
 -- The table of fundamental cycles of an accepted record, as the code fills it.
-use Prim.Native.Nat.{ℕ, zero, suc, _+_, _*_, _≤_, _<_}
-use mathlib.Core.List.{List, [], _∷_}
-use mathlib.Core.Path.{_≡_, refl, sym, _∙_, ap, subst}
+use Prim.Native.Nat.{ℕ, suc, _+_, _*_, _≤_, _<_}
+use mathlib.Core.List.{List, []}
+use mathlib.Core.Path.{_≡_, sym, _∙_, ap, subst}
 use mathlib.Core.Logic.{_≢_}
 use native.Mathlib.Omega.{arith}
 use native.Mathlib.Numerals.{add-one}
 use native.Mathlib.Decide.{ℕ-discrete, decLt}
-use lib.IntN.{ℤ, pos, negsuc, _+ℤ_, _-ℤ_, natAbs}
-use lib.ListN.{getD, length, take, set, replicate, length-replicate, length-set, List·getD-eq-default}
+use lib.IntN.{ℤ, pos, negsuc, _-ℤ_, natAbs}
+use lib.ListN.{getD, length, set, replicate, length-replicate, length-set, List·getD-eq-default}
 use lib.Seq.{paste, paste-suc, getD-take, length-paste}
 use Rattle.mathematics.proofs.Ordered.{place-member, each-at}
 use Rattle.complex.specs.declared.SimplicialComplex.{SimplicialComplex}
 use Rattle.complex.specs.Complex.{Simplex, Complex, entries, start, end, complexOf}
-use Rattle.complex.specs.Search.{Search, search}
 use Rattle.complex.specs.Judge.{refusal, Accepted}
-use Rattle.complex.proofs.Simplices.{simplex-at, start-at, end-at}
+use Rattle.complex.proofs.Simplices.{simplex-at}
 use Rattle.complex.proofs.Accepting.{accepted}
 use Rattle.gauss_law.specs.Listing.{tree-edges, free-edges}
 use Rattle.gauss_law.specs.declared.spanning.FreeEdges.{FreeEdges}
@@ -23,10 +22,11 @@ use Rattle.gauss_law.proofs.Free.{free-below}
 use Rattle.gauss_law.proofs.Accepted.{accepted-ends}
 use Rattle.gauss_law.proofs.Spanned.{edges-long}
 use Rattle.walker.specs.Cycles.{row, added, Cycle, PathTable, Subtractable, closed, CycleTable}
-use Rattle.walker.proofs.Signs.{minus-one-times}
+use Rattle.mathematics.proofs.Integers.{minus-one-times}
 use Rattle.walker.proofs.Adding.{added-at, added-length}
 use Rattle.walker.proofs.Combined.{zeros-at}
-use Rattle.walker.proofs.Rows.{entry-paste, entry-set, row-at, row-length, row-written, row-kept, row-set, row-set-other}
+use Rattle.mathematics.proofs.Pasted.{entry-paste, entry-set}
+use Rattle.walker.proofs.Rows.{row-at, row-length, row-written, row-kept, row-set, row-set-other}
 use Rattle.walker.proofs.Paths.{found, fundamental}
 
 abbrev Sign : ℤ → Type 0

@@ -1,20 +1,19 @@
 -- What the enumeration tells, by the test that decides it.
-use Prim.Native.Nat.{ℕ, _+_, _-_, _*_, _^_, _≤_, _<_}
+use Prim.Native.Nat.{ℕ, _+_, _-_, _*_, _^_, _≤_}
 use mathlib.Core.List.{List, [], _∷_, _++_, flatten}
-use mathlib.Core.Bool.{Bool, true, false, cond}
+use mathlib.Core.Bool.{true, false, cond}
 use mathlib.Core.Path.{_≡_, refl, sym, _∙_, ap}
 use native.Mathlib.Omega.{arith}
-use lib.Dec.{eqb, ltb}
+use lib.Dec.{ltb}
 use lib.IntN.{ℤ, pos}
 use lib.ListN.{length, drop}
-use borrow.Author.Tests.{ltb-false, le-ltb}
+use borrow.Author.Tests.{le-ltb}
 use Rattle.mathematics.specs.Tests.{all}
 use Rattle.mathematics.specs.Refusals.{first, value, outcome, written}
 use Rattle.mathematics.proofs.Refusals.{first-stops, first-goes-on, numbered, refused-outcome, refused-kept}
-use Rattle.complex.specs.declared.SimplicialComplex.{SimplicialComplex}
-use Rattle.complex.specs.Complex.{Complex, complexOf}
+use Rattle.complex.specs.Complex.{Complex}
 use Rattle.complex.specs.Judge.{refusal, truncated-tests}
-use Rattle.gauss_law.specs.Listing.{free-edges, listing, Complete}
+use Rattle.gauss_law.specs.Listing.{free-edges, Complete}
 use Rattle.gauss_law.proofs.Accepted.{listing-complete}
 use Rattle.walker.specs.declared.tables.Walker.{Walker}
 use Rattle.walker.specs.declared.enumerate.Enumerated.the-variants.{States, Refused}

@@ -1,7 +1,7 @@
 -- The tables of an accepted record fit, and walk over all its states.
-use Prim.Native.Nat.{ℕ, _+_, _-_, _*_, _^_, _≤_, _<_}
+use Prim.Native.Nat.{ℕ, _+_, _-_, _*_, _^_, _≤_}
 use mathlib.Core.List.{List, flatten}
-use mathlib.Core.Path.{_≡_, refl, sym, _∙_, ap}
+use mathlib.Core.Path.{_≡_, sym, _∙_, ap}
 use native.Mathlib.Omega.{arith}
 use native.Mathlib.Nat.{sub-zero, mul-le-mul}
 use lib.IntN.{ℤ, pos, natAbs}
@@ -18,7 +18,7 @@ use Rattle.gauss_law.proofs.Free.{free-below}
 use Rattle.gauss_law.proofs.Spanned.{edges-long}
 use Rattle.walker.specs.declared.tables.Walker.{Walker}
 use Rattle.walker.specs.Cycles.{row, CycleTable, Tables}
-use Rattle.walker.specs.Walker.{lowest, walked, walked-states}
+use Rattle.walker.specs.Walker.{lowest, walked}
 use Rattle.walker.specs.Steps.{CyclesFit}
 use Rattle.walker.specs.Tables.{Walks, begin-of, states-of, Fit}
 use Rattle.walker.proofs.Rows.{zero-row}

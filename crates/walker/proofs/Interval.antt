@@ -1,8 +1,8 @@
 -- The multiples of a cycle that keep an assignment within -L to L are an interval.
-use Prim.Native.Nat.{ℕ, zero, suc, _+_, _-_, _*_, _≤_, _<_, min, max}
-use mathlib.Core.List.{List, [], _∷_, map, map-map}
+use Prim.Native.Nat.{ℕ, zero, suc, _+_, _-_, _*_, _≤_, _<_}
+use mathlib.Core.List.{List, map, map-map}
 use mathlib.Core.Bool.{Bool, true, false, _&&_, cond}
-use mathlib.Core.Path.{_≡_, refl, sym, _∙_, ap}
+use mathlib.Core.Path.{_≡_, refl, _∙_, ap}
 use native.Mathlib.Omega.{arith}
 use native.Mathlib.Decide.{ℕ-discrete, decLe}
 use lib.Dec.{leb, ltb}
@@ -14,13 +14,12 @@ use Rattle.mathematics.specs.Integers.{equal}
 use Rattle.mathematics.specs.Tests.{all}
 use Rattle.mathematics.specs.Counting.{below, keep}
 use Rattle.mathematics.proofs.Tests.{and-parts, and-both, same-tests, all-at, at-all}
-use Rattle.mathematics.proofs.Joined.{keep-map}
-use Rattle.mathematics.proofs.Integers.{positive, negative, parts, parts-size, one-part, the, _⊞_, _⊟_, ⊖_, test-less, test-not-less}
+use Rattle.mathematics.proofs.Maps.{keep-map}
+use Rattle.mathematics.proofs.Integers.{positive, negative, parts, parts-size, one-part, the, _⊞_, _⊟_, ⊖_, test-less, test-not-less, times-one, times-minus-one, minus-one-times}
 use Rattle.walker.specs.Cycles.{added}
 use Rattle.walker.specs.Walker.{excess, entry-start, entry-stop, start, stop, rows, block}
-use Rattle.walker.proofs.Signs.{times-one, times-minus-one, minus-one-times}
 use Rattle.walker.proofs.Adding.{added-length, added-at}
-use Rattle.walker.proofs.Between.{keep-between}
+use Rattle.mathematics.proofs.Below.{keep-between}
 use Rattle.walker.proofs.Candidates.{within}
 
 excess-parts : (a b : ℤ) → excess a b ≡ (positive a + negative b) - (positive b + negative a)

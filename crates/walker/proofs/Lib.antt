@@ -3,7 +3,6 @@ pub mod Adding
 pub mod Counter
 pub mod Candidates
 pub mod Combined
-pub mod Between
 pub mod Interval
 pub mod BlockValues
 pub mod Walk
@@ -12,7 +11,6 @@ pub mod Paths
 pub mod Rows
 pub mod PathTables
 pub mod CycleTables
-pub mod Fronts
 pub mod Stepping
 pub mod Narrowing
 pub mod Puts

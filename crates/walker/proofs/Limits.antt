@@ -1,7 +1,7 @@
 -- A power that is multiplied out only as far as the limit, and the room that all candidates take.
 use Prim.Native.Nat.{ℕ, zero, suc, _+_, _-_, _*_, _^_, _≤_, _<_}
-use mathlib.Core.Bool.{Bool, true, false, cond}
-use mathlib.Core.Path.{_≡_, refl, sym, _∙_, ap}
+use mathlib.Core.Bool.{false, cond}
+use mathlib.Core.Path.{_≡_, refl, sym, ap}
 use native.Mathlib.Omega.{arith}
 use native.Mathlib.Numerals.{add-one}
 use native.Mathlib.Nat.{pow-zero, pow-suc, pow-le-pow-right, mul-le-mul, mul-le-mul-left, mul-le-mul-right}

@@ -1,26 +1,25 @@
 -- The tests and numbers by which a block is narrowed, as the code finds them.
-use Prim.Native.Nat.{ℕ, zero, suc, _+_, _-_, _*_, _^_, _≤_, _<_, min, max}
+use Prim.Native.Nat.{ℕ, zero, suc, _+_, _-_, _*_, _^_, _≤_, min, max}
 use mathlib.Core.List.{List}
-use mathlib.Core.Bool.{Bool, true, false, _&&_, cond, false≢true}
+use mathlib.Core.Bool.{true, false, _&&_, false≢true}
 use mathlib.Core.Path.{_≡_, refl, sym, _∙_, ap}
 use native.Mathlib.Omega.{arith}
 use native.Mathlib.Numerals.{add-one}
 use native.Mathlib.Nat.{add-zero, add-suc}
-use lib.Dec.{T, eqb, leb}
+use lib.Dec.{T, leb}
 use lib.IntN.{ℤ, pos, negsuc, negℤ, natAbs, _-ℤ_, _*ℤ_}
-use lib.Signed.{mag, ltZ, leZ, nonNeg}
+use lib.Signed.{ltZ, leZ, nonNeg}
 use lib.ListN.{getD, length}
-use mir.Syntax.{w8, w32, w64}
+use mir.Syntax.{w32, w64}
 use mir.Val.{SFits, Fits, toZ, ofZ}
-use borrow.Author.Tests.{leb-true, le-leb, ne-eqb}
+use borrow.Author.Tests.{leb-true, le-leb}
 use Rattle.mathematics.specs.Integers.{equal}
 use Rattle.mathematics.proofs.Tests.{and-parts, and-both, same-tests}
-use Rattle.mathematics.proofs.Integers.{positive, negative, parts, parts-size, one-part, the, _⊟_, test-less}
-use Rattle.mathematics.proofs.Signed.{size-difference, size-fits}
+use Rattle.mathematics.proofs.Integers.{negative, parts, one-part, the, _⊟_, test-less}
+use Rattle.mathematics.proofs.Signed.{size-difference, size-fits, small-back}
 use Rattle.walker.specs.declared.blocks.Span.{Span}
 use Rattle.walker.specs.Walker.{excess, entry-start, entry-stop, start, stop, block}
 use Rattle.walker.specs.Blocks.{Narrowed, SpanTo, Spans}
-use Rattle.walker.proofs.Signs.{small-back}
 use Rattle.walker.proofs.Interval.{stop-bound}
 use Rattle.walker.proofs.Puts.{rows-none}
 
@@ -34,12 +33,6 @@ within-test (suc L) (negsuc n) =
     same-tests (leb n L && true) (leb (suc n) (suc L))
     (λ h. le-leb (suc n) (suc L) (omega (arith, leb-true n L (and-parts (leb n L) true h .0))))
     (λ h. and-both (leb n L) true (le-leb n L (omega (arith, leb-true (suc n) (suc L) h))) refl)
-
--- a sign is zero just where its bits are
-pub zero8 : (x : ℤ) → mag x < 2 ^ 7 → eqb (ofZ w8 x) 0 ≡ equal x (pos 0)
-unfolding equal
-zero8 (pos n) h = refl
-zero8 (negsuc n) h = ne-eqb (2 ^ 8 - suc n) 0 (λ e. omega arith)
 
 -- ---- how far one number is above another
 not-negative : (z : ℤ) → negative z ≡ 0 → T (nonNeg z)

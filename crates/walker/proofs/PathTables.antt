@@ -1,16 +1,16 @@
 -- The table of paths of an accepted record, as the code fills it.
-use Prim.Native.Nat.{ℕ, zero, suc, _+_, _*_, _≤_, _<_}
-use mathlib.Core.List.{List, [], _∷_}
-use mathlib.Core.Path.{_≡_, refl, sym, _∙_, ap, subst}
-use mathlib.Core.Logic.{_≢_, _⊎_, inl, inr}
+use Prim.Native.Nat.{ℕ, suc, _+_, _*_, _≤_, _<_}
+use mathlib.Core.List.{List, []}
+use mathlib.Core.Path.{_≡_, sym, _∙_, ap, subst}
+use mathlib.Core.Logic.{_≢_, inl, inr}
 use native.Mathlib.Omega.{arith}
 use native.Mathlib.Numerals.{add-one}
 use lib.IntN.{ℤ, pos}
-use lib.ListN.{getD, length, take, drop, set, replicate, length-replicate, length-set}
-use lib.Seq.{paste, getD-take, length-paste, ext-getD}
+use lib.ListN.{getD, length, set, replicate, length-replicate, length-set}
+use lib.Seq.{paste, getD-take, length-paste}
 use Rattle.complex.specs.declared.SimplicialComplex.{SimplicialComplex}
 use Rattle.complex.specs.declared.search.SpanningTree.{SpanningTree}
-use Rattle.complex.specs.Complex.{Simplex, Joins, entries, simplices, complexOf}
+use Rattle.complex.specs.Complex.{Simplex, Joins, entries, complexOf}
 use Rattle.complex.specs.Search.{Search, search, across, Spans}
 use Rattle.complex.specs.Judge.{Accepted}
 use Rattle.complex.specs.Tree.{searchOf}
@@ -21,9 +21,8 @@ use Rattle.gauss_law.specs.Listing.{tree-edges}
 use Rattle.gauss_law.specs.Spanning.{Spanned}
 use Rattle.gauss_law.proofs.Accepted.{accepted-spans}
 use Rattle.gauss_law.proofs.Spanned.{edges-long, spanned-edges, spanned-tree, spanned-found}
-use Rattle.walker.specs.Cycles.{row, toward, Paths, PathTable, extended}
-use Rattle.walker.proofs.Combined.{zeros-at}
-use Rattle.walker.proofs.Rows.{zero-row, row-at, row-length, row-written, row-kept, row-set, row-set-other}
+use Rattle.walker.specs.Cycles.{row, toward, PathTable, extended}
+use Rattle.walker.proofs.Rows.{zero-row, row-length, row-written, row-kept, row-set, row-set-other}
 use Rattle.walker.proofs.Paths.{path-none, path-more}
 
 joins-back : (s : Simplex) (v w : ℕ) → Joins s v w → Joins s w v
@@ -95,9 +94,13 @@ module _ (c : SimplicialComplex) (t : SpanningTree) (spanned : Spanned c t) wher
     extend-ready =
         let p = parent in
         let older = p .earlier in
-        rw (p .is)
-        (omega (arith, edge-inside, edges-long c), spanned-edges c t spanned, rw vertex-is at (vertex-below (suc i) more), vertex-below (p .place) (omega arith),
-        rw vertex-is at (spans .apart (p .place) (suc i) (omega arith) (omega (arith, tree-long, spans .sizes))))
+        rw (p .is) (
+          omega (arith, edge-inside, edges-long c),
+          spanned-edges c t spanned,
+          rw vertex-is at (vertex-below (suc i) more),
+          vertex-below (p .place) (omega arith),
+          rw vertex-is at (spans .apart (p .place) (suc i) (omega arith) (omega (arith, tree-long, spans .sizes))),
+        )
 
     extended-rows : (table : List ℤ) → PathTable (complexOf c) i table → PathTable (complexOf c) (suc i) (extended table (length (complexOf c .edges)) sides edge vertex)
     unfolding extended

@@ -7,20 +7,19 @@ use mathlib.Core.Logic.{_≢_, _⊎_, inl, inr}
 use native.Mathlib.Omega.{arith}
 use native.Mathlib.Decide.{ℕ-discrete}
 use lib.Dec.{eqb}
-use lib.IntN.{ℤ, pos, negsuc, _+ℤ_, _-ℤ_, _*ℤ_, negℤ, natAbs, +ℤ-invr}
+use lib.IntN.{ℤ, pos, negsuc, _+ℤ_, _-ℤ_, negℤ, natAbs, +ℤ-invr}
 use lib.ListN.{getD, length, set, length-set, replicate, length-replicate}
 use lib.Seq.{getD-set-same, getD-set-other, set-getD}
 use borrow.Author.Tests.{eq-eqb, ne-eqb}
-use Rattle.mathematics.proofs.Integers.{positive, negative, integral, linear, parts, parts-size, one-part, the, nought, _⊞_, _⊟_, ⊖_}
+use Rattle.mathematics.proofs.Integers.{positive, negative, integral, linear, parts, parts-size, one-part, the, nought, _⊞_, _⊟_, ⊖_, minus-one-times}
 use Rattle.mathematics.proofs.Ordered.{Member, each-member, member-place, place-member, ordered-at}
 use Rattle.mathematics.proofs.Below.{listed-member}
 use Rattle.complex.specs.Complex.{Simplex, Complex, Joins, start, end}
 use Rattle.complex.specs.Judge.{Accepted}
 use Rattle.complex.specs.Search.{Search, search, Spans}
 use Rattle.gauss_law.specs.Gauss.{flow, gauss}
-use Rattle.gauss_law.specs.Listing.{tree-edges, free-edges, Free}
+use Rattle.gauss_law.specs.Listing.{tree-edges, free-edges}
 use Rattle.walker.specs.Cycles.{added, toward, Cycle, Paths}
-use Rattle.walker.proofs.Signs.{minus-one-times}
 use Rattle.gauss_law.proofs.Gauss.{gauss-set}
 use Rattle.gauss_law.proofs.Tree.{spans-solvable}
 use Rattle.gauss_law.proofs.Free.{free-below, free-not-tree}

@@ -1,15 +1,15 @@
--- A list written over another from a place on, and lists joined one after the other.
+-- A list written over another from a place on, and the rows of a block.
 use Prim.Native.Nat.{ℕ, zero, suc, _+_, _-_, _*_, _≤_, _<_}
 use mathlib.Core.List.{List, [], _∷_, _++_, map, map-append, flatten, append-nil, append-assoc}
-use mathlib.Core.Path.{_≡_, refl, sym, _∙_, ap}
+use mathlib.Core.Path.{_≡_, sym, _∙_, ap}
 use native.Mathlib.Omega.{arith}
 use native.Mathlib.Nat.{add-zero, zero-add, mul-le-mul-right}
-use native.Mathlib.Numerals.{add-one}
 use lib.IntN.{ℤ, pos}
 use lib.ListN.{getD, length, take, drop, length-append, length-map, take-append-drop}
 use lib.Seq.{paste, length-paste, length-paste-head, take-length, take-at, drop-at, drop-drop}
 use Rattle.mathematics.specs.Counting.{below}
 use Rattle.mathematics.proofs.Below.{length-below, map-below-at}
+use Rattle.mathematics.proofs.Flat.{flatten-last}
 use Rattle.walker.specs.Cycles.{added}
 use Rattle.walker.specs.Walker.{rows}
 use Rattle.walker.specs.Blocks.{put}
@@ -43,16 +43,6 @@ module _ {A : Type 0} (d : List A) (at : ℕ) where
 pub put-front : {A : Type 0} (d s : List A) → put d 0 s ≡ s ++ drop (length s) d
 unfolding put
 put-front d s = rw (zero-add (length s))
-
--- ---- lists joined
-pub flatten-append : {A : Type 0} (l m : List (List A)) → flatten (l ++ m) ≡ flatten l ++ flatten m
-unfolding flatten
-flatten-append [] m = refl
-flatten-append (x ∷ l) m = rw (flatten-append l m) (sym (append-assoc x (flatten l) (flatten m)))
-
-pub flatten-last : {A : Type 0} (l : List (List A)) (x : List A) → flatten (l ++ (x ∷ [])) ≡ flatten l ++ x
-unfolding flatten
-flatten-last l x = flatten-append l (x ∷ []) ∙ ap (λ m. flatten l ++ m) (append-nil x)
 
 -- ---- the rows of a block
 module _ (s z : List ℤ) (from : ℕ) where

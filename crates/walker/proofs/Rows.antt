@@ -1,64 +1,17 @@
 -- Tables of rows of 63: what a row holds after another row, or one entry, was written.
 use Prim.Native.Nat.{ℕ, _+_, _-_, _*_, _≤_, _<_}
-use mathlib.Core.List.{List, _++_}
-use mathlib.Core.Path.{_≡_, refl, sym, _∙_, ap}
+use mathlib.Core.List.{List}
+use mathlib.Core.Path.{_≡_, sym, _∙_, ap}
 use mathlib.Core.Logic.{_≢_, _⊎_, inl, inr}
 use native.Mathlib.Omega.{arith}
 use native.Mathlib.Numerals.{add-one}
 use native.Mathlib.Decide.{ℕ-discrete, decLt}
 use lib.IntN.{ℤ, pos}
-use lib.ListN.{getD, length, take, drop, set, length-set, length-append, length-drop, List·getD-append, replicate, length-replicate, getD-replicate}
-use lib.Seq.{paste, paste-suc, length-take-le, length-paste, length-paste-head, getD-append-add, getD-take, getD-drop, getD-set-same, getD-set-other, set-out, ext-getD}
+use lib.ListN.{getD, length, drop, set, length-set, length-drop, replicate, length-replicate, getD-replicate}
+use lib.Seq.{paste, paste-suc, length-take-le, length-paste, getD-take, getD-drop, getD-set-same, getD-set-other, ext-getD}
+use Rattle.mathematics.proofs.Pasted.{paste-inside, paste-outside}
 use Rattle.walker.specs.Cycles.{row}
 
--- ---- a list with a part written over
-module _ {A : Type 0} (d : List A) (at : ℕ) (s : List A) (n : ℕ) (x : A) (room : at + n ≤ length d) (enough : n ≤ length s) where
-  head-long : length (take at d ++ take n s) ≡ at + n
-  head-long = length-paste-head d at s n (omega arith) enough
-
-  pub paste-inside : (i : ℕ) → i < n → getD (paste d at s n) (at + i) x ≡ getD s i x
-  paste-inside i h =
-      let l : at + i < length (take at d ++ take n s) = omega (arith, head-long) in
-      let long : length (take at d) ≡ at = length-take-le at d (omega arith) in
-      List·getD-append (take at d ++ take n s) (drop (at + n) d) x (at + i) l
-      ∙ (rw long at (getD-append-add (take at d) (take n s) i x))
-      ∙ getD-take n s i x h
-
-  pub paste-outside : (i : ℕ) → (i < at) ⊎ (at + n ≤ i) → getD (paste d at s n) i x ≡ getD d i x
-  paste-outside i (inl h) =
-      let l : i < length (take at d ++ take n s) = omega (arith, head-long) in
-      let k : i < length (take at d) = omega (arith, length-take-le at d (omega arith)) in
-      List·getD-append (take at d ++ take n s) (drop (at + n) d) x i l
-      ∙ List·getD-append (take at d) (take n s) x i k
-      ∙ getD-take at d i x h
-  paste-outside i (inr h) =
-      let e : (at + n) + (i - (at + n)) ≡ i = omega arith in
-      (rw (head-long, e) at (getD-append-add (take at d ++ take n s) (drop (at + n) d) (i - (at + n)) x))
-      ∙ getD-drop (at + n) d (i - (at + n)) x
-      ∙ ap (λ j. getD d j x) e
-
--- what holds of all entries of both lists holds of all entries of the new one
-pub entry-paste : {A : Type 0} (P : A → Type 0) (d : List A) (at : ℕ) (s : List A) (n : ℕ) (x : A) → at + n ≤ length d → n ≤ length s
-    → ((i : ℕ) → P (getD d i x)) → ((i : ℕ) → P (getD s i x)) → (i : ℕ) → P (getD (paste d at s n) i x)
-entry-paste {A} P d at s n x room enough old new i = go (decLt i at) (decLt i (at + n))
-  where
-    go : Dec (i < at) → Dec (i < at + n) → P (getD (paste d at s n) i x)
-    go (yes h) k = rw (paste-outside d at s n x room enough i (inl h)) (old i)
-    go (no h) (yes k) =
-        let e : at + (i - at) ≡ i = omega arith in
-        let r : getD (paste d at s n) i x ≡ getD s (i - at) x = rw e at (paste-inside d at s n x room enough (i - at) (omega arith)) in
-        rw r (new (i - at))
-    go (no h) (no k) = rw (paste-outside d at s n x room enough i (inr (omega arith))) (old i)
-
-pub entry-set : {A : Type 0} (P : A → Type 0) (d : List A) (k : ℕ) (a x : A) → P a → ((i : ℕ) → P (getD d i x)) → (i : ℕ) → P (getD (set d k a) i x)
-entry-set {A} P d k a x new old i = go (ℕ-discrete i k) (decLt k (length d))
-  where
-    go : Dec (i ≡ k) → Dec (k < length d) → P (getD (set d k a) i x)
-    go (yes e) (yes l) = rw (e, getD-set-same d k a x l) new
-    go (yes e) (no l) = rw (set-out d k a (omega arith)) (old i)
-    go (no n) l = rw (getD-set-other d k i a x n) (old i)
-
--- ---- rows
 module _ (m : ℕ) (few : m ≤ 63) (table : List ℤ) where
   pub row-at : (r e : ℕ) → e < m → getD (row m table r) e (pos 0) ≡ getD table (63 * r + e) (pos 0)
   row-at r e h = getD-take m (drop (63 * r) table) e (pos 0) h ∙ getD-drop (63 * r) table e (pos 0)

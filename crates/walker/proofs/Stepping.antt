@@ -1,20 +1,19 @@
 -- What the code of the steps asks of tables and values, and what each turn does.
 use Prim.Native.Nat.{ℕ, zero, suc, _+_, _-_, _*_, _^_, _≤_, _<_}
 use mathlib.Core.List.{List}
-use mathlib.Core.Bool.{Bool, true, false, cond}
-use mathlib.Core.Path.{_≡_, refl, sym, _∙_, ap}
+use mathlib.Core.Bool.{true, false}
+use mathlib.Core.Path.{_≡_, sym, _∙_}
 use native.Mathlib.Omega.{arith}
 use native.Mathlib.Numerals.{add-one}
 use native.Mathlib.Decide.{decLt}
-use lib.IntN.{ℤ, pos, negℤ, natAbs, _+ℤ_, _*ℤ_}
+use lib.IntN.{ℤ, pos, negℤ, natAbs, _*ℤ_}
 use lib.Signed.{ltZ}
 use lib.ListN.{getD, length, List·getD-eq-default}
-use Rattle.mathematics.proofs.Signed.{size-sum, size-neg}
+use Rattle.mathematics.proofs.Signed.{size-sum, size-sign}
 use Rattle.walker.specs.Cycles.{row, added}
 use Rattle.walker.specs.Walker.{combined, counted-up, stepped}
 use Rattle.walker.specs.Steps.{Small, Addable, CyclesFit}
-use Rattle.walker.proofs.Signs.{size-sign}
-use Rattle.walker.proofs.Adding.{added-length, added-at}
+use Rattle.walker.proofs.Adding.{added-at}
 use Rattle.walker.proofs.Rows.{row-at, row-length}
 
 pub added-small : (s : List ℤ) (t : ℤ) (z : List ℤ) (B T : ℕ) → length z ≡ length s → Small B s → natAbs t ≤ T → Small 1 z → Small (B + T) (added s t z)

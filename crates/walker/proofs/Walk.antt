@@ -1,6 +1,6 @@
 -- The walk goes through all states, block after block.
 use Prim.Native.Nat.{ℕ, zero, suc, _+_, _-_, _*_, _^_, _≤_, _<_}
-use mathlib.Core.List.{List, [], _∷_, _++_, map, map-map, flatMap, append-nil}
+use mathlib.Core.List.{List, [], _∷_, map, map-map, flatMap, append-nil}
 use mathlib.Core.Bool.{Bool, true, false, cond}
 use mathlib.Core.Path.{_≡_, refl, sym, _∙_, ap}
 use native.Mathlib.Omega.{arith}
@@ -12,28 +12,19 @@ use lib.ListN.{getD, length, replicate, length-replicate}
 use Rattle.mathematics.specs.Integers.{sum}
 use Rattle.mathematics.specs.Counting.{below, keep, counted, applied}
 use Rattle.mathematics.proofs.Integers.{positive, negative, integral, parts, parts-size, one-part, the, _⊞_, _⊟_, test-less, test-not-less}
-use Rattle.mathematics.proofs.Joined.{keep-flatMap, map-flatMap, flatMap-map}
+use Rattle.mathematics.proofs.Flat.{keep-flatMap, flatMap-same, map-flatMap, flatMap-map}
+use Rattle.mathematics.proofs.Maps.{map-same}
 use Rattle.complex.specs.Complex.{Complex}
 use Rattle.complex.specs.Judge.{Accepted}
 use Rattle.gauss_law.specs.Listing.{free-edges, values, listing}
 use Rattle.walker.specs.Cycles.{added, Tables}
 use Rattle.walker.specs.Walker.{counted-up, stepped, block, width, walked, walked-states}
-use Rattle.walker.proofs.Rows.{entry-set}
-use Rattle.walker.proofs.Adding.{added-at, added-length}
+use Rattle.mathematics.proofs.Pasted.{entry-set}
 use Rattle.walker.proofs.Counter.{moved, up-from, up, up-later, up-length, value, after, after-length, counted-steps}
 use Rattle.walker.proofs.Candidates.{Chosen, added-chosen, stepped-chosen, within, candidate, chosen-candidate, states-kept}
 use Rattle.gauss_law.proofs.Accepted.{accepted-tree}
 use Rattle.walker.proofs.Combined.{chosen-small}
 use Rattle.walker.proofs.Interval.{block-kept}
-
-flatMap-same : {A B : Type 0} (f g : A → List B) (l : List A) → ((x : A) → f x ≡ g x) → flatMap f l ≡ flatMap g l
-unfolding flatMap
-flatMap-same f g [] h = refl
-flatMap-same f g (x ∷ l) h = rw (h x, flatMap-same f g l h)
-
-map-same : {A B : Type 0} (f g : A → B) (l : List A) → ((x : A) → f x ≡ g x) → map f l ≡ map g l
-map-same f g [] h = refl
-map-same f g (x ∷ l) h = rw (h x, map-same f g l h)
 
 added-none : (s z : List ℤ) → added s (pos 0) z ≡ s
 unfolding added

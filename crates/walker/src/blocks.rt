@@ -4,11 +4,11 @@ use crate::steps::plus;
 use crate::steps::signed;
 use crate::steps::wide;
 ghost use mathlib.Core.Path.{_≡_};
-ghost use Prim.Native.Nat.{ℕ, _+_, _*_, _-_, _^_, _<_, _≤_, min, max};
-ghost use lib.ListN.{getD, length};
+ghost use Prim.Native.Nat.{_+_, _*_, _-_, _^_, _<_, _≤_, min, max};
+ghost use lib.ListN.{length};
 ghost use lib.Dec.{leb};
 ghost use mathlib.Core.List.{flatten};
-ghost use lib.IntN.{ℤ, pos, negℤ, natAbs, _*ℤ_};
+ghost use lib.IntN.{ℤ, pos, natAbs, _*ℤ_};
 ghost use Rattle.mathematics.specs.Integers.{equal};
 ghost use Rattle.walker.specs.Walker.{excess, rows};
 ghost use Rattle.walker.specs.Steps.{Small, Addable};
@@ -91,10 +91,7 @@ pub fn interval(config: &[i32], cycle: &[i8], lambda: usize, width: usize) -> Sp
     requires { ⌜ (length (now cycle) ≡ length (now config)) × Small (2 ^ 20) (now config) × Small 1 (now cycle) × (lambda ≤ 1000) ⌝ }
     ensures { λ r. ⌜ Spans lambda width (now (config .entry)) (now (cycle .entry)) r ⌝ }
 {
-    let mut span = Span {
-        from: 0,
-        to: width,
-    };
+    let mut span = Span { from: 0, to: width };
     for e in 0..config.len() {
         if span.to <= span.from {
             return span;

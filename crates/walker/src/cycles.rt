@@ -6,11 +6,11 @@ use gauss_law::spanning::FreeEdges;
 ghost use mathlib.Core.Path.{_≡_};
 ghost use mathlib.Core.Logic.{_≢_};
 ghost use mathlib.Core.Bool.{cond};
-ghost use Prim.Native.Nat.{ℕ, _+_, _*_, _<_, _≤_};
-ghost use lib.ListN.{getD, length, set, replicate};
+ghost use Prim.Native.Nat.{_+_, _*_, _<_, _≤_};
+ghost use lib.ListN.{getD, length};
 ghost use lib.Seq.{paste};
 ghost use lib.Dec.{eqb};
-ghost use lib.IntN.{pos, negsuc, natAbs, _-ℤ_};
+ghost use lib.IntN.{pos, negsuc};
 ghost use Rattle.complex.specs.Complex.{entries, complexOf};
 ghost use Rattle.complex.specs.Search.{across};
 ghost use Rattle.complex.specs.Judge.{refusal};
@@ -113,7 +113,14 @@ pub fn fundamental_cycles(c: SimplicialComplex, paths: &[i8; 4032], free: FreeEd
 {
     let mut cycles = [0i8; 3969];
     for j in 0..free.count {
-        close_cycle(&mut cycles, j, paths, &c.edges, c.n_edges, byte(free.list[j]));
+        close_cycle(
+            &mut cycles,
+            j,
+            paths,
+            &c.edges,
+            c.n_edges,
+            byte(free.list[j]),
+        );
     }
     cycles
 }

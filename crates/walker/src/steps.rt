@@ -1,8 +1,8 @@
 // One lawful assignment, moved by fundamental cycles: where the walk begins, and its steps.
 use complex::judge::byte;
 ghost use mathlib.Core.Path.{_≡_};
-ghost use Prim.Native.Nat.{ℕ, _+_, _*_, _-_, _^_, _<_, _≤_};
-ghost use lib.ListN.{getD, length, replicate};
+ghost use Prim.Native.Nat.{_+_, _*_, _-_, _^_, _<_, _≤_};
+ghost use lib.ListN.{length, replicate};
 ghost use lib.IntN.{ℤ, pos, negℤ, natAbs, _+ℤ_, _*ℤ_};
 ghost use Rattle.walker.specs.Cycles.{row, added};
 ghost use Rattle.walker.specs.Walker.{stepped, lowest};
@@ -60,13 +60,7 @@ pub fn begin(config: &mut [i32], cycles: &[i8], n_free: usize, lambda: usize)
 }
 
 // The next block: all free edges but the first are counted up.
-pub fn step(
-    config: &mut [i32],
-    free: &[u8; 63],
-    n_free: usize,
-    cycles: &[i8],
-    lambda: usize,
-)
+pub fn step(config: &mut [i32], free: &[u8; 63], n_free: usize, cycles: &[i8], lambda: usize)
     requires { ⌜ CyclesFit (length (now config)) «n_free» lambda (now cycles) × FreeFit (length (now config)) «n_free» (now free) × Small (2 ^ 20) (now config) ⌝ }
     ensures { λ _. ⌜ now (config .exit) ≡ stepped (now (free .entry)) (row (length (now (config .entry))) (now (cycles .entry))) lambda («n_free» - 1) 1 (now (config .entry)) ⌝ }
 {

@@ -1,7 +1,4 @@
-use mathlib.Core.Bool.{Bool}
-use mathlib.Core.Path.{_≡_, ap₂, sym, _∙_}
-use lib.IntN.{ℤ, _-ℤ_}
-use lib.Signed.{ltZ}
+use mathlib.Core.Path.{_≡_}
 use mir.Syntax.{w32}
 use mir.Val.{toZ, ofZ}
 use Rattle.mathematics.proofs.Signed.{back32}

@@ -1,11 +1,9 @@
 use Prim.Native.Nat.{_≤_, _-_}
-use mathlib.Core.Path.{_≡_, refl, _∙_}
+use mathlib.Core.Path.{_≡_, refl}
 use native.Mathlib.Omega.{arith}
-use lib.IntN.{pos}
-use lib.ListN.{length, getD}
+use lib.ListN.{length}
 use Rattle.walker.specs.Blocks.{SpanTo}
-use Rattle.mathematics.proofs.Signed.{back32}
-use Rattle.walker.proofs.Signs.{back8}
+use Rattle.mathematics.proofs.Signed.{back32, back8}
 use Rattle.walker.proofs.Narrowing.{span-none, span-more, span-bound, span-all, span-empty}
 use borrow.Author.Needs.{needs}
 use Rattle.walker.proofs.blocks.interval.Statement.{statement}
@@ -21,7 +19,7 @@ loop-holds : tie.Need-loop-holds Inv-loop μ-loop
 loop-holds c = (omega arith, refl, span-none (c .args .lambda) (c .args .width) (c .args .config .now) (c .args .cycle .now))
 
 returns : tie.Need-returns Inv-loop μ-loop
-returns c = 
+returns c =
     let at-loop = c .before .before .before in
     span-empty _ _ _ _ _ _ (at-loop .loop .inv .2) (at-loop .loop .inv .0) (c .if1 .taken)
 
@@ -35,7 +33,7 @@ shared-slice-copy-out-narrow-2 : tie.Need-shared-slice-copy-out-narrow-2 Inv-loo
 shared-slice-copy-out-narrow-2 c = omega (arith, c .before .before .before .before .before .pre .0)
 
 narrow-requires : tie.Need-narrow-requires Inv-loop μ-loop
-narrow-requires c κs = 
+narrow-requires c κs =
     let at-loop = c .before .before .before .before .before in
     let start = at-loop .before in
     let e = at-loop .loop .e in
@@ -49,13 +47,13 @@ loop-less : tie.Need-loop-less Inv-loop μ-loop
 loop-less c = search needs
 
 loop-again : tie.Need-loop-again Inv-loop μ-loop
-loop-again c = 
+loop-again c =
     let at-loop = c .before .before .before .before .before .before in
     let made = rw (back32 _ (c .before .before .narrow-arg .given), back8 _ (c .before .narrow-arg2 .given)) at (c .narrow .ensures) in
     (omega arith, refl, span-more _ _ _ _ _ _ _ (at-loop .loop .inv .2) made)
 
 returns-2 : tie.Need-returns-2 Inv-loop μ-loop
-returns-2 c = 
+returns-2 c =
     let past : c .before .loop .e ≡ length (c .before .before .args .config .now) = omega arith in
     span-all _ _ _ _ _ _ (c .before .loop .inv .2) past
 

@@ -1,4 +1,4 @@
-use Rattle.walker.proofs.Narrowing.{zero8}
+use Rattle.mathematics.proofs.Signed.{zero8}
 use Rattle.walker.proofs.blocks.is_zero.Statement.{statement}
 use Rattle.walker.proofs.blocks.is_zero.Tie as tie
 

@@ -1,4 +1,4 @@
-use Prim.Native.Nat.{ℕ, _+_, _≤_, _^_, min, max}
+use Prim.Native.Nat.{_+_, _≤_, _^_, min, max}
 use mathlib.Core.Path.{_≡_, sym, ap, ap₂, _∙_}
 use native.Mathlib.Omega.{arith}
 use lib.Dec.{leb}
@@ -6,8 +6,7 @@ use lib.IntN.{ℤ, pos, negℤ, natAbs, _*ℤ_, *ℤ-comm}
 use mir.Syntax.{w8, w32}
 use mir.Val.{toZ, ofZ}
 use Rattle.mathematics.specs.Integers.{equal}
-use Rattle.mathematics.proofs.Signed.{back32, size-neg}
-use Rattle.walker.proofs.Signs.{back8, size-sign}
+use Rattle.mathematics.proofs.Signed.{back32, size-neg, back8, size-sign}
 use Rattle.walker.proofs.Narrowing.{narrow-inside, narrow-outside, narrow-signed}
 use borrow.Author.Needs.{needs}
 use Rattle.walker.proofs.blocks.narrow.Statement.{statement}
@@ -47,7 +46,7 @@ within-requires : tie.Need-within-requires
 within-requires c κs = search needs
 
 returns : tie.Need-returns
-returns c = 
+returns c =
     let start = c .before .before .before .before in
     narrow-inside (start .args .lambda) (start .args .width) (start .args .x) (start .args .sign) (start .args .span) (start .pre .0)
     (sym (zero-test (c .before .before .before)) ∙ c .before .before .if1 .taken) (sym (within-test (c .before)) ∙ c .if2 .taken)
@@ -56,7 +55,7 @@ larger-requires : tie.Need-larger-requires
 larger-requires c κs = search needs
 
 returns-2 : tie.Need-returns-2
-returns-2 c = 
+returns-2 c =
     let start = c .before .before .before .before .before in
     narrow-outside (start .args .lambda) (start .args .width) (start .args .x) (start .args .sign) (start .args .span) (start .pre .0)
     (sym (zero-test (c .before .before .before .before)) ∙ c .before .before .before .if1 .taken) (sym (within-test (c .before .before)) ∙ c .before .if2 .left) _ (c .larger .ensures)
@@ -68,7 +67,7 @@ minus-requires : tie.Need-minus-requires
 minus-requires c κs = search needs
 
 excess-requires : tie.Need-excess-requires
-excess-requires c κs = 
+excess-requires c κs =
     let L = c .before .before .before .before .args .lambda in
     let few = c .before .before .before .before .pre .3 in
     (rw (low-back c) (omega (arith, size-neg (pos L))), y-small (c .before))
@@ -83,7 +82,7 @@ signed-requires : tie.Need-signed-requires
 signed-requires c κs = search needs
 
 excess-requires-2 : tie.Need-excess-requires-2
-excess-requires-2 c κs = 
+excess-requires-2 c κs =
     let few = c .before .before .before .before .before .before .before .pre .3 in
     (rw (above-back c) (omega arith), y-small (c .before .before .before .before))
 
@@ -91,7 +90,7 @@ smaller-requires : tie.Need-smaller-requires
 smaller-requires c κs = search needs
 
 returns-3 : tie.Need-returns-3
-returns-3 c = 
+returns-3 c =
     let start = c .before .before .before .before .before .before .before .before .before in
     let turned = c .before .before .before .before .before .before in
     let below = rw (low-back (c .before .before .before .before .before), y-back turned) at (c .before .before .before .before .excess .ensures) in

@@ -1,11 +1,10 @@
 use mathlib.Core.Path.{_≡_, ap₂, _∙_}
 use native.Mathlib.Omega.{arith}
-use lib.IntN.{_*ℤ_, natAbs, *ℤ-comm}
+use lib.IntN.{_*ℤ_, *ℤ-comm}
 use mir.Syntax.{w32}
 use mir.Val.{toZ, ofZ}
 use mir.Facts.{toZ-ofZ}
-use Rattle.mathematics.proofs.Signed.{back32, size-fits}
-use Rattle.walker.proofs.Signs.{back8, size-sign}
+use Rattle.mathematics.proofs.Signed.{back32, size-fits, back8, size-sign}
 use borrow.Author.Needs.{needs}
 use Rattle.walker.proofs.blocks.turn.Statement.{statement}
 use Rattle.walker.proofs.blocks.turn.Tie as tie

@@ -1,4 +1,3 @@
-use mathlib.Core.Path.{_∙_}
 use Rattle.mathematics.proofs.Signed.{back32}
 use Rattle.walker.proofs.Narrowing.{within-test}
 use borrow.Author.Needs.{needs}

@@ -1,14 +1,15 @@
-use Prim.Native.Nat.{ℕ, _≤_, _<_, _+_, _*_, _-_}
+use Prim.Native.Nat.{_≤_, _<_, _+_, _*_, _-_}
 use mathlib.Core.List.{flatten}
 use mathlib.Core.Path.{_≡_, refl, sym, ap, _∙_}
 use native.Mathlib.Omega.{arith}
 use lib.IntN.{pos}
 use lib.ListN.{length}
+use Rattle.mathematics.proofs.Flat.{flatten-last}
 use Rattle.walker.specs.Cycles.{added}
 use Rattle.walker.specs.Walker.{rows}
 use Rattle.walker.specs.Blocks.{put}
 use Rattle.walker.proofs.Adding.{added-length}
-use Rattle.walker.proofs.Puts.{put-none, put-more, flatten-last, rows-none, rows-same, rows-more, rows-long, row-room, row-after}
+use Rattle.walker.proofs.Puts.{put-none, put-more, rows-none, rows-same, rows-more, rows-long, row-room, row-after}
 use borrow.Author.Needs.{needs}
 use Rattle.walker.proofs.blocks.write_block.Statement.{statement}
 use Rattle.walker.proofs.blocks.write_block.Tie as tie
@@ -23,7 +24,7 @@ abbrev μ-loop : tie.MeasureT-loop
 
 loop-holds : tie.Need-loop-holds Inv-loop μ-loop
 unfolding flatten
-loop-holds c = 
+loop-holds c =
     let s = c .args in
     let none : s .span .from - s .span .from ≡ 0 = omega arith in (
       refl,
@@ -40,7 +41,7 @@ one-more : (c : tie.At-loop Inv-loop μ-loop) → c .loop .d < c .before .args .
 one-more c h = row-room (c .before .args .span .from) (c .loop .d) (c .before .args .span .to) (length (c .before .args .config .now)) (c .loop .inv .1) h
 
 write-row-requires : tie.Need-write-row-requires Inv-loop μ-loop
-write-row-requires c κs = 
+write-row-requires c κs =
     let at-loop = c .before .before .before in
     let start = at-loop .before in
     let ready = start .pre .0 in
@@ -49,7 +50,7 @@ write-row-requires c κs =
     (record { sized = ready .sized; values = ready .values; times = omega arith; signs = ready .signs }, omega arith, omega (arith, one-more at-loop (omega arith)))
 
 add-place : tie.Need-add-place Inv-loop μ-loop
-add-place c = 
+add-place c =
     let at-loop = c .before .before .before .before .before in
     let room = at-loop .before .pre .2 in
     let h = one-more at-loop (omega arith) in
@@ -62,7 +63,7 @@ loop-less : tie.Need-loop-less Inv-loop μ-loop
 loop-less c = search needs
 
 loop-again : tie.Need-loop-again Inv-loop μ-loop
-loop-again c = 
+loop-again c =
     let at-loop = c .before .before .before .before .before in
     let start = at-loop .before in
     let s = start .args .config .now in
@@ -89,7 +90,7 @@ same-length : tie.Need-same-length Inv-loop μ-loop
 same-length c = c .before .before .loop .inv .4
 
 returns : tie.Need-returns Inv-loop μ-loop
-returns c = 
+returns c =
     let start = c .before .before .before in
     let past : c .before .before .loop .d - start .args .span .from ≡ start .args .span .to - start .args .span .from = omega arith in
     c .before .before .loop .inv .5

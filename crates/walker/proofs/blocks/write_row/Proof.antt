@@ -1,15 +1,14 @@
-use Prim.Native.Nat.{ℕ, _≤_, _<_, _+_, _-_}
-use mathlib.Core.Path.{_≡_, refl, sym, ap, _∙_}
+use Prim.Native.Nat.{_≤_, _-_}
+use mathlib.Core.Path.{_≡_, refl, sym, _∙_}
 use native.Mathlib.Omega.{arith}
 use native.Mathlib.Numerals.{add-one}
-use lib.IntN.{ℤ, pos, _+ℤ_, _*ℤ_, natAbs}
+use lib.IntN.{pos}
 use lib.ListN.{length, getD, length-set}
 use lib.Seq.{paste, paste-zero, paste-suc}
 use mir.Syntax.{w8, w32}
 use mir.Val.{toZ, ofZ}
-use Rattle.mathematics.proofs.Signed.{back32}
+use Rattle.mathematics.proofs.Signed.{back32, back8}
 use Rattle.walker.specs.Cycles.{added}
-use Rattle.walker.proofs.Signs.{back8}
 use Rattle.walker.proofs.Adding.{added-length, added-at}
 use Rattle.walker.proofs.Puts.{paste-put}
 use borrow.Author.Needs.{needs}

@@ -1,11 +1,9 @@
-use Prim.Native.Nat.{ℕ, _+_, _*_, _-_, _≤_, _<_, _^_}
-use mathlib.Core.Path.{_≡_, refl, sym, _∙_}
+use Prim.Native.Nat.{_*_, _-_, _≤_, _<_}
+use mathlib.Core.Path.{_≡_}
 use native.Mathlib.Omega.{arith}
-use lib.IntN.{ℤ, pos}
-use lib.ListN.{getD, length}
 use lib.Seq.{paste, paste-zero}
 use Rattle.walker.specs.Cycles.{row}
-use Rattle.walker.proofs.Signs.{back8}
+use Rattle.mathematics.proofs.Signed.{back8}
 use Rattle.walker.proofs.Rows.{copy-more}
 use borrow.Author.Needs.{needs}
 use Rattle.walker.proofs.cycles.copy_row.Statement.{statement}

@@ -1,11 +1,9 @@
-use Prim.Native.Nat.{_*_, _<_}
+use Prim.Native.Nat.{_*_}
 use mathlib.Core.Path.{_≡_, _∙_}
-use mathlib.Core.Logic.{_≢_}
-use lib.IntN.{ℤ}
 use Rattle.complex.specs.Complex.{entries}
 use Rattle.complex.specs.Search.{across}
-use Rattle.walker.specs.Cycles.{row, toward, extended}
-use Rattle.walker.proofs.Signs.{back8}
+use Rattle.walker.specs.Cycles.{toward, extended}
+use Rattle.mathematics.proofs.Signed.{back8}
 use borrow.Author.Needs.{needs}
 use Rattle.walker.proofs.cycles.extend.Statement.{statement}
 use Rattle.walker.proofs.cycles.extend.Tie as tie

@@ -1,9 +1,7 @@
 use Prim.Native.Nat.{_≤_, _<_, _-_}
-use mathlib.Core.Path.{_≡_, refl, _∙_}
+use mathlib.Core.Path.{_≡_, refl}
 use native.Mathlib.Omega.{arith}
-use lib.ListN.{length}
 use Rattle.complex.specs.Complex.{complexOf}
-use Rattle.gauss_law.specs.Listing.{free-edges}
 use Rattle.walker.specs.Cycles.{CycleTable}
 use Rattle.walker.proofs.CycleTables.{inside-code, close-ready, close-more, no-cycles}
 use borrow.Author.Needs.{needs}
@@ -31,11 +29,12 @@ close-cycle-requires c κs =
     let start = at-loop .before in
     let few = start .pre .2 .few in
     let more : at-loop .loop .j < start .args .t3 .count = omega arith in
-    rw (c .byte .ensures)
-    (omega arith,
-    inside-code (start .args .t1) (start .pre .0) (start .args .paths .now) (start .pre .1) (start .args .t3) (start .pre .2) (at-loop .loop .j) more,
-    close-ready (start .args .t1) (start .pre .0) (start .args .paths .now) (start .pre .1) (start .args .t3) (start .pre .2) (at-loop .loop .j) more,
-    at-loop .loop .inv .2 .long)
+    rw (c .byte .ensures) (
+      omega arith,
+      inside-code (start .args .t1) (start .pre .0) (start .args .paths .now) (start .pre .1) (start .args .t3) (start .pre .2) (at-loop .loop .j) more,
+      close-ready (start .args .t1) (start .pre .0) (start .args .paths .now) (start .pre .1) (start .args .t3) (start .pre .2) (at-loop .loop .j) more,
+      at-loop .loop .inv .2 .long,
+    )
 
 add-j : tie.Need-add-j Inv-loop μ-loop
 add-j c = search needs

@@ -1,15 +1,14 @@
-use Prim.Native.Nat.{ℕ, _+_, _*_, _-_, _≤_, _<_, _^_}
-use mathlib.Core.Path.{_≡_, refl, sym, _∙_, ap₂}
+use Prim.Native.Nat.{_+_, _*_, _-_, _≤_, _<_}
+use mathlib.Core.Path.{_≡_, _∙_, ap₂}
 use native.Mathlib.Omega.{arith}
 use lib.IntN.{ℤ, pos, negsuc, _-ℤ_, natAbs}
-use lib.ListN.{getD, length}
+use lib.ListN.{getD}
 use lib.Seq.{paste, paste-zero}
 use mir.Syntax.{w8}
 use mir.Val.{toZ, ofZ}
 use mir.Facts.{toZ-ofZ}
-use Rattle.mathematics.proofs.Signed.{size-fits}
+use Rattle.mathematics.proofs.Signed.{size-fits, back8}
 use Rattle.walker.specs.Cycles.{row, added}
-use Rattle.walker.proofs.Signs.{back8}
 use Rattle.walker.proofs.CycleTables.{subtract-more}
 use borrow.Author.Needs.{needs}
 use Rattle.walker.proofs.cycles.subtract_paths.Statement.{statement}
@@ -52,7 +51,7 @@ read : (c : tie.After-cycles2 Inv-loop μ-loop) → toZ w8 (ofZ w8 (x-of c)) -�
 read c = ap₂ _-ℤ_ (back8 (x-of c) (c .before .cycles .given)) (back8 (y-of c) (c .cycles2 .given))
 
 sub-cycles : tie.Need-sub-cycles Inv-loop μ-loop
-sub-cycles c = 
+sub-cycles c =
     let at-loop = c .before .before .before in
     let small : natAbs (x-of c -ℤ y-of c) ≤ 1 = at-loop .before .pre .1 .signs (at-loop .loop .e) (omega arith) in
     rw (read c) (size-fits w8 (x-of c -ℤ y-of c) (omega arith))
@@ -73,7 +72,7 @@ loop-less : tie.Need-loop-less Inv-loop μ-loop
 loop-less c = search needs
 
 loop-again : tie.Need-loop-again Inv-loop μ-loop
-loop-again c = 
+loop-again c =
     let at-loop = c .before .before .before in
     let start = at-loop .before in
     let ready = start .pre .1 in

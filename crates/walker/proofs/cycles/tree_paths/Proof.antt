@@ -1,9 +1,7 @@
 use Prim.Native.Nat.{_≤_, _<_, _-_}
-use mathlib.Core.Path.{_≡_, refl, _∙_}
+use mathlib.Core.Path.{_≡_, refl}
 use native.Mathlib.Omega.{arith}
-use lib.ListN.{length}
 use Rattle.complex.specs.Complex.{complexOf}
-use Rattle.gauss_law.specs.Listing.{tree-edges}
 use Rattle.walker.specs.Cycles.{PathTable}
 use Rattle.gauss_law.proofs.Spanned.{spanned-found}
 use Rattle.walker.proofs.PathTables.{no-paths, extend-ready, extend-more}
@@ -36,7 +34,7 @@ byte-requires-2 : tie.Need-byte-requires-2 Inv-loop μ-loop
 byte-requires-2 c κs = tt
 
 extend-requires : tie.Need-extend-requires Inv-loop μ-loop
-extend-requires c κs = 
+extend-requires c κs =
     let at-loop = c .before .before .before .before .before .before .before .before in
     let start = at-loop .before in
     let more : at-loop .loop .i < start .args .t2 .found = omega arith in
@@ -50,7 +48,7 @@ loop-less : tie.Need-loop-less Inv-loop μ-loop
 loop-less c = search needs
 
 loop-again : tie.Need-loop-again Inv-loop μ-loop
-loop-again c = 
+loop-again c =
     let at-loop = c .before .before .before .before .before .before .before .before .before in
     let start = at-loop .before in
     let more : at-loop .loop .i < start .args .t2 .found = omega arith in (
@@ -61,7 +59,7 @@ loop-again c =
     )
 
 returns : tie.Need-returns Inv-loop μ-loop
-returns c = 
+returns c =
     let start = c .before .before in
     let past : c .before .loop .i ≡ start .args .t2 .found = omega arith in
     rw (past, spanned-found (start .args .t1) (start .args .t2) (start .pre)) at (c .before .loop .inv .2)

@@ -23,7 +23,7 @@ power-requires : tie.Need-power-requires
 power-requires c κs = search needs
 
 returns-2 : tie.Need-returns-2
-returns-2 c = 
+returns-2 c =
     let start = c .before .before in
     let L = start .args .lambda in
     let n = start .args .n-free in

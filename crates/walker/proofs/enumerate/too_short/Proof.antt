@@ -13,7 +13,7 @@ mul-if1 : tie.Need-mul-if1
 mul-if1 c = let h = candidates-fit (c .before .args .w) (c .before .args .lambda) (c .before .args .blocks) (c .before .pre) (c .width .result) (c .width .ensures) .1 in search needs
 
 returns : tie.Need-returns
-returns c = 
+returns c =
     let start = c .before .before in
     roomy (start .args .w) (start .args .lambda) (start .args .blocks) (start .pre) (c .before .width .result) (start .args .room) (c .before .width .ensures) (c .if1 .taken)
 
@@ -21,7 +21,7 @@ count-states-requires : tie.Need-count-states-requires
 count-states-requires c κs = search needs
 
 mul-result : tie.Need-mul-result
-mul-result c = 
+mul-result c =
     let start = c .before .before .before in
     let h = rw (← (c .count-states .ensures)) at (states-fit (start .args .w) (start .args .lambda) (start .args .blocks) (start .pre)) in
     search needs

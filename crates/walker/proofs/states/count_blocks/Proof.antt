@@ -1,4 +1,4 @@
-use Prim.Native.Nat.{ℕ, _≤_, _<_, _+_, _*_, _-_}
+use Prim.Native.Nat.{_≤_, _*_, _-_}
 use mathlib.Core.Path.{_≡_, refl, sym, ap, _∙_}
 use native.Mathlib.Omega.{arith}
 use lib.ListN.{length}
@@ -27,7 +27,7 @@ width-requires : tie.Need-width-requires Inv-loop μ-loop
 width-requires c κs = c .pre .cycles-fit .truncation
 
 loop-holds : tie.Need-loop-holds Inv-loop μ-loop
-loop-holds c = 
+loop-holds c =
     let s = c .before .args in
     let cycle = row (length (s .config .now)) (s .cycles .now) in (
       omega arith,
@@ -56,7 +56,7 @@ span-small c =
     _ (at-loop .loop .inv .2) (c .interval .result) (c .interval .ensures)
 
 interval-requires : tie.Need-interval-requires Inv-loop μ-loop
-interval-requires c κs = 
+interval-requires c κs =
     let at-loop = c .before .before .before in
     let s = start at-loop .args in
     interval-ready (s .free .now) (s .cycles .now) (s .lambda) (s .n-free) (s .config .now) (s .blocks) (start at-loop .pre) (at-loop .loop .k) (omega arith) (at-loop .loop .config) (at-loop .loop .inv .4)
@@ -65,7 +65,7 @@ size-requires : tie.Need-size-requires Inv-loop μ-loop
 size-requires c κs = search needs
 
 add-count : tie.Need-add-count Inv-loop μ-loop
-add-count c = 
+add-count c =
     let at-loop = c .before .before .before .before .before in
     let few = start at-loop .pre .few in
     let small = span-small (c .before) in
@@ -74,7 +74,7 @@ add-count c =
     search needs
 
 step-requires : tie.Need-step-requires Inv-loop μ-loop
-step-requires c κs = 
+step-requires c κs =
     let at-loop = c .before .before .before .before .before .before in
     let s = start at-loop .args in
     step-ready (s .free .now) (s .cycles .now) (s .lambda) (s .n-free) (s .config .now) (s .blocks) (start at-loop .pre) (at-loop .loop .k) (omega arith) (at-loop .loop .config) (at-loop .loop .inv .4)
@@ -86,7 +86,7 @@ loop-less : tie.Need-loop-less Inv-loop μ-loop
 loop-less c = search needs
 
 loop-again : tie.Need-loop-again Inv-loop μ-loop
-loop-again c = 
+loop-again c =
     let at-loop = c .before .before .before .before .before .before .before .before in
     let s = start at-loop .args in
     let span = c .before .before .before .before in
@@ -106,7 +106,7 @@ same-length : tie.Need-same-length Inv-loop μ-loop
 same-length c = search needs
 
 returns : tie.Need-returns Inv-loop μ-loop
-returns c = 
+returns c =
     let s = start (c .before) .args in
     let past : c .before .loop .k ≡ s .blocks = omega arith in
     rw past at (c .before .loop .inv .5)

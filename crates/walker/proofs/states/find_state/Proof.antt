@@ -1,5 +1,5 @@
-use Prim.Native.Nat.{ℕ, _≤_, _<_, _+_, _*_, _-_}
-use mathlib.Core.Path.{_≡_, refl, sym, ap, _∙_}
+use Prim.Native.Nat.{_≤_, _<_, _+_, _-_}
+use mathlib.Core.Path.{_≡_, refl, sym, _∙_}
 use native.Mathlib.Omega.{arith}
 use lib.IntN.{pos}
 use lib.ListN.{length, take}
@@ -50,7 +50,7 @@ width-requires : tie.Need-width-requires Inv-loop μ-loop
 width-requires c κs = c .pre .0 .cycles-fit .truncation
 
 loop-holds : tie.Need-loop-holds Inv-loop μ-loop
-loop-holds c = 
+loop-holds c =
     let s = c .before .args in
     let cycle = row (length (s .config .now)) (s .cycles .now) in
     let none = states-none (s .free .now) cycle (s .lambda) (s .n-free) (s .config .now) in (
@@ -105,7 +105,7 @@ same-length : tie.Need-same-length Inv-loop μ-loop
 same-length c = search needs
 
 returns : tie.Need-returns Inv-loop μ-loop
-returns c = 
+returns c =
     let block = c .before .before .before .before .before .before in
     let at-loop = loop-of block in
     let s = start at-loop .args in
@@ -115,7 +115,7 @@ returns c =
     _ (at-loop .loop .inv .2) (found .interval .result) (found .interval .ensures) (s .place) (at-loop .loop .left) (inside block) (at-loop .loop .inv .5))
 
 step-requires : tie.Need-step-requires Inv-loop μ-loop
-step-requires c κs = 
+step-requires c κs =
     let at-loop = c .before .before .before .before .before .before .before in
     let s = start at-loop .args in
     step-ready (s .free .now) (s .cycles .now) (s .lambda) (s .n-free) (s .config .now) (s .blocks) (start at-loop .pre .0) (at-loop .loop .k) (omega arith) (at-loop .loop .config) (at-loop .loop .inv .4)
@@ -127,7 +127,7 @@ loop-less : tie.Need-loop-less Inv-loop μ-loop
 loop-less c = search needs
 
 loop-again : tie.Need-loop-again Inv-loop μ-loop
-loop-again c = 
+loop-again c =
     let passed = c .before .before .before in
     let span = passed .before .before in
     let at-loop = span .before .before .before .before in
@@ -148,7 +148,7 @@ same-length-2 : tie.Need-same-length-2 Inv-loop μ-loop
 same-length-2 c = search needs
 
 returns-2 : tie.Need-returns-2 Inv-loop μ-loop
-returns-2 c = 
+returns-2 c =
     let s = start (c .before) .args in
     let past : c .before .loop .k ≡ s .blocks = omega arith in
     let none = rw past at (c .before .loop .inv .5) in

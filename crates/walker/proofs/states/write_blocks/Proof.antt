@@ -1,4 +1,4 @@
-use Prim.Native.Nat.{ℕ, _≤_, _<_, _+_, _*_, _-_, _^_}
+use Prim.Native.Nat.{_≤_, _+_, _*_, _-_, _^_}
 use mathlib.Core.List.{flatten}
 use mathlib.Core.Path.{_≡_, refl, sym, ap, _∙_}
 use native.Mathlib.Omega.{arith}
@@ -106,7 +106,7 @@ size-requires : tie.Need-size-requires Inv-loop μ-loop
 size-requires c κs = search needs
 
 add-count : tie.Need-add-count Inv-loop μ-loop
-add-count c = 
+add-count c =
     let at-loop = c .before .before .before .before .before .before .before .before .before .before in
     let few = start at-loop .pre .0 .few in
     let small = span-small (c .before .before .before .before .before .before) in
@@ -115,7 +115,7 @@ add-count c =
     search needs
 
 step-requires : tie.Need-step-requires Inv-loop μ-loop
-step-requires c κs = 
+step-requires c κs =
     let at-loop = c .before .before .before .before .before .before .before .before .before .before .before in
     let s = start at-loop .args in
     step-ready (s .free .now) (s .cycles .now) (s .lambda) (s .n-free) (s .config .now) (s .blocks) (start at-loop .pre .0) (at-loop .loop .k) (omega arith) (at-loop .loop .config) (at-loop .loop .inv .4)
@@ -127,7 +127,7 @@ loop-less : tie.Need-loop-less Inv-loop μ-loop
 loop-less c = search needs
 
 loop-again : tie.Need-loop-again Inv-loop μ-loop
-loop-again c = 
+loop-again c =
     let span = c .before .before .before .before .before .before .before .before .before in
     let at-loop = loop-of span in
     let s = start at-loop .args in
@@ -156,7 +156,7 @@ same-length-2 : tie.Need-same-length-2 Inv-loop μ-loop
 same-length-2 c = search needs
 
 returns : tie.Need-returns Inv-loop μ-loop
-returns c = 
+returns c =
     let s = start (c .before) .args in
     let past : c .before .loop .k ≡ s .blocks = omega arith in
     record { count = rw past at (c .before .loop .inv .5); list = rw past at (c .before .loop .inv .8) }

@@ -1,16 +1,15 @@
-use Prim.Native.Nat.{ℕ, _≤_, _<_, _-_}
+use Prim.Native.Nat.{_≤_, _-_}
 use mathlib.Core.List.{_++_}
-use mathlib.Core.Path.{_≡_, refl, sym, ap, _∙_}
+use mathlib.Core.Path.{_≡_, refl, sym, _∙_}
 use native.Mathlib.Omega.{arith}
-use lib.IntN.{ℤ, pos, _+ℤ_, _*ℤ_, natAbs}
+use lib.IntN.{pos}
 use lib.ListN.{length, getD, take, drop, length-set}
 use mir.Syntax.{w8, w32}
 use mir.Val.{toZ, ofZ}
-use Rattle.mathematics.proofs.Signed.{back32}
+use Rattle.mathematics.proofs.Signed.{back32, back8}
 use Rattle.walker.specs.Cycles.{added}
-use Rattle.walker.proofs.Signs.{back8}
 use Rattle.walker.proofs.Adding.{added-length, added-at}
-use Rattle.walker.proofs.Fronts.{front-read, front-more, front-end}
+use Rattle.mathematics.proofs.Front.{front-read, front-more, front-end}
 use borrow.Author.Needs.{needs}
 use Rattle.walker.proofs.steps.add.Statement.{statement}
 use Rattle.walker.proofs.steps.add.Tie as tie

@@ -1,8 +1,8 @@
 use Prim.Native.Nat.{ℕ, _≤_, _<_, _+_, _*_, _-_}
 use mathlib.Core.Path.{_≡_, refl, sym, ap, subst, _∙_}
 use native.Mathlib.Omega.{arith}
-use lib.IntN.{ℤ, pos, negℤ, natAbs}
-use lib.ListN.{length, getD, replicate}
+use lib.IntN.{pos, negℤ, natAbs}
+use lib.ListN.{length, getD}
 use mir.Syntax.{w32}
 use mir.Val.{toZ, ofZ}
 use Rattle.mathematics.proofs.Signed.{size-neg, back32}
@@ -28,7 +28,7 @@ minus-requires c κs = omega (arith, c .pre .1 .truncation)
 
 loop-holds : tie.Need-loop-holds Inv-loop μ-loop
 unfolding combined
-loop-holds c = 
+loop-holds c =
     let start = c .before in
     let s = start .args .config .now in (
       omega arith,
@@ -58,7 +58,7 @@ part-add-end : tie.Need-part-add-end Inv-loop μ-loop
 part-add-end c = search needs
 
 add-requires : tie.Need-add-requires Inv-loop μ-loop
-add-requires c κs = 
+add-requires c κs =
     let at-loop = c .before .before .before in
     let start = at-loop .before .before in
     let fit = start .pre .1 in
@@ -77,7 +77,7 @@ loop-less : tie.Need-loop-less Inv-loop μ-loop
 loop-less c = search needs
 
 loop-again : tie.Need-loop-again Inv-loop μ-loop
-loop-again c = 
+loop-again c =
     let at-loop = c .before .before .before .before .before in
     let start = at-loop .before .before in
     let fit = start .pre .1 in
@@ -93,7 +93,7 @@ loop-again c =
       c .before .add .kept .0 ∙ at-loop .loop .inv .3,
       made ∙ ap (λ s. added s (negℤ (pos (start .args .lambda))) (row m cycles j)) (at-loop .loop .inv .4) ∙ sym (combined-next (row m cycles) (λ i. negℤ (pos (start .args .lambda))) (start .args .config .now) j),
       λ i.
-      rw made
+          rw made
           (omega (
             arith,
             added-small (at-loop .loop .config) (negℤ (pos (start .args .lambda))) (row m cycles j) (j * 1000) 1000 (cycle-long m (start .args .n-free) (start .args .lambda) cycles fit j inside ∙ sym (at-loop .loop .inv .3))
@@ -106,7 +106,7 @@ same-length c = search needs
 
 returns : tie.Need-returns Inv-loop μ-loop
 unfolding lowest
-returns c = 
+returns c =
     let start = c .before .before .before in
     let past : c .before .loop .j ≡ start .args .n-free = omega arith in
     let made = rw past at (c .before .loop .inv .4) in

@@ -1,11 +1,10 @@
-use mathlib.Core.Path.{_≡_, ap, _∙_}
+use mathlib.Core.Path.{_≡_, _∙_}
 use lib.IntN.{pos, _-ℤ_, negℤ, +ℤ-idl}
 use mir.Syntax.{w32}
 use mir.Val.{toZ, ofZ}
 use mir.Facts.{toZ-ofZ}
 use native.Mathlib.Omega.{arith}
-use Rattle.mathematics.proofs.Signed.{size-fits, size-neg}
-use Rattle.walker.proofs.Signs.{small-back}
+use Rattle.mathematics.proofs.Signed.{size-fits, size-neg, small-back}
 use borrow.Author.Needs.{needs}
 use Rattle.walker.proofs.steps.minus.Statement.{statement}
 use Rattle.walker.proofs.steps.minus.Tie as tie

@@ -1,10 +1,10 @@
 use mathlib.Core.Path.{_≡_, ap₂, _∙_}
-use lib.IntN.{pos, _+ℤ_, _*ℤ_}
-use mir.Syntax.{w8, w32}
+use lib.IntN.{_*ℤ_}
+use mir.Syntax.{w32}
 use mir.Val.{toZ, ofZ}
 use mir.Facts.{toZ-ofZ}
-use Rattle.mathematics.proofs.Signed.{back32}
-use Rattle.walker.proofs.Signs.{back8, product-small, product-back, sum-small}
+use Rattle.mathematics.proofs.Signed.{back32, back8}
+use Rattle.walker.proofs.Signs.{product-small, product-back, sum-small}
 use borrow.Author.Needs.{needs}
 use Rattle.walker.proofs.steps.plus.Statement.{statement}
 use Rattle.walker.proofs.steps.plus.Tie as tie

@@ -1,9 +1,7 @@
 use lib.IntN.{pos}
 use mir.Syntax.{w32}
 use native.Mathlib.Omega.{arith}
-use Rattle.mathematics.proofs.Signed.{size-fits}
-use Rattle.walker.proofs.Signs.{small-back}
-use borrow.Author.Needs.{needs}
+use Rattle.mathematics.proofs.Signed.{size-fits, small-back}
 use Rattle.walker.proofs.steps.signed.Statement.{statement}
 use Rattle.walker.proofs.steps.signed.Tie as tie
 

@@ -114,7 +114,7 @@ part-add-end : tie.Need-part-add-end Inv-loop μ-loop
 part-add-end c = search needs
 
 add-requires : tie.Need-add-requires Inv-loop μ-loop
-add-requires c κs = 
+add-requires c κs =
     let at-loop = c .before .before .before .before .before .before .before in
     rw (part (at-loop .loop .j) (length (start at-loop .args .config .now))) (addable at-loop (omega arith) (pos 1) (omega arith))
 
@@ -122,7 +122,7 @@ same-length : tie.Need-same-length Inv-loop μ-loop
 same-length c = search needs
 
 returns : tie.Need-returns Inv-loop μ-loop
-returns c = 
+returns c =
     let at-loop = c .before .before .before .before .before .before .before .before .before in
     let s = start at-loop in
     let m = length (s .args .config .now) in
@@ -151,7 +151,7 @@ part-add-end-2 : tie.Need-part-add-end-2 Inv-loop μ-loop
 part-add-end-2 c = search needs
 
 add-requires-2 : tie.Need-add-requires-2 Inv-loop μ-loop
-add-requires-2 c κs = 
+add-requires-2 c κs =
     let at-loop = c .before .before .before .before .before .before .before in
     let few : natAbs (toZ w32 (ofZ w32 (at-loop .before .minus .result))) ≤ 2000 = rw (at-loop .loop .inv .2) (back-small (start at-loop .args .lambda) (start at-loop .pre .0 .truncation)) in
     rw (part (at-loop .loop .j) (length (start at-loop .args .config .now))) (addable at-loop (omega arith) _ (omega arith))
@@ -163,7 +163,7 @@ loop-less : tie.Need-loop-less Inv-loop μ-loop
 loop-less c = search needs
 
 loop-again : tie.Need-loop-again Inv-loop μ-loop
-loop-again c = 
+loop-again c =
     let at-loop = c .before .before .before .before .before .before .before .before .before in
     let s = start at-loop in
     let m = length (s .args .config .now) in
@@ -181,7 +181,7 @@ loop-again c =
           ∙ sym (step-on (s .args .free .now) z L (s .args .n-free) j (at-loop .loop .config) (omega arith) (test (c .before .before .before .before .before) false (c .before .before .before .before .if1 .left)))
           ∙ at-loop .loop .inv .4,
       λ e.
-      rw made
+          rw made
           (omega (
             arith,
             added-small (at-loop .loop .config) (negℤ (pos (2 * L))) (z j) (2 ^ 20 + j * 2000) 2000 (cycle-long m (s .args .n-free) L (s .args .cycles .now) fit j inside ∙ sym (at-loop .loop .inv .3))
@@ -193,7 +193,7 @@ same-length-2 : tie.Need-same-length-2 Inv-loop μ-loop
 same-length-2 c = search needs
 
 returns-2 : tie.Need-returns-2 Inv-loop μ-loop
-returns-2 c = 
+returns-2 c =
     let at-loop = c .before in
     let s = start at-loop in
     sym (step-end (s .args .free .now) (row (length (s .args .config .now)) (s .args .cycles .now)) (s .args .lambda) (s .args .n-free) (at-loop .loop .j) (at-loop .loop .config) (omega arith))

@@ -1,4 +1,4 @@
-use Rattle.walker.proofs.Signs.{sign-widens, sign-widened}
+use Rattle.mathematics.proofs.Signed.{sign-widens, sign-widened}
 use Rattle.walker.proofs.steps.wide.Statement.{statement}
 use Rattle.walker.proofs.steps.wide.Tie as tie
 

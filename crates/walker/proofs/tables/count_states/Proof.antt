@@ -1,5 +1,4 @@
-use mathlib.Core.Path.{_≡_, ap, sym, _∙_}
-use lib.ListN.{length}
+use mathlib.Core.Path.{_≡_}
 use Rattle.walker.specs.Tables.{states-of, begin-of}
 use Rattle.walker.proofs.Fitting.{begin-ready, begin-made}
 use borrow.Author.Needs.{needs}
@@ -38,7 +37,7 @@ count-blocks-requires c κs =
 
 returns : tie.Need-returns
 unfolding states-of
-returns c = 
+returns c =
     let start = c .before .before .before .before .before .before .before .before .before .before .before in
     rw (begun (c .before .before .before .before .before), start .pre .sized) at (c .before .count-blocks .ensures)
 

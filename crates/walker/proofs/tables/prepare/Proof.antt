@@ -1,7 +1,6 @@
 use Rattle.gauss_law.specs.Spanning.{Spanned}
 use Rattle.gauss_law.proofs.Spanned.{accepted-searchable, searched-spanned}
 use Rattle.walker.proofs.Fitting.{tables-walk}
-use borrow.Author.Needs.{needs}
 use Rattle.walker.proofs.tables.prepare.Statement.{statement}
 use Rattle.walker.proofs.tables.prepare.Tie as tie
 

@@ -40,7 +40,7 @@ find-state-requires c κs =
 
 returns : tie.Need-returns
 unfolding states-of
-returns c = 
+returns c =
     let start = c .before .before .before .before .before .before .before .before .before .before .before in
     let made = c .before .before .before .before .before in
     let long = c .before .find-state .kept .0 ∙ ap length (begun made) ∙ start .pre .0 .sized in

@@ -1,5 +1,4 @@
 use mathlib.Core.Path.{_≡_}
-use lib.ListN.{length}
 use Rattle.walker.specs.Tables.{states-of, begin-of}
 use Rattle.walker.proofs.Fitting.{begin-ready, begin-made}
 use borrow.Author.Needs.{needs}
