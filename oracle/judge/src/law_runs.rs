@@ -178,12 +178,13 @@ pub fn limits(tally: &mut Tally) {
         let few = random.between(fewest, most.min(12));
         let mut sizes = vec![fewest, few];
         if most >= 40 {
-            sizes.extend([random.between(40, most), most]);
+            let many = if random.one_in(2) { most } else { random.between(40, most) };
+            sizes.push(many);
         }
         for (at, vertices) in sizes.into_iter().enumerate() {
             let complex = inputs::complex_with(&mut random, vertices, free);
-            let free = complex.edges.len() + 1 - vertices as usize;
-            let largest = reference::largest_lambda(free);
+            assert_eq!(complex.edges.len() as u64, vertices - 1 + free, "the generator gave up");
+            let largest = reference::largest_lambda(free as usize);
             let mut some =
                 vec![0, 1, largest, largest + 1, largest + 2, random.between(largest, MOST_LAMBDA), MOST_LAMBDA, MOST_LAMBDA + 1];
             some.sort_unstable();
@@ -206,7 +207,7 @@ pub fn limits(tally: &mut Tally) {
 pub fn random_rounds(tally: &mut Tally) {
     let mut random = Random::new(QUICK_SEED);
     for round in 0..QUICK_ROUNDS {
-        random_round(&mut random, if round % 400 == 0 { MOST_CANDIDATES } else { 3_000 }, tally);
+        random_round(&mut random, if round % 600 == 0 { MOST_CANDIDATES } else { 3_000 }, tally);
     }
 }
 

@@ -101,10 +101,10 @@ impl Case for Listing {
     }
 
     fn show(&self) -> String {
-        format!(
-            "enumerate_gauge_invariant: sheet {}, lent list {} entries longer than the states",
-            hexadecimal(&self.sheet),
-            self.spare
-        )
+        let lent = match self.spare {
+            Listing::NO_ROOM => "nothing lent".into(),
+            spare => format!("lent list {spare} entries longer than the states"),
+        };
+        format!("enumerate_gauge_invariant: sheet {}, {lent}", hexadecimal(&self.sheet))
     }
 }
