@@ -1,4 +1,4 @@
--- The lines of document 01's triangle and of one vertex without edges, and a refusal.
+-- The lines of the scope paper's triangle and of one vertex without edges, and a refusal.
 use mathlib.Core.Path.{_≡_, refl}
 use mathlib.Core.List.{[], _∷_, flatMap}
 use lib.IntN.{pos, negsuc}

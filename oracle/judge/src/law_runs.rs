@@ -55,7 +55,7 @@ fn path(vertices: u8) -> Vec<[u8; 2]> {
     (1..vertices).map(|vertex| [vertex - 1, vertex]).collect()
 }
 
-/// The cases of document 01, the ends of the ranges, and the differences from the Rust that are intended.
+/// The cases of the scope paper, the ends of the ranges, and the differences from the Rust that are intended.
 pub fn written_down(tally: &mut Tally) {
     let two_apart = [[0, 1], [0, 2], [1, 2], [3, 4], [3, 5], [4, 5]];
     let square = [[0, 1], [1, 2], [2, 3], [0, 3]];

@@ -1,4 +1,4 @@
-//! Holds the port against the Rust, and against document 01 where the Rust has no say.
+//! Holds the port against the Rust, and against the scope paper where the Rust has no say.
 
 mod case;
 mod configurations;

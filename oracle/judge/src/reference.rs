@@ -1,4 +1,4 @@
-//! What document 01 says, in simple sets and loops. It judges the refusals and the sheet's bytes, where the Rust has no say.
+//! What the scope paper says, in simple sets and loops. It judges the refusals and the sheet's bytes, where the Rust has no say.
 
 use std::collections::BTreeSet;
 

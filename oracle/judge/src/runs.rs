@@ -79,7 +79,7 @@ fn random_round(random: &mut Random, tally: &mut Tally) {
     }
 }
 
-/// The sheets of document 01 and the ends of its ranges.
+/// The sheets of the scope paper and the ends of its ranges.
 fn written_sheets() -> Vec<Sheet> {
     let six = [[0, 1], [0, 2], [0, 3], [1, 2], [1, 3], [2, 3]];
     let path = |vertices: u8| -> Vec<[u8; 2]> { (1..vertices).map(|vertex| [vertex - 1, vertex]).collect() };

@@ -9,7 +9,7 @@ mod tests {
     use crate::su2_quantum::Su2HilbertSpace;
     use phyz_regge::SimplicialComplex;
 
-    // "Triangle" of document 01
+    // "Triangle" of the scope paper
     fn triangle() -> SimplicialComplex {
         let mut complex = SimplicialComplex::from_pentachorons(3, &[]);
         complex.edges = vec![[0, 1], [0, 2], [1, 2]];

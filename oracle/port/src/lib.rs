@@ -1,4 +1,4 @@
-//! The calls of libzibrotka.a for safe Rust. Every answer is the value, or minus the refusal number of document 01's table. That lent
+//! The calls of libzibrotka.a for safe Rust. Every answer is the value, or minus the refusal number of the scope paper's table. That lent
 //! lists do not overlap is what Rust's exclusive borrows say already.
 
 /// The longest flat lists that a sheet can hold.
