@@ -49,13 +49,12 @@ pub fn count_states(w: Walker, lambda: usize, blocks: usize) -> usize
     ensures { λ r. ⌜ r ≡ length (states-of w lambda blocks) ⌝ }
 {
     let free = w.free;
-    let cycles = w.cycles;
     let n_free = w.n_free;
     let mut space = [0i32; 63];
     let m = w.n_edges;
     let config = &mut space[0..m];
-    begin(config, &cycles, n_free, lambda);
-    count_blocks(config, &free, n_free, &cycles, lambda, blocks)
+    begin(config, &w.cycles, n_free, lambda);
+    count_blocks(config, &free, n_free, &w.cycles, lambda, blocks)
 }
 
 // The states of the first blocks go to the beginning of a list. How many they are.
@@ -64,13 +63,12 @@ pub fn write_states(w: Walker, lambda: usize, blocks: usize, states: &mut [i32])
     ensures { λ r. ⌜ Written (states-of w lambda blocks) (now (states .entry)) (now (states .exit)) r ⌝ }
 {
     let free = w.free;
-    let cycles = w.cycles;
     let n_free = w.n_free;
     let mut space = [0i32; 63];
     let m = w.n_edges;
     let config = &mut space[0..m];
-    begin(config, &cycles, n_free, lambda);
-    write_blocks(states, config, &free, n_free, &cycles, lambda, blocks)
+    begin(config, &w.cycles, n_free, lambda);
+    write_blocks(states, config, &free, n_free, &w.cycles, lambda, blocks)
 }
 
 // The state with a number stands in the first n_edges entries.
@@ -79,12 +77,11 @@ pub fn state_at(w: Walker, lambda: usize, blocks: usize, place: usize) -> [i32; 
     ensures { λ r. ⌜ take (w .«n_edges») r ≡ getD (states-of w lambda blocks) place [] ⌝ }
 {
     let free = w.free;
-    let cycles = w.cycles;
     let n_free = w.n_free;
     let mut space = [0i32; 63];
     let m = w.n_edges;
     let config = &mut space[0..m];
-    begin(config, &cycles, n_free, lambda);
-    find_state(config, &free, n_free, &cycles, lambda, blocks, place);
+    begin(config, &w.cycles, n_free, lambda);
+    find_state(config, &free, n_free, &w.cycles, lambda, blocks, place);
     space
 }

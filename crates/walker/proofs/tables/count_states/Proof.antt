@@ -5,10 +5,10 @@ use borrow.Author.Needs.{needs}
 use Rattle.walker.proofs.tables.count_states.Statement.{statement}
 use Rattle.walker.proofs.tables.count_states.Tie as tie
 
-begun : (c : tie.After-begin) → c .begin .last .0 ≡ begin-of (c .before .before .before .before .before .before .args .w) (c .before .before .before .before .before .before .args .lambda)
+begun : (c : tie.After-begin) → c .begin .last .0 ≡ begin-of (c .before .before .before .before .before .before .before .args .t1) (c .before .before .before .before .before .before .before .args .lambda)
 begun c =
-    let start = c .before .before .before .before .before .before in
-    begin-made (start .args .w) (start .args .lambda) (start .args .blocks) (start .pre) (c .begin .last .0) (c .begin .ensures)
+    let start = c .before .before .before .before .before .before .before in
+    begin-made (start .args .t1) (start .args .lambda) (start .args .blocks) (start .pre) (c .begin .last .0) (c .begin .ensures)
 
 sub-config : tie.Need-sub-config
 sub-config c = search needs
@@ -19,27 +19,21 @@ part-space-start c = search needs
 part-space-end : tie.Need-part-space-end
 part-space-end c = search needs
 
-slice-aggregate-begin : tie.Need-slice-aggregate-begin
-slice-aggregate-begin c = search needs
-
 begin-requires : tie.Need-begin-requires
 begin-requires c κs =
-    let start = c .before .before .before .before .before in
-    begin-ready (start .args .w) (start .args .lambda) (start .args .blocks) (start .pre)
-
-slice-aggregate-count-blocks : tie.Need-slice-aggregate-count-blocks
-slice-aggregate-count-blocks c = search needs
+    let start = c .before .before .before .before .before .before in
+    begin-ready (start .args .t1) (start .args .lambda) (start .args .blocks) (start .pre)
 
 count-blocks-requires : tie.Need-count-blocks-requires
 count-blocks-requires c κs =
-    let start = c .before .before .before .before .before .before .before .before .before in
-    rw (begun (c .before .before .before)) (start .pre .walkable)
+    let made = c .before .before .before .before .before in
+    rw (begun made) (made .before .before .before .before .before .before .before .pre .walkable)
 
 returns : tie.Need-returns
 unfolding states-of
 returns c =
-    let start = c .before .before .before .before .before .before .before .before .before .before .before in
-    rw (begun (c .before .before .before .before .before), start .pre .sized) at (c .before .count-blocks .ensures)
+    let made = c .before .before .before .before .before .before .before in
+    rw (begun made, made .before .before .before .before .before .before .before .pre .sized) at (c .before .count-blocks .ensures)
 
 pub count-states-spec : {M : Type 1} → statement M
 count-states-spec =
@@ -48,8 +42,6 @@ count-states-spec =
     sub-config
     part-space-start
     part-space-end
-    slice-aggregate-begin
     begin-requires
-    slice-aggregate-count-blocks
     count-blocks-requires
     returns)

@@ -5,10 +5,10 @@ use borrow.Author.Needs.{needs}
 use Rattle.walker.proofs.tables.write_states.Statement.{statement}
 use Rattle.walker.proofs.tables.write_states.Tie as tie
 
-begun : (c : tie.After-begin) → c .begin .last .0 ≡ begin-of (c .before .before .before .before .before .before .args .w) (c .before .before .before .before .before .before .args .lambda)
+begun : (c : tie.After-begin) → c .begin .last .0 ≡ begin-of (c .before .before .before .before .before .before .before .args .t1) (c .before .before .before .before .before .before .before .args .lambda)
 begun c =
-    let start = c .before .before .before .before .before .before in
-    begin-made (start .args .w) (start .args .lambda) (start .args .blocks) (start .pre .0) (c .begin .last .0) (c .begin .ensures)
+    let start = c .before .before .before .before .before .before .before in
+    begin-made (start .args .t1) (start .args .lambda) (start .args .blocks) (start .pre .0) (c .begin .last .0) (c .begin .ensures)
 
 sub-config : tie.Need-sub-config
 sub-config c = search needs
@@ -19,22 +19,17 @@ part-space-start c = search needs
 part-space-end : tie.Need-part-space-end
 part-space-end c = search needs
 
-slice-aggregate-begin : tie.Need-slice-aggregate-begin
-slice-aggregate-begin c = search needs
-
 begin-requires : tie.Need-begin-requires
 begin-requires c κs =
-    let start = c .before .before .before .before .before in
-    begin-ready (start .args .w) (start .args .lambda) (start .args .blocks) (start .pre .0)
-
-slice-aggregate-write-blocks : tie.Need-slice-aggregate-write-blocks
-slice-aggregate-write-blocks c = search needs
+    let start = c .before .before .before .before .before .before in
+    begin-ready (start .args .t1) (start .args .lambda) (start .args .blocks) (start .pre .0)
 
 write-blocks-requires : tie.Need-write-blocks-requires
 unfolding states-of
 write-blocks-requires c κs =
-    let start = c .before .before .before .before .before .before .before .before .before .before in
-    rw (begun (c .before .before .before .before)) (start .pre .0 .walkable, rw (start .pre .0 .sized) (start .pre .1))
+    let made = c .before .before .before .before .before .before in
+    let start = made .before .before .before .before .before .before .before in
+    rw (begun made) (start .pre .0 .walkable, rw (start .pre .0 .sized) (start .pre .1))
 
 same-length : tie.Need-same-length
 same-length c = search needs
@@ -42,8 +37,8 @@ same-length c = search needs
 returns : tie.Need-returns
 unfolding states-of
 returns c =
-    let start = c .before .before .before .before .before .before .before .before .before .before .before .before .before in
-    rw (begun (c .before .before .before .before .before .before .before), start .pre .0 .sized) at (c .before .before .write-blocks .ensures)
+    let made = c .before .before .before .before .before .before .before .before .before in
+    rw (begun made, made .before .before .before .before .before .before .before .pre .0 .sized) at (c .before .before .write-blocks .ensures)
 
 pub write-states-spec : {M : Type 1} → statement M
 write-states-spec =
@@ -52,9 +47,7 @@ write-states-spec =
     sub-config
     part-space-start
     part-space-end
-    slice-aggregate-begin
     begin-requires
-    slice-aggregate-write-blocks
     write-blocks-requires
     same-length
     returns)
