@@ -101,10 +101,6 @@ fn tri_edge_indices() {
 
 /// The port fills one lent list again and again; the Rust makes new lists each time, and letting go of them is not timed.
 fn enumerate_gauge_invariant() {
-    if !port::LISTING {
-        println!("enumerate_gauge_invariant: this library has no such call yet");
-        return;
-    }
     println!("enumerate_gauge_invariant (the port judges the whole sheet each time; the Rust is given a finished record)");
     let columns = |name: &str, words: [String; 9]| {
         let [v, e, f, l, candidates, states, port, rust, ratio] = words;

@@ -192,7 +192,6 @@ static int laws(void)
     return 0;
 }
 
-#ifdef LISTING
 static int listings(void)
 {
     const int32_t on_triangle[] = {-1, 1, -1, 0, 0, 0, 1, -1, 1};
@@ -220,16 +219,11 @@ static int listings(void)
     CHECK(zibrotka_enumerate_gauge_invariant(point_sheet, 11, NULL, 0) == 1);
     return 0;
 }
-#endif
 
 int main(void)
 {
-    if (making() || reading() || triangle_edges() || pentachora() || trees() || laws())
+    if (making() || reading() || triangle_edges() || pentachora() || trees() || laws() || listings())
         return 1;
-#ifdef LISTING
-    if (listings())
-        return 1;
-#endif
     printf("C: %d checks passed\n", passed);
     return 0;
 }

@@ -1,7 +1,7 @@
 //! Links libzibrotka.a from the folder that ZIBROTKA_LIB names, else from target/staticlib of the repository.
 
+use std::env;
 use std::path::Path;
-use std::{env, fs};
 
 fn main() {
     println!("cargo:rerun-if-env-changed=ZIBROTKA_LIB");
@@ -14,10 +14,4 @@ fn main() {
     assert!(library.is_file(), "no {}: make it with `rt staticlib zibrotka`, or set ZIBROTKA_LIB to its folder", library.display());
     println!("cargo:rustc-link-search=native={}", folder.display());
     println!("cargo:rustc-link-lib=static=zibrotka");
-    // the listing's switch: an archive begins with the names that it has
-    println!("cargo:rustc-check-cfg=cfg(listing)");
-    let name = b"zibrotka_enumerate_gauge_invariant\0";
-    if fs::read(&library).unwrap().windows(name.len()).any(|bytes| bytes == name) {
-        println!("cargo:rustc-cfg=listing");
-    }
 }

@@ -70,7 +70,7 @@ impl Kind {
             Kind::NotLawfulBeyond,
             Kind::Listings,
         ];
-        ALL.into_iter().filter(|&kind| kind != Kind::Listings || port::LISTING)
+        ALL.into_iter()
     }
 }
 

@@ -12,9 +12,9 @@ use crate::{configurations, inputs, rust};
 
 const QUICK_ROUNDS: usize = 8_000;
 
-/// A listing is asked for where the library has it and its candidates are not too many.
+/// A listing is asked for where its candidates are not too many.
 fn list(listing: &Listing, most: u64, tally: &mut Tally) {
-    if port::LISTING && listing.candidates() <= most {
+    if listing.candidates() <= most {
         run(listing, tally);
     }
 }

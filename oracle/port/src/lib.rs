@@ -5,10 +5,6 @@
 pub const EDGE_BYTES: usize = 2 * 63;
 pub const TRIANGLE_BYTES: usize = 3 * 256;
 
-/// Whether the library has `zibrotka_enumerate_gauge_invariant`; the build looks for it. The listing's one switch: once every library has
-/// it, this, its lines in build.rs and run, and what asks for it go.
-pub const LISTING: bool = cfg!(listing);
-
 // A slice goes over as two arguments, pointer and length: `&[T]` in such a declaration would be one argument of two words.
 mod raw {
     use super::{EDGE_BYTES, TRIANGLE_BYTES};
@@ -59,7 +55,6 @@ mod raw {
             configuration: *const i32,
             configuration_len: usize,
         ) -> i64;
-        #[cfg(listing)]
         pub fn zibrotka_enumerate_gauge_invariant(sheet: *const u8, sheet_len: usize, states: *mut i32, states_len: usize) -> i64;
     }
 }
@@ -141,12 +136,6 @@ pub fn check_gauss_law(sheet: &[u8], configuration: &[i32]) -> i64 {
 }
 
 /// Every state, state after state; answers the number of states.
-#[cfg(listing)]
 pub fn enumerate_gauge_invariant(sheet: &[u8], states: &mut [i32]) -> i64 {
     unsafe { raw::zibrotka_enumerate_gauge_invariant(sheet.as_ptr(), sheet.len(), states.as_mut_ptr(), states.len()) }
-}
-
-#[cfg(not(listing))]
-pub fn enumerate_gauge_invariant(_sheet: &[u8], _states: &mut [i32]) -> i64 {
-    panic!("this library has no zibrotka_enumerate_gauge_invariant")
 }
