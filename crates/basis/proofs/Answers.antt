@@ -28,7 +28,8 @@ use Rattle.walker.proofs.Fitting.{walks-fit, walks-states}
 use Rattle.lines.specs.Lines.{firstLine, stateLines, refusedLine}
 use Rattle.lines.specs.Printed.{printed}
 use Rattle.lines.proofs.Lengths.{first-line-long}
-use Rattle.basis.specs.Text.{limit-test, told, basisText}
+use Rattle.walker.specs.Enumeration.{limit-test}
+use Rattle.basis.specs.Text.{told, basisText}
 
 -- the first line is short enough
 pub first-line-short : (c : SimplicialComplex) (L dim : ℕ) → refusal (complexOf c) ≡ 0 → L ≤ 1000 → dim < 2 ^ 64 → length (firstLine (c .«n_vertices») (c .«n_edges») (c .«n_triangles») L dim) ≤ 400

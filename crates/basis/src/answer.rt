@@ -18,7 +18,8 @@ ghost use Rattle.mathematics.specs.Refusals.{first};
 ghost use Rattle.complex.specs.Complex.{complexOf};
 ghost use Rattle.complex.specs.Judge.{refusal};
 ghost use Rattle.basis.specs.Printing.{Printed};
-ghost use Rattle.basis.specs.Text.{limit-test, told, basisText};
+ghost use Rattle.walker.specs.Enumeration.{limit-test};
+ghost use Rattle.basis.specs.Text.{told, basisText};
 
 // The states of a sheet that was read, or 10.
 fn print_sheet(out: &mut [u8], s: Sheet) -> usize
@@ -34,15 +35,7 @@ fn print_sheet(out: &mut [u8], s: Sheet) -> usize
     }
     let blocks = count_of_blocks(n_free, lambda);
     let dim = count_states(w, lambda, blocks);
-    let next = write_first_line(
-        out,
-        0,
-        c.n_vertices,
-        c.n_edges,
-        c.n_triangles,
-        lambda,
-        dim,
-    );
+    let next = write_first_line(out, 0, c.n_vertices, c.n_edges, c.n_triangles, lambda, dim);
     print_states(out, next, w, lambda, blocks)
 }
 

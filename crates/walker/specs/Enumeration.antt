@@ -1,6 +1,7 @@
 -- What the enumeration tells, and what its list then holds.
 use Prim.Native.Nat.{ℕ, _+_, _*_, _^_, _≤_, _<_}
 use mathlib.Core.List.{List, [], _∷_, _++_, flatten}
+use mathlib.Core.Bool.{Bool}
 use mathlib.Core.Path.{_≡_}
 use lib.Dec.{ltb}
 use lib.IntN.{ℤ, pos}
@@ -9,8 +10,11 @@ use Rattle.mathematics.specs.Refusals.{first, Outcome, value, refused, outcome,
 use Rattle.complex.specs.Complex.{Complex}
 use Rattle.complex.specs.Judge.{truncated-tests}
 use Rattle.gauss_law.specs.Listing.{free-edges, listing, Complete}
+use Rattle.walker.specs.declared.tables.Walker.{Walker}
+use Rattle.walker.specs.declared.enumerate.Prepared.{Prepared}
 use Rattle.walker.specs.declared.enumerate.Enumerated.{Enumerated}
 use Rattle.walker.specs.declared.enumerate.Enumerated.the-variants.{States, Refused}
+use Rattle.walker.specs.Tables.{Walks, states-of, Fit}
 
 -- a number as far as the limit, and only that it is above the limit where it is
 pub record Limited (number r : ℕ) : Type 0 where
@@ -27,14 +31,43 @@ unfoldable pub enumeratedAnswer : Enumerated → Outcome ℕ
 enumeratedAnswer (States n) = value n
 enumeratedAnswer (Refused n) = refused n
 
--- 4, 5 and 7 to 9, then 10 where the candidates are over the limit, and 15 where the list has too few entries
+-- the candidates are over the limit
+abbrev pub limit-test : Complex → ℕ → ℕ × Bool
+limit-test c L = (10, ltb 1048576 ((2 * L + 1) ^ length (free-edges c)))
+
+-- what is judged before a basis is listed: 4, 5, and 7 to 10
+abbrev pub basis-tests : Complex → ℕ → List (ℕ × Bool)
+basis-tests c L = truncated-tests c L ++ (limit-test c L ∷ [])
+
+-- a list has too few entries for the basis
+unfoldable pub short : Complex → ℕ → ℕ → Bool
+short c L room = ltb room (length (states c L) * length (c .edges))
+
+-- what a list holds that begins with the basis
+unfoldable pub basis-first : Complex → ℕ → List ℤ → List ℤ
+basis-first c L old = flatten (states c L) ++ drop (length (states c L) * length (c .edges)) old
+
+-- these, and 15 for a list that has too few entries
 unfoldable pub enumerated-refusal : Complex → ℕ → ℕ → ℕ
-enumerated-refusal c L room =
-    first (truncated-tests c L ++ ((10, ltb 1048576 ((2 * L + 1) ^ length (free-edges c))) ∷ (15, ltb room (length (states c L) * length (c .edges))) ∷ []))
+enumerated-refusal c L room = first (basis-tests c L ++ ((15, short c L room) ∷ []))
 
 -- The number of states is told, and the list begins with them, state after state; it is complete, and no longer than the limit.
 pub record Listed (c : Complex) (L : ℕ) (old new : List ℤ) (r : Enumerated) : Type 0 where
   pub answer : enumeratedAnswer r ≡ outcome (enumerated-refusal c L (length old)) (length (states c L))
-  pub list : new ≡ written (enumerated-refusal c L (length old)) (flatten (states c L) ++ drop (length (states c L) * length (c .edges)) old) old
+  pub list : new ≡ written (enumerated-refusal c L (length old)) (basis-first c L old) old
   pub complete : enumerated-refusal c L (length old) ≡ 0 → Complete c (λ v. pos 0) L (states c L)
   pub few : enumerated-refusal c L (length old) ≡ 0 → length (states c L) ≤ 1048576
+
+-- ---- as the code keeps it
+-- tables and a number of blocks by which the basis of a complex is walked
+pub record BasisWalks (c : Complex) (L : ℕ) (w : Walker) (blocks : ℕ) : Type 0 where
+  pub truncation : L ≤ 1000
+  pub walks : Walks c w
+  pub fit : Fit w L blocks
+  pub listed : states-of w L blocks ≡ states c L
+  pub few : length (states c L) ≤ 1048576
+
+-- the refusal of a basis, or what walks it
+pub record PreparedFor (c : Complex) (L : ℕ) (r : Prepared) : Type 0 where
+  pub refusal : r .refusal ≡ first (basis-tests c L)
+  pub basis : r .refusal ≡ 0 → BasisWalks c L (r .walker) (r .blocks)

@@ -13,7 +13,7 @@ ghost use lib.Dec.{ltb};
 ghost use lib.ListN.{length};
 ghost use Rattle.complex.specs.Complex.{complexOf};
 ghost use Rattle.walker.specs.Tables.{states-of, Fit};
-ghost use Rattle.walker.specs.Enumeration.{Limited, Listed};
+ghost use Rattle.walker.specs.Enumeration.{Limited, PreparedFor, Listed};
 
 // One factor more, as long as the product is within the limit.
 fn grow(product: usize, factor: usize) -> usize
@@ -75,6 +75,49 @@ pub enum Enumerated {
     Refused(u8),
 }
 
+// What walks the basis of a record, or the refusal, which is not 0.
+pub struct Prepared {
+    pub refusal: u8,
+    pub blocks: usize,
+    pub walker: Walker,
+}
+
+fn unprepared(refusal: u8) -> Prepared
+    ensures { λ r. ⌜ r .refusal ≡ refusal ⌝ }
+{
+    let walker = Walker {
+        n_edges: 0,
+        n_free: 0,
+        free: [0; 63],
+        cycles: [0; 3969],
+    };
+    Prepared {
+        refusal: refusal,
+        blocks: 0,
+        walker: walker,
+    }
+}
+
+// The record, the truncation and the number of candidates are judged, and the walk is prepared.
+pub fn prepare_basis(c: SimplicialComplex, lambda: usize) -> Prepared
+    ensures { λ r. ⌜ PreparedFor (complexOf c) lambda r ⌝ }
+{
+    let number = judge_truncated(c, lambda);
+    if number != 0 {
+        return unprepared(number);
+    }
+    let w = prepare(c);
+    let n_free = w.n_free;
+    if too_many(n_free, lambda) {
+        return unprepared(10);
+    }
+    Prepared {
+        refusal: 0,
+        blocks: count_of_blocks(n_free, lambda),
+        walker: w,
+    }
+}
+
 // All states of a record within -lambda to lambda go to the beginning of the list. The record is judged first.
 pub fn enumerate_gauge_invariant(
     c: SimplicialComplex,
@@ -83,16 +126,13 @@ pub fn enumerate_gauge_invariant(
 ) -> Enumerated
     ensures { λ r. ⌜ Listed (complexOf c) lambda (now (states .entry)) (now (states .exit)) r ⌝ }
 {
-    let number = judge_truncated(c, lambda);
+    let basis = prepare_basis(c, lambda);
+    let number = basis.refusal;
     if number != 0 {
         return Enumerated::Refused(number);
     }
-    let w = prepare(c);
-    let n_free = w.n_free;
-    if too_many(n_free, lambda) {
-        return Enumerated::Refused(10);
-    }
-    let blocks = count_of_blocks(n_free, lambda);
+    let w = basis.walker;
+    let blocks = basis.blocks;
     if too_short(w, lambda, blocks, states.len()) {
         return Enumerated::Refused(15);
     }

@@ -34,7 +34,7 @@ use Rattle.gauss_law.specs.Listing.{tree-edges, free-edges}
 use Rattle.gauss_law.specs.Spanning.{treeAnswer, tree-refusal, TreeTold}
 use Rattle.gauss_law.specs.Law.{lawAnswer, law-refusal, lawOutcome}
 use Rattle.walker.specs.declared.enumerate.Enumerated.{Enumerated}
-use Rattle.walker.specs.Enumeration.{states, enumeratedAnswer, enumerated-refusal, Listed as AllListed}
+use Rattle.walker.specs.Enumeration.{states, limit-test, short, enumeratedAnswer, enumerated-refusal, Listed as AllListed}
 use Rattle.zibrotka.specs.declared.Told.{Told}
 use Rattle.zibrotka.specs.declared.Edges.{Edges}
 use Rattle.zibrotka.specs.declared.Numbers.{Numbers}
@@ -164,13 +164,13 @@ module _ (n : ℕ) (l es ts : List ℕ) (t : ℕ) (es′ ts′ : List ℕ) where
 
 -- ---- the spanning tree
 module _ (b tree free : List ℕ) where
-  short : List (ℕ × Bool)
-  short = (15, ltb (length tree) (length (tree-edges (complexOf (sheetIn b .complex)))) || ltb (length free) (length (free-edges (complexOf (sheetIn b .complex))))) ∷ []
+  too-few : List (ℕ × Bool)
+  too-few = (15, ltb (length tree) (length (tree-edges (complexOf (sheetIn b .complex)))) || ltb (length free) (length (free-edges (complexOf (sheetIn b .complex))))) ∷ []
 
   pub tree-refused : (k : ℕ) → k ≡ reading-refusal b → (k ≡ 0 → ⊥) → (r : ℤ) → r ≡ negℤ (pos k) → SpanningTree b tree free r tree free
-  unfolding tree-room short
+  unfolding tree-room too-few
   tree-refused k h some r is =
-      let n : tree-room b (length tree) (length free) ≡ k = sheet-stops b short k h some in
+      let n : tree-room b (length tree) (length free) ≡ k = sheet-stops b too-few k h some in
       record {
         answer = refused-signed (tree-room b (length tree) (length free)) k (length (free-edges (complexOf (sheetIn b .complex)))) r n some is;
         tree-list = refused-kept (tree-room b (length tree) (length free)) k _ tree n some;
@@ -178,8 +178,8 @@ module _ (b tree free : List ℕ) where
       }
 
   same-room : reading-refusal b ≡ 0 → tree-refusal (complexOf (sheetIn b .complex)) (length tree) (length free) ≡ tree-room b (length tree) (length free)
-  unfolding tree-refusal tree-room short
-  same-room h = sheet-goes-on b short h
+  unfolding tree-refusal tree-room too-few
+  same-room h = sheet-goes-on b too-few h
 
   module _ (h : reading-refusal b ≡ 0) (c : Complex) (is : c ≡ complexOf (sheetIn b .complex)) (a : SpanningTreeAnswer) (tree′ free′ : List ℕ) (told : TreeTold c tree free a tree′ free′) where
     told-sheet : TreeTold (complexOf (sheetIn b .complex)) tree free a tree′ free′
@@ -242,7 +242,7 @@ module _ (b : List ℕ) (old : List ℤ) where
   L = sheetIn b .lambda
 
   own : List (ℕ × Bool)
-  own = (10, ltb 1048576 ((2 * L + 1) ^ length (free-edges c))) ∷ (15, ltb (length old) (length (states c L) * length (c .edges))) ∷ []
+  own = limit-test c L ∷ (15, short c L (length old)) ∷ []
 
   pub states-refused : (k : ℕ) → k ≡ reading-refusal b → (k ≡ 0 → ⊥) → (r : ℤ) → r ≡ negℤ (pos k) → States b old r old
   unfolding states-refusal own c L

@@ -1,5 +1,5 @@
 -- What the exported functions answer: one signed number, the value or minus the refusal.
-use Prim.Native.Nat.{ℕ, _+_, _*_, _^_}
+use Prim.Native.Nat.{ℕ, _*_}
 use mathlib.Core.List.{List, [], _∷_, _++_, flatten}
 use mathlib.Core.Bool.{Bool, not, _||_, cond}
 use mathlib.Core.Path.{_≡_}
@@ -15,7 +15,7 @@ use Rattle.pentachora.specs.declared.FromPentachorons.{FromPentachorons}
 use Rattle.pentachora.specs.declared.FromPentachorons.the-variants.{Counts, Refused as NoComplex}
 use Rattle.gauss_law.specs.Gauss.{lawful}
 use Rattle.gauss_law.specs.Listing.{tree-edges, free-edges, Complete}
-use Rattle.walker.specs.Enumeration.{states}
+use Rattle.walker.specs.Enumeration.{states, limit-test, short, basis-first}
 use Rattle.zibrotka.specs.declared.Told.{Told}
 use Rattle.zibrotka.specs.declared.Opened.{Opened}
 use Rattle.zibrotka.specs.declared.Edges.{Edges}
@@ -79,18 +79,22 @@ pub record ReadSheet (b : List ℕ) (v e t l : ℕ) (edges triangles : List ℕ)
   pub edge-list : edges′ ≡ written (reading-refusal b) (sheetIn b .complex .edges) edges
   pub triangle-list : triangles′ ≡ written (reading-refusal b) (sheetIn b .complex .triangles) triangles
 
+-- the complex that a sheet's bytes hold
+abbrev pub complexIn : List ℕ → Complex
+complexIn b = complexOf (sheetIn b .complex)
+
 -- the refusals of a call on a sheet: 1 to 9 as for reading it, then the call's own
 unfoldable pub on-sheet : List ℕ → List (ℕ × Bool) → ℕ
-on-sheet b more = first (header-tests b ++ (shape-tests (complexOf (sheetIn b .complex)) ++ more))
+on-sheet b more = first (header-tests b ++ (shape-tests (complexIn b) ++ more))
 
 -- 13 for a number that is no triangle's
 unfoldable pub triangle-refusal : List ℕ → ℕ → ℕ
-triangle-refusal b t = on-sheet b ((13, leb (length (complexOf (sheetIn b .complex) .triangles)) t) ∷ [])
+triangle-refusal b t = on-sheet b ((13, leb (length (complexIn b .triangles)) t) ∷ [])
 
 -- zibrotka_tri_edge_indices
 pub record EdgeIndices (b : List ℕ) (t : ℕ) (before : List ℕ) (r : ℤ) (after : List ℕ) : Type 0 where
   pub answer : r ≡ signed (outcome (triangle-refusal b t) 0)
-  pub indices : after ≡ written (triangle-refusal b t) (sides (complexOf (sheetIn b .complex)) t) before
+  pub indices : after ≡ written (triangle-refusal b t) (sides (complexIn b) t) before
 
 -- zibrotka_from_pentachorons
 pub record Pentachora (n : ℕ) (l edges triangles : List ℕ) (t : ℕ) (r : ℤ) (edges′ triangles′ : List ℕ) (t′ : ℕ) : Type 0 where
@@ -103,28 +107,24 @@ pub record Pentachora (n : ℕ) (l edges triangles : List ℕ) (t : ℕ) (r : �
 unfoldable pub tree-room : List ℕ → ℕ → ℕ → ℕ
 tree-room b tree free =
     on-sheet b
-    ((15, ltb tree (length (tree-edges (complexOf (sheetIn b .complex)))) || ltb free (length (free-edges (complexOf (sheetIn b .complex))))) ∷ [])
+    ((15, ltb tree (length (tree-edges (complexIn b))) || ltb free (length (free-edges (complexIn b)))) ∷ [])
 
 -- zibrotka_spanning_tree
 pub record SpanningTree (b tree free : List ℕ) (r : ℤ) (tree′ free′ : List ℕ) : Type 0 where
-  pub answer : r ≡ signed (outcome (tree-room b (length tree) (length free)) (length (free-edges (complexOf (sheetIn b .complex)))))
-  pub tree-list : tree′ ≡ written (tree-room b (length tree) (length free)) (tree-edges (complexOf (sheetIn b .complex)) ++ drop (length (tree-edges (complexOf (sheetIn b .complex)))) tree) tree
-  pub free-list : free′ ≡ written (tree-room b (length tree) (length free)) (free-edges (complexOf (sheetIn b .complex)) ++ drop (length (free-edges (complexOf (sheetIn b .complex)))) free) free
+  pub answer : r ≡ signed (outcome (tree-room b (length tree) (length free)) (length (free-edges (complexIn b))))
+  pub tree-list : tree′ ≡ written (tree-room b (length tree) (length free)) (tree-edges (complexIn b) ++ drop (length (tree-edges (complexIn b))) tree) tree
+  pub free-list : free′ ≡ written (tree-room b (length tree) (length free)) (free-edges (complexIn b) ++ drop (length (free-edges (complexIn b))) free) free
 
 -- zibrotka_check_gauss_law: 12 for a configuration that is not as long as the list of edges
 pub record GaussLaw (b : List ℕ) (s : List ℤ) (r : ℤ) : Type 0 where
-  pub answer : r ≡ signed (yesOf (outcome (on-sheet b ((12, not (eqb (length s) (length (complexOf (sheetIn b .complex) .edges)))) ∷ [])) (lawful (complexOf (sheetIn b .complex)) (λ v. pos 0) s)))
+  pub answer : r ≡ signed (yesOf (outcome (on-sheet b ((12, not (eqb (length s) (length (complexIn b .edges)))) ∷ [])) (lawful (complexIn b) (λ v. pos 0) s)))
 
 -- 10 for too many candidates, 15 for a list that is too short
 unfoldable pub states-refusal : List ℕ → ℕ → ℕ
-states-refusal b room =
-    on-sheet b
-    ((10, ltb 1048576 ((2 * sheetIn b .lambda + 1) ^ length (free-edges (complexOf (sheetIn b .complex)))))
-    ∷ (15, ltb room (length (states (complexOf (sheetIn b .complex)) (sheetIn b .lambda)) * length (complexOf (sheetIn b .complex) .edges)))
-    ∷ [])
+states-refusal b room = on-sheet b (limit-test (complexIn b) (sheetIn b .lambda) ∷ (15, short (complexIn b) (sheetIn b .lambda) room) ∷ [])
 
 -- zibrotka_enumerate_gauge_invariant: the list begins with all states, state after state
 pub record States (b : List ℕ) (old : List ℤ) (r : ℤ) (new : List ℤ) : Type 0 where
-  pub answer : r ≡ signed (outcome (states-refusal b (length old)) (length (states (complexOf (sheetIn b .complex)) (sheetIn b .lambda))))
-  pub list : new ≡ written (states-refusal b (length old)) (flatten (states (complexOf (sheetIn b .complex)) (sheetIn b .lambda)) ++ drop (length (states (complexOf (sheetIn b .complex)) (sheetIn b .lambda)) * length (complexOf (sheetIn b .complex) .edges)) old) old
-  pub complete : states-refusal b (length old) ≡ 0 → Complete (complexOf (sheetIn b .complex)) (λ v. pos 0) (sheetIn b .lambda) (states (complexOf (sheetIn b .complex)) (sheetIn b .lambda))
+  pub answer : r ≡ signed (outcome (states-refusal b (length old)) (length (states (complexIn b) (sheetIn b .lambda))))
+  pub list : new ≡ written (states-refusal b (length old)) (basis-first (complexIn b) (sheetIn b .lambda) old) old
+  pub complete : states-refusal b (length old) ≡ 0 → Complete (complexIn b) (λ v. pos 0) (sheetIn b .lambda) (states (complexIn b) (sheetIn b .lambda))

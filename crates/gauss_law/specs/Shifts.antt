@@ -1,0 +1,24 @@
+-- Shifts of an assignment: a value added on one edge, and a triangle's three.
+use Prim.Native.Nat.{ℕ}
+use mathlib.Core.List.{List}
+use mathlib.Core.Path.{_≡_}
+use lib.IntN.{ℤ, pos, negsuc, _+ℤ_}
+use lib.ListN.{getD, set}
+use Rattle.complex.specs.Complex.{Complex}
+use Rattle.complex.specs.Sides.{sides}
+
+-- the value on an edge after a shift
+unfoldable pub raised : List ℤ → ℕ → ℤ → ℤ
+raised s e delta = getD s e (pos 0) +ℤ delta
+
+-- the assignment after a shift
+unfoldable pub shifted : List ℤ → ℕ → ℤ → List ℤ
+shifted s e delta = set s e (raised s e delta)
+
+-- the number of an edge of triangle t: (a, b), (a, c) and (b, c) by 0, 1 and 2
+unfoldable pub side : Complex → ℕ → ℕ → ℕ
+side c t k = getD (sides c t) k 0
+
+-- 1, -1 and 1 are added on the edges (a, b), (a, c) and (b, c) of triangle t
+unfoldable pub triangle-shift : Complex → ℕ → List ℤ → List ℤ
+triangle-shift c t s = shifted (shifted (shifted s (side c t 0) (pos 1)) (side c t 1) (negsuc 0)) (side c t 2) (pos 1)
