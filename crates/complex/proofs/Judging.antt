@@ -4,7 +4,7 @@ use mathlib.Core.List.{List, [], _∷_, map}
 use mathlib.Core.Path.{_≡_, refl, sym, ap, _∙_}
 use mathlib.Core.Bool.{Bool, true, false, not, _&&_, cond}
 use native.Mathlib.Omega.{arith}
-use borrow.Author.Tests.{eq-eqb, ne-eqb, ltb-false}
+use borrow.Author.Tests.{eq-eqb, ne-eqb, eqb-true, ltb-false}
 use lib.ListN.{getD, length}
 use lib.Dec.{eqb, ltb}
 use Rattle.mathematics.specs.Lists.{same, distinct, firsts}
@@ -20,7 +20,7 @@ use Rattle.complex.specs.Judge.{counts-right, rising, simplices-right, s
 use Rattle.complex.specs.Numbering.{triangle-key, Keyed, Indexed, Judged}
 use Rattle.complex.proofs.Simplices.{entries-length, simplices-length, simplex-at, start-at, end-at}
 use Rattle.complex.proofs.Triangles.{fitting, fitting-keyed, triangles-counted}
-use Rattle.complex.proofs.Accepting.{Counts, counts, simplices-sized, rising-ends}
+use Rattle.complex.proofs.Accepting.{Counts, counts, Passed, passed, simplices-sized, rising-ends}
 
 abbrev pub edges-of : SimplicialComplex → List Simplex
 edges-of c = simplices 2 (c .edges) (c .«n_edges»)
@@ -143,6 +143,25 @@ module _ (c : SimplicialComplex) (right : counts-of c ≡ true) (rise : all (ris
         edges-fit = k .edges;
         ends = rising-ends (c .«n_vertices») (edges-of c) (simplices-sized 2 (c .edges) (c .«n_edges»)) rise;
       }
+
+-- the edges of an accepted record can be numbered, and each has its own number
+module _ (c : SimplicialComplex) (h : refusal (complexOf c) ≡ 0) where
+  tests : Passed (complexOf c)
+  tests = passed (complexOf c) h
+
+  right-own : counts-of c ≡ true
+  unfolding complexOf
+  right-own = rw (simplices-length 2 (c .edges) (c .«n_edges»), simplices-length 3 (c .triangles) (c .«n_triangles»)) at (tests .counts)
+
+  edges-own : (all (rising (c .«n_vertices»)) (edges-of c) ≡ true) × (distinct same (edges-of c) ≡ true)
+  unfolding complexOf simplices-right
+  edges-own = and-parts (all (rising (c .«n_vertices»)) (edges-of c)) (distinct same (edges-of c)) (tests .edges)
+
+  pub ends-own : (e : ℕ) → e < c .«n_edges» → (getD (c .edges) (2 * e) 0 < 64) × (getD (c .edges) (2 * e + 1) 0 < 64)
+  ends-own = small-ends c right-own (edges-own .0)
+
+  pub numbers-own : (k : ℕ) → k ≡ length (firsts same (edges-of c)) → k ≡ c .«n_edges»
+  numbers-own k e = eqb-true k (c .«n_edges») (sym (edges-differ c [] right-own k e) ∙ edges-own .1)
 
 -- 5 has its place after 4
 pub with-truncation : (c : SimplicialComplex) (lambda : ℕ) → first (truncated-tests (complexOf c) lambda) ≡ cond (eqb (refusal (complexOf c)) 4) 4 (cond (ltb 1000 lambda) 5 (refusal (complexOf c)))

@@ -85,11 +85,15 @@ module _ (c : SimplicialComplex) (t : ℕ) where
           bc = rw (index .numbers (end s) (getD s 2 0) (omega arith) (omega arith)) (number-is _ _ (fit .third-side) .0);
         }
 
-    pub sides-told : value (sidesIn table (entries (c .triangles) (3 * t) 3) .first ∷ sidesIn table (entries (c .triangles) (3 * t) 3) .second ∷ sidesIn table (entries (c .triangles) (3 * t) 3) .third ∷ []) ≡ sidesOutcome (complexOf c) t
-    unfolding sidesOutcome outcome sidesIn
-    sides-told =
+    pub sides-read : sides (complexOf c) t ≡ sidesIn table (entries (c .triangles) (3 * t) 3) .first ∷ sidesIn table (entries (c .triangles) (3 * t) 3) .second ∷ sidesIn table (entries (c .triangles) (3 * t) 3) .third ∷ []
+    unfolding sidesIn
+    sides-read =
         let s = entries (c .triangles) (3 * t) 3 in
         let w = sided in
         let es = complexOf c .edges in
         rw
-        (goes-on h, lt-leb (c .«n_triangles») t tl, sides-own c t tl, index .numbers (start s) (end s) (w .a-small) (w .b-small), index .numbers (start s) (getD s 2 0) (w .a-small) (w .c-small), index .numbers (end s) (getD s 2 0) (w .b-small) (w .c-small), number-is (start s ∷ end s ∷ []) es (fit .first-side) .1, number-is (start s ∷ getD s 2 0 ∷ []) es (fit .second-side) .1, number-is (end s ∷ getD s 2 0 ∷ []) es (fit .third-side) .1)
+        (sides-own c t tl, index .numbers (start s) (end s) (w .a-small) (w .b-small), index .numbers (start s) (getD s 2 0) (w .a-small) (w .c-small), index .numbers (end s) (getD s 2 0) (w .b-small) (w .c-small), number-is (start s ∷ end s ∷ []) es (fit .first-side) .1, number-is (start s ∷ getD s 2 0 ∷ []) es (fit .second-side) .1, number-is (end s ∷ getD s 2 0 ∷ []) es (fit .third-side) .1)
+
+    pub sides-told : value (sidesIn table (entries (c .triangles) (3 * t) 3) .first ∷ sidesIn table (entries (c .triangles) (3 * t) 3) .second ∷ sidesIn table (entries (c .triangles) (3 * t) 3) .third ∷ []) ≡ sidesOutcome (complexOf c) t
+    unfolding sidesOutcome outcome
+    sides-told = rw (goes-on h, lt-leb (c .«n_triangles») t tl, sides-read)

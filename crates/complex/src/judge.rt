@@ -54,7 +54,7 @@ fn edge_key(edges: &[u8; 126], e: usize) -> usize
 }
 
 // The edges are numbered in the table, which is Rust's edge_index where none is listed twice: the number of different ones.
-fn number_edges(edges: &[u8; 126], m: usize, table: &mut [u16; 4096]) -> usize
+pub fn number_edges(edges: &[u8; 126], m: usize, table: &mut [u16; 4096]) -> usize
     requires { ⌜ (m ≤ 63) × (now table ≡ replicate 4096 0) × ((e : ℕ) → e < m → (getD (now edges) (2 * e) 0 < 64) × (getD (now edges) (2 * e + 1) 0 < 64)) ⌝ }
     ensures { λ r. ⌜ (r ≡ length (firsts same (simplices 2 (now (edges .entry)) m))) × (r ≡ m → Indexed (now (table .exit)) (simplices 2 (now (edges .entry)) m)) ⌝ }
 {

@@ -3,10 +3,13 @@ use crate::SimplicialComplex;
 use crate::judge::byte;
 use crate::judge::edge_number;
 use crate::judge::judge_indexed;
+use crate::judge::number_edges;
 ghost use mathlib.Core.Path.{_≡_};
+ghost use mathlib.Core.List.{[], _∷_};
 ghost use Prim.Native.Nat.{_*_, _<_};
 ghost use Rattle.complex.specs.Complex.{entries, complexOf};
-ghost use Rattle.complex.specs.Sides.{sidesAnswer, sidesOutcome, Sided, sidesIn};
+ghost use Rattle.complex.specs.Judge.{refusal};
+ghost use Rattle.complex.specs.Sides.{sides, sidesAnswer, sidesOutcome, Sided, sidesIn};
 
 // The numbers of the edges (a, b), (a, c) and (b, c) of a triangle (a, b, c).
 pub struct Sides {
@@ -28,6 +31,16 @@ pub fn sides_of(triangles: &[u8; 768], table: &[u16; 4096], t: usize) -> Sides
         second: edge_number(table, a, c) - 1,
         third: edge_number(table, b, c) - 1,
     }
+}
+
+// The edges of a triangle of an accepted record, which is not judged again.
+pub fn triangle_sides(c: SimplicialComplex, triangle: usize) -> Sides
+    requires { ⌜ (refusal (complexOf c) ≡ 0) × (triangle < c .«n_triangles») ⌝ }
+    ensures { λ r. ⌜ sides (complexOf c) triangle ≡ r .first ∷ r .second ∷ r .third ∷ [] ⌝ }
+{
+    let mut table = [0u16; 4096];
+    number_edges(&c.edges, c.n_edges, &mut table);
+    sides_of(&c.triangles, &table, triangle)
 }
 
 pub enum TriEdgeIndices {
