@@ -94,7 +94,7 @@ counts-own c h =
 in-at : (s : Simplex) (l : List Simplex) → listed same s l ≡ true → In s l
 in-at s l h = listed-at same lists-equal [] s l h
 
-at-in : (s : Simplex) (l : List Simplex) → In s l → listed same s l ≡ true
+pub at-in : (s : Simplex) (l : List Simplex) → In s l → listed same s l ≡ true
 at-in s l p = at-listed same lists-equal [] s l (p .0) (p .1) (p .2)
 
 module _ (c : Complex) (two-long : Sized 2 (c .edges)) (three-long : Sized 3 (c .triangles)) where

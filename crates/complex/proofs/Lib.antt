@@ -8,5 +8,6 @@ pub mod Trees
 pub mod Accepting
 pub mod Judging
 pub mod Refusing
+pub mod TriangleEdges
 pub mod SidesFound
 pub mod Flattened

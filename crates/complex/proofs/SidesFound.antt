@@ -7,7 +7,7 @@ use native.Mathlib.Omega.{arith}
 use borrow.Author.Tests.{le-leb, lt-leb}
 use lib.ListN.{getD, length}
 use lib.Dec.{leb}
-use Rattle.mathematics.specs.Lists.{same, listed, place, choose}
+use Rattle.mathematics.specs.Lists.{same, listed, place}
 use Rattle.mathematics.specs.Refusals.{first, value, refused, outcome}
 use Rattle.mathematics.proofs.Refusals.{refused-outcome}
 use Rattle.complex.specs.declared.SimplicialComplex.{SimplicialComplex}
@@ -18,6 +18,7 @@ use Rattle.complex.specs.Sides.{sides, sides-refusal, sidesOutcome, Side
 use Rattle.complex.proofs.Simplices.{simplices-length, simplex-at}
 use Rattle.complex.proofs.Triangles.{Fitting, fits}
 use Rattle.complex.proofs.Accepting.{Counts, counts-own, passed, simplices-sized, triangle-fits}
+use Rattle.complex.proofs.TriangleEdges.{three-sides}
 use Rattle.complex.proofs.Refusing.{refused-first, accepted-next}
 
 -- the number of a listed edge is one more than its place
@@ -38,8 +39,8 @@ fitting-own c h t tl =
 
 -- the three edges of triangle t, each at its place
 sides-own : (c : SimplicialComplex) (t : ℕ) → t < c .«n_triangles» → sides (complexOf c) t ≡ place same (start (entries (c .triangles) (3 * t) 3) ∷ end (entries (c .triangles) (3 * t) 3) ∷ []) (complexOf c .edges) ∷ place same (start (entries (c .triangles) (3 * t) 3) ∷ getD (entries (c .triangles) (3 * t) 3) 2 0 ∷ []) (complexOf c .edges) ∷ place same (end (entries (c .triangles) (3 * t) 3) ∷ getD (entries (c .triangles) (3 * t) 3) 2 0 ∷ []) (complexOf c .edges) ∷ []
-unfolding complexOf sides choose entries
-sides-own c t tl = rw (simplex-at 3 (c .triangles) (c .«n_triangles») t tl)
+unfolding complexOf entries
+sides-own c t tl = three-sides (complexOf c) t _ _ _ (simplex-at 3 (c .triangles) (c .«n_triangles») t tl)
 
 module _ (c : SimplicialComplex) (t : ℕ) where
   -- a record that is refused

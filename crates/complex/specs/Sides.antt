@@ -22,6 +22,25 @@ sidesAnswer (Refused n) = refused n
 unfoldable pub sides : Complex → ℕ → List ℕ
 sides c t = map (λ s. place same s (c .edges)) (choose 2 (getD (c .triangles) t []))
 
+-- triangle t is (x, y, z), its vertices rise, and its edges (x, y), (x, z) and (y, z) have the numbers i, j and k
+pub record TriangleSides (c : Complex) (t : ℕ) : Type 0 where
+  pub x : ℕ
+  pub y : ℕ
+  pub z : ℕ
+  pub i : ℕ
+  pub j : ℕ
+  pub k : ℕ
+  pub triangle : getD (c .triangles) t [] ≡ x ∷ y ∷ z ∷ []
+  pub first-rise : x < y
+  pub second-rise : y < z
+  pub numbers : sides c t ≡ i ∷ j ∷ k ∷ []
+  pub i-below : i < length (c .edges)
+  pub j-below : j < length (c .edges)
+  pub k-below : k < length (c .edges)
+  pub xy : getD (c .edges) i [] ≡ x ∷ y ∷ []
+  pub xz : getD (c .edges) j [] ≡ x ∷ z ∷ []
+  pub yz : getD (c .edges) k [] ≡ y ∷ z ∷ []
+
 -- 4, 7 to 9, then 13 for a number that is no triangle's
 unfoldable pub sides-refusal : Complex → ℕ → ℕ
 sides-refusal c t = first ((counts-test c ∷ shape-tests c) ++ ((13, leb (length (c .triangles)) t) ∷ []))
