@@ -42,6 +42,29 @@ flow-zero e v = go (eqb (end e) v) (eqb (start e) v)
     go false true = refl
     go false false = refl
 
+pick-sum : (b : Bool) (x y : ℤ) → cond b (x +ℤ y) (pos 0) ≡ cond b x (pos 0) +ℤ cond b y (pos 0)
+pick-sum true x y = refl
+pick-sum false x y = refl
+
+pub flow-sum : (e : Simplex) (x y : ℤ) (v : ℕ) → flow e (x +ℤ y) v ≡ flow e x v +ℤ flow e y v
+unfolding flow
+flow-sum e x y v =
+    let A = cond (eqb (end e) v) x (pos 0) in
+    let B = cond (eqb (start e) v) x (pos 0) in
+    let C = cond (eqb (end e) v) y (pos 0) in
+    let D = cond (eqb (start e) v) y (pos 0) in
+    rw (pick-sum (eqb (end e) v) x y, pick-sum (eqb (start e) v) x y)
+    (linear (the A ⊞ the C ⊟ (the B ⊞ the D)) (the A ⊟ the B ⊞ (the C ⊟ the D)) (omega arith))
+
+-- the same value on two edges in a row is that value on the edge past both
+pub flow-past : (a b c : ℕ) (x : ℤ) (v : ℕ) → flow (a ∷ b ∷ []) x v +ℤ flow (b ∷ c ∷ []) x v ≡ flow (a ∷ c ∷ []) x v
+unfolding flow
+flow-past a b c x v =
+    let A = cond (eqb a v) x (pos 0) in
+    let B = cond (eqb b v) x (pos 0) in
+    let C = cond (eqb c v) x (pos 0) in
+    linear (the B ⊟ the A ⊞ (the C ⊟ the B)) (the C ⊟ the A) (omega arith)
+
 pub flow-misses : (e : Simplex) (x : ℤ) (v : ℕ) → Misses e v → flow e x v ≡ pos 0
 unfolding flow
 flow-misses e x v h = rw (pick-elsewhere (end e) v x (h .1), pick-elsewhere (start e) v x (h .0))

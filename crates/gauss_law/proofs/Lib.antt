@@ -12,3 +12,4 @@ pub mod TreeTold
 pub mod Summed
 pub mod Findings
 pub mod LawTold
+pub mod Shifts
