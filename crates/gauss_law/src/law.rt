@@ -12,13 +12,13 @@ ghost use Rattle.complex.specs.Search.{Ends};
 ghost use Rattle.complex.specs.Judge.{refusal};
 ghost use Rattle.gauss_law.specs.Law.{added, Addable, Summed, noticed, lowest, finding, lawAnswer, lawOutcome};
 
-fn wide(x: i32) -> i64
+pub fn wide(x: i32) -> i64
     ensures { λ r. ⌜ r ≡ x ⌝ }
 {
     x as i64
 }
 
-fn plus(sum: i64, x: i32) -> i64
+pub fn plus(sum: i64, x: i32) -> i64
     requires { ⌜ natAbs sum ≤ 2 ^ 62 ⌝ }
     ensures { λ r. ⌜ r ≡ sum +ℤ x ⌝ }
 {

@@ -5,8 +5,8 @@ use mathlib.Core.Path.{_≡_, refl, sym, ap, _∙_}
 use mathlib.Core.Bool.{Bool, _&&_}
 use native.Mathlib.Nat.{not-suc-le-zero}
 use native.Mathlib.Omega.{arith}
-use lib.ListN.{length, getD, length-append, List·getD-append}
-use lib.Seq.{getD-append-add}
+use lib.ListN.{length, getD, take, drop, length-append, List·getD-append}
+use lib.Seq.{getD-append-add, take-at, drop-append-add}
 use Rattle.mathematics.specs.Tests.{all}
 use Rattle.mathematics.specs.Counting.{keep}
 use Rattle.mathematics.proofs.Tests.{all-append}
@@ -79,3 +79,16 @@ module _ {A : Type 0} (k : ℕ) where
       let z : k * suc i + j ≡ length x + (k * i + j) = omega arith in
       rw (z, append-assoc x (flatten l) rest, getD-append-add x (flatten l ++ rest) (k * i + j) d)
       (flatten-at d l rest (λ h hl. long (suc h) (omega arith)) i j (omega arith) jl)
+
+  -- list i
+  pub flatten-row : (l : List (List A)) (rest : List A) → ((i : ℕ) → i < length l → length (getD l i []) ≡ k) → (i : ℕ) → i < length l → take k (drop (i * k) (flatten l ++ rest)) ≡ getD l i []
+  unfolding flatten
+  flatten-row [] rest long i il = absurd (not-suc-le-zero il)
+  flatten-row (x ∷ l) rest long zero il =
+      let z : 0 * k ≡ 0 = omega arith in
+      rw (z, append-assoc x (flatten l) rest) (take-at x (flatten l ++ rest) k (long 0 (omega arith)))
+  flatten-row (x ∷ l) rest long (suc i) il =
+      let e : length x ≡ k = long 0 (omega arith) in
+      let z : suc i * k ≡ length x + i * k = omega arith in
+      rw (z, append-assoc x (flatten l) rest, drop-append-add x (flatten l ++ rest) (i * k))
+      (flatten-row l rest (λ h hl. long (suc h) (omega arith)) i (omega arith))

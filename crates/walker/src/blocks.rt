@@ -44,7 +44,7 @@ fn excess(a: i32, b: i32) -> usize
     0
 }
 
-fn within(x: i32, lambda: usize) -> bool
+pub fn within(x: i32, lambda: usize) -> bool
     requires { ⌜ lambda ≤ 1000 ⌝ }
     ensures { λ r. ⌜ r ≡ leb (natAbs x) lambda ⌝ }
 {

@@ -1,0 +1,68 @@
+-- What config_to_index tells, by the test that decides it.
+use Prim.Native.Nat.{ℕ}
+use mathlib.Core.List.{List, [], _∷_}
+use mathlib.Core.Bool.{Bool, true, false, not, cond}
+use mathlib.Core.Path.{_≡_, refl, sym, ap, _∙_}
+use native.Mathlib.Omega.{arith}
+use borrow.Author.Tests.{eq-eqb, ne-eqb}
+use lib.Dec.{eqb}
+use lib.IntN.{ℤ}
+use lib.ListN.{length}
+use Rattle.mathematics.specs.Refusals.{first, value, refused, outcome, written}
+use Rattle.mathematics.proofs.Refusals.{refused-outcome, refused-kept}
+use Rattle.complex.specs.Complex.{Complex}
+use Rattle.complex.specs.Judge.{Accepted}
+use Rattle.walker.specs.Enumeration.{basis-tests, short, basis-first}
+use Rattle.walker.proofs.Enumerating.{basis-stops, basis-goes-on}
+use Rattle.hilbert.specs.declared.index.Index.{Index}
+use Rattle.hilbert.specs.declared.index.Index.the-variants.{Place, NotInBasis, Refused}
+use Rattle.hilbert.specs.Basis.{in-basis, place}
+use Rattle.hilbert.specs.Search.{FoundIn}
+use Rattle.hilbert.specs.Index.{indexAnswer, length-test, index-refusal, Indexed}
+use Rattle.hilbert.proofs.Order.{in-basis-at}
+
+module _ (c : Complex) (L : ℕ) (s old : List ℤ) where
+  -- a refusal leaves the list
+  refused-indexed : (k : ℕ) → index-refusal c L s (length old) ≡ k → (k ≡ 0 → ⊥) → (r : Index) → indexAnswer r ≡ refused k → Indexed c L s old old r
+  refused-indexed k e some r h =
+      record {
+        answer = rw e (h ∙ refused-outcome k _ some);
+        list = rw e (refused-kept k _ old some);
+        found = λ z. absurd (some (sym e ∙ z));
+      }
+
+  rest : List (ℕ × Bool)
+  rest = length-test c s ∷ (15, short c L (length old)) ∷ (17, not (in-basis c L s)) ∷ []
+
+  pub basis-refused : (k : ℕ) → k ≡ first (basis-tests c L) → (k ≡ 0 → ⊥) → Indexed c L s old old (Refused k)
+  unfolding index-refusal indexAnswer rest
+  basis-refused k e some = refused-indexed k (basis-stops c L rest k e some) some (Refused k) refl
+
+  module _ (none : first (basis-tests c L) ≡ 0) where
+    by-tests : index-refusal c L s (length old) ≡ cond (not (eqb (length s) (length (c .edges)))) 12 (cond (short c L (length old)) 15 (cond (not (in-basis c L s)) 17 0))
+    unfolding index-refusal first rest
+    by-tests = basis-goes-on c L rest none
+
+    pub length-refused : (length s ≡ length (c .edges) → ⊥) → Indexed c L s old old (Refused 12)
+    unfolding indexAnswer
+    length-refused h = refused-indexed 12 (by-tests ∙ rw (ne-eqb (length s) (length (c .edges)) h)) (λ z. omega arith) (Refused 12) refl
+
+    module _ (sized : length s ≡ length (c .edges)) where
+      pub room-refused : short c L (length old) ≡ true → Indexed c L s old old (Refused 15)
+      unfolding indexAnswer
+      room-refused h = refused-indexed 15 (by-tests ∙ rw (eq-eqb (length s) (length (c .edges)) sized, h)) (λ z. omega arith) (Refused 15) refl
+
+      module _ (room : short c L (length old) ≡ false) where
+        pub unlisted : in-basis c L s ≡ false → Indexed c L s old old NotInBasis
+        unfolding indexAnswer
+        unlisted h = refused-indexed 17 (by-tests ∙ rw (eq-eqb (length s) (length (c .edges)) sized, room, h)) (λ z. omega arith) NotInBasis refl
+
+        pub indexed : Accepted c → in-basis c L s ≡ true → (new : List ℤ) (r : ℕ) → FoundIn c L s old new r → Indexed c L s old new (Place r)
+        unfolding indexAnswer outcome written
+        indexed accepted h new r found =
+            let none-left : index-refusal c L s (length old) ≡ 0 = by-tests ∙ rw (eq-eqb (length s) (length (c .edges)) sized, room, h) in
+            record {
+              answer = rw none-left (ap value (found .found (sized, h)));
+              list = rw none-left (found .list);
+              found = λ z. in-basis-at c accepted L s sized h;
+            }

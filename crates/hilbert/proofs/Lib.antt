@@ -1,0 +1,5 @@
+pub mod Searching
+pub mod Order
+pub mod Found
+pub mod Indexing
+pub mod Shifting

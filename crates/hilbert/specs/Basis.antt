@@ -1,0 +1,45 @@
+-- Which configurations are in the basis, and at which place.
+use Prim.Native.Nat.{ℕ, zero, suc, _<_}
+use mathlib.Core.List.{List, []}
+use mathlib.Core.Bool.{Bool, true, false, _&&_, cond}
+use mathlib.Core.Path.{_≡_}
+use lib.Dec.{leb}
+use lib.IntN.{ℤ, pos, natAbs}
+use lib.Signed.{ltZ}
+use lib.ListN.{getD, length}
+use Rattle.mathematics.specs.Tests.{all}
+use Rattle.mathematics.specs.Counting.{keep}
+use Rattle.complex.specs.Complex.{Complex}
+use Rattle.gauss_law.specs.Gauss.{lawful}
+use Rattle.gauss_law.specs.Listing.{free-edges}
+use Rattle.walker.specs.Enumeration.{states}
+
+-- a value within -L to L
+unfoldable pub within : ℕ → ℤ → Bool
+within L x = leb (natAbs x) L
+
+-- a configuration of all edges is in the basis: every value within -L to L, and every Gauss sum zero
+unfoldable pub in-basis : Complex → ℕ → List ℤ → Bool
+in-basis c L s = all (within L) s && lawful c (λ v. pos 0) s
+
+-- x or y is the smaller; where they are equal, it is decided already
+unfoldable pub decided : Bool → ℤ → ℤ → Bool
+decided b x y = cond (ltZ x y) true (cond (ltZ y x) false b)
+
+-- s has the smaller value on the last of the first n free edges where s and t differ
+unfoldable pub smaller : List ℕ → List ℤ → List ℤ → ℕ → Bool
+smaller free s t zero = false
+smaller free s t (suc n) = decided (smaller free s t n) (getD s (getD free n 0) (pos 0)) (getD t (getD free n 0) (pos 0))
+
+-- s comes before t in the order of the basis
+unfoldable pub comes-before : Complex → List ℤ → List ℤ → Bool
+comes-before c s t = smaller (free-edges c) s t (length (free-edges c))
+
+-- the place of a configuration: the number of listed states before it
+unfoldable pub place : Complex → ℕ → List ℤ → ℕ
+place c L s = length (keep (λ t. comes-before c t s) (states c L))
+
+-- the state at place p is s
+pub record At (c : Complex) (L : ℕ) (s : List ℤ) (p : ℕ) : Type 0 where
+  pub below : p < length (states c L)
+  pub state : getD (states c L) p [] ≡ s

@@ -1,0 +1,4 @@
+pub mod Basis
+pub mod Search
+pub mod Index
+pub mod Shift

@@ -1,0 +1,36 @@
+-- What apply_shift tells, and what its lists then hold.
+use Prim.Native.Nat.{ℕ}
+use mathlib.Core.List.{List, [], _∷_, _++_}
+use mathlib.Core.Bool.{Bool, not, _||_}
+use mathlib.Core.Path.{_≡_}
+use lib.Dec.{leb, ltb}
+use lib.IntN.{ℤ}
+use lib.ListN.{length, drop}
+use Rattle.mathematics.specs.Refusals.{first, outcome, written}
+use Rattle.complex.specs.Complex.{Complex}
+use Rattle.gauss_law.specs.Shifts.{raised, shifted}
+use Rattle.walker.specs.Enumeration.{basis-tests, short, basis-first}
+use Rattle.hilbert.specs.declared.index.Index.{Index}
+use Rattle.hilbert.specs.Basis.{within, in-basis, place, At}
+use Rattle.hilbert.specs.Index.{indexAnswer, length-test}
+
+-- 4, 5, 7 to 10, then 12, 13 for a number that is no edge's, 15 for a list that has too few entries for the basis or for the configuration,
+-- 16 where the edge's value leaves -L to L, and 17
+unfoldable pub shift-refusal : Complex → ℕ → List ℤ → ℕ → ℤ → ℕ → ℕ → ℕ
+shift-refusal c L s e delta work-room result-room =
+    first (
+    basis-tests c L
+    ++ (length-test c s
+    ∷ (13, leb (length (c .edges)) e)
+    ∷ (15, short c L work-room || ltb result-room (length (c .edges)))
+    ∷ (16, not (within L (raised s e delta)))
+    ∷ (17, not (in-basis c L (shifted s e delta)))
+    ∷ [])
+    )
+
+-- the place of the shifted configuration is told, and the two lists begin with the basis and with the shifted configuration
+pub record Shifted (c : Complex) (L : ℕ) (s : List ℤ) (e : ℕ) (delta : ℤ) (work result : List ℤ) (r : Index) (work′ result′ : List ℤ) : Type 0 where
+  pub answer : indexAnswer r ≡ outcome (shift-refusal c L s e delta (length work) (length result)) (place c L (shifted s e delta))
+  pub work-list : work′ ≡ written (shift-refusal c L s e delta (length work) (length result)) (basis-first c L work) work
+  pub result-list : result′ ≡ written (shift-refusal c L s e delta (length work) (length result)) (shifted s e delta ++ drop (length (c .edges)) result) result
+  pub found : shift-refusal c L s e delta (length work) (length result) ≡ 0 → At c L (shifted s e delta) (place c L (shifted s e delta))

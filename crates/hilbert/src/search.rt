@@ -1,0 +1,51 @@
+// The place of a configuration in the list of the basis.
+use complex::judge::byte;
+ghost use mathlib.Core.Path.{_≡_};
+ghost use Prim.Native.Nat.{ℕ, _≤_};
+ghost use lib.ListN.{length};
+ghost use Rattle.walker.specs.Steps.{FreeFit};
+ghost use Rattle.hilbert.specs.Basis.{decided, smaller};
+ghost use Rattle.hilbert.specs.Search.{Rows, Ranked};
+
+// The smaller of two values decides; where they are equal, it is decided already.
+fn decide(before: bool, x: i32, y: i32) -> bool
+    ensures { λ r. ⌜ r ≡ decided before x y ⌝ }
+{
+    if x < y {
+        return true;
+    }
+    before & (x <= y)
+}
+
+// Whether a row has the smaller value on the last free edge where it differs from a configuration.
+fn row_before(row: &[i32], config: &[i32], free: &[u8; 63], n_free: usize) -> bool
+    requires { ⌜ (length (now row) ≡ length (now config)) × (length (now config) ≤ 63) × («n_free» ≤ 63) × FreeFit (length (now config)) «n_free» (now free) ⌝ }
+    ensures { λ r. ⌜ r ≡ smaller (now (free .entry)) (now (row .entry)) (now (config .entry)) «n_free» ⌝ }
+{
+    let mut before = false;
+    for j in 0..n_free {
+        let e = byte(free[j]);
+        before = decide(before, row[e], config[e]);
+    }
+    before
+}
+
+// How many of the first n rows come before a configuration, where they are in order: by halving.
+pub fn find_place(states: &[i32], n: usize, config: &[i32], free: &[u8; 63], n_free: usize) -> usize
+    requires { ⌜ Rows (now states) n (now config) (now free) «n_free» ⌝ }
+    ensures { λ r. ⌜ ((p : ℕ) → Ranked (now (states .entry)) n (now (config .entry)) (now (free .entry)) «n_free» p → r ≡ p) ⌝ }
+{
+    let m = config.len();
+    let mut low = 0;
+    let mut high = n;
+    while low < high {
+        let middle = low + (high - low) / 2;
+        let at = middle * m;
+        if row_before(&states[at..at + m], config, free, n_free) {
+            low = middle + 1;
+        } else {
+            high = middle;
+        }
+    }
+    low
+}
