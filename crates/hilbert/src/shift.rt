@@ -10,7 +10,7 @@ use walker::enumerate::too_short;
 use walker::steps::signed;
 ghost use mathlib.Core.Path.{_≡_};
 ghost use mathlib.Core.List.{_++_};
-ghost use Prim.Native.Nat.{_<_, _≤_};
+ghost use Prim.Native.Nat.{_^_, _<_, _≤_};
 ghost use lib.IntN.{pos, natAbs, _+ℤ_};
 ghost use lib.ListN.{length, set, drop, replicate};
 ghost use Rattle.complex.specs.Complex.{complexOf};
@@ -49,8 +49,8 @@ fn shifted_row(configuration: &[i32], edge: usize, value: i32) -> [i32; 63]
 }
 
 // A small sum of two values.
-fn sum(x: i32, delta: i32) -> i32
-    requires { ⌜ natAbs (x +ℤ delta) ≤ 1000 ⌝ }
+pub fn sum(x: i32, delta: i32) -> i32
+    requires { ⌜ natAbs (x +ℤ delta) ≤ 2 ^ 20 ⌝ }
     ensures { λ r. ⌜ r ≡ x +ℤ delta ⌝ }
 {
     x + delta

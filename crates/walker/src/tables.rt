@@ -74,7 +74,7 @@ pub fn write_states(w: Walker, lambda: usize, blocks: usize, states: &mut [i32])
 // The state with a number stands in the first n_edges entries.
 pub fn state_at(w: Walker, lambda: usize, blocks: usize, place: usize) -> [i32; 63]
     requires { ⌜ Fit w lambda blocks × (place < length (states-of w lambda blocks)) ⌝ }
-    ensures { λ r. ⌜ take (w .«n_edges») r ≡ getD (states-of w lambda blocks) place [] ⌝ }
+    ensures { λ r. ⌜ (length r ≡ 63) × (take (w .«n_edges») r ≡ getD (states-of w lambda blocks) place []) ⌝ }
 {
     let free = w.free;
     let n_free = w.n_free;

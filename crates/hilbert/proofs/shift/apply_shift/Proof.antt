@@ -1,5 +1,4 @@
 use Prim.Native.Nat.{_-_, _<_, _≤_}
-use native.Mathlib.Nat.{le-trans}
 use mathlib.Core.Bool.{true, false, _||_}
 use mathlib.Core.List.{_++_}
 use mathlib.Core.Path.{_≡_, sym, ap, _∙_}
@@ -124,8 +123,8 @@ sum-requires c κs =
     let fits = c .before .before in
     let start = at-start (fits .before .before .before) in
     let truncation = basis (fits .before .before .before .before .before .before .before) .truncation in
-    let small = leb-true _ _ (band-told fits ∙ not-false _ (c .before .if5 .left)) in
-    rw (back32 (getD (start .args .configuration .now) (start .args .edge) (pos 0)) (c .sum-arg .given), back32 (start .args .delta) (start .fits .delta .sfits)) (le-trans small truncation)
+    let small : natAbs (_+ℤ_ (getD (start .args .configuration .now) (start .args .edge) (pos 0)) (start .args .delta)) ≤ start .args .lambda = leb-true _ _ (band-told fits ∙ not-false _ (c .before .if5 .left)) in
+    rw (back32 (getD (start .args .configuration .now) (start .args .edge) (pos 0)) (c .sum-arg .given), back32 (start .args .delta) (start .fits .delta .sfits)) (omega (arith, small, truncation))
 
 shifted-row-requires : tie.Need-shifted-row-requires
 shifted-row-requires c κs =

@@ -1,11 +1,20 @@
+use Prim.Native.Nat.{ℕ, _-_, _≤_}
+use native.Mathlib.Nat.{sub-zero}
+use native.Mathlib.Omega.{arith}
+use mathlib.Core.List.{List, _++_}
 use mathlib.Core.Path.{_≡_, ap, _∙_}
-use lib.ListN.{length}
+use lib.IntN.{ℤ, pos}
+use lib.ListN.{length, drop, replicate, length-append, length-drop}
 use lib.Seq.{take-at}
 use Rattle.walker.specs.Tables.{states-of, begin-of}
 use Rattle.walker.proofs.Fitting.{begin-ready, begin-made}
 use borrow.Author.Needs.{needs}
 use Rattle.walker.proofs.tables.state_at.Statement.{statement}
 use Rattle.walker.proofs.tables.state_at.Tie as tie
+
+-- a state and the zeros after it
+row-long : (s : List ℤ) (m : ℕ) → length s ≡ m → m ≤ 63 → length (s ++ drop (m - 0) (replicate 63 (pos 0))) ≡ 63
+row-long s m e h = rw (sub-zero m, length-append s (drop m (replicate 63 (pos 0))), length-drop m (replicate 63 (pos 0)), e) (omega arith)
 
 begun : (c : tie.After-begin) → c .begin .last .0 ≡ begin-of (c .before .before .before .before .before .before .before .args .t1) (c .before .before .before .before .before .before .before .args .lambda)
 begun c =
@@ -39,7 +48,7 @@ returns c =
     let made = c .before .before .before .before .before .before .before in
     let start = made .before .before .before .before .before .before .before in
     let long = c .before .find-state .kept .0 ∙ ap length (begun made) ∙ start .pre .0 .sized in
-    take-at (c .before .find-state .last .0) _ (start .args .t1 .«n_edges») long ∙ (rw (begun made, start .pre .0 .sized) at (c .before .find-state .ensures))
+    (row-long (c .before .find-state .last .0) (start .args .t1 .«n_edges») long (start .pre .0 .edges), take-at (c .before .find-state .last .0) _ (start .args .t1 .«n_edges») long ∙ (rw (begun made, start .pre .0 .sized) at (c .before .find-state .ensures)))
 
 pub state-at-spec : {M : Type 1} → statement M
 state-at-spec =

@@ -1,0 +1,3 @@
+pub mod TriangleRows
+pub mod TriangleTelling
+pub mod Demands

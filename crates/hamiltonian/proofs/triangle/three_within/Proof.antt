@@ -1,0 +1,64 @@
+use mathlib.Core.Path.{_≡_, _∙_}
+use lib.IntN.{pos}
+use lib.ListN.{getD}
+use Rattle.mathematics.proofs.Signed.{back32}
+use Rattle.hilbert.specs.Basis.{within}
+use borrow.Author.Needs.{needs}
+use Rattle.hamiltonian.proofs.triangle.three_within.Statement.{statement}
+use Rattle.hamiltonian.proofs.triangle.three_within.Tie as tie
+
+mul-within : tie.Need-mul-within
+mul-within c = search needs
+
+array-copy-out-within : tie.Need-array-copy-out-within
+array-copy-out-within c = search needs
+
+within-requires : tie.Need-within-requires
+within-requires c κs = search needs
+
+mul-within-2 : tie.Need-mul-within-2
+mul-within-2 c = search needs
+
+array-copy-out-within-2 : tie.Need-array-copy-out-within-2
+array-copy-out-within-2 c = search needs
+
+within-requires-2 : tie.Need-within-requires-2
+within-requires-2 c κs = search needs
+
+mul-within-3 : tie.Need-mul-within-3
+mul-within-3 c = search needs
+
+array-copy-out-within-3 : tie.Need-array-copy-out-within-3
+array-copy-out-within-3 c = search needs
+
+within-requires-3 : tie.Need-within-requires-3
+within-requires-3 c κs = search needs
+
+returns : tie.Need-returns
+unfolding within
+returns c =
+    let second = c .before .before in
+    let first = second .before .before in
+    rw (
+      first .within .ensures,
+      second .within2 .ensures,
+      c .within3 .ensures,
+      back32 _ (first .before .within-arg .given),
+      back32 _ (second .before .within-arg2 .given),
+      back32 _ (c .before .within-arg3 .given),
+    )
+
+pub three-within-spec : {M : Type 1} → statement M
+three-within-spec =
+    tie.close
+    (tie.spec
+    mul-within
+    array-copy-out-within
+    within-requires
+    mul-within-2
+    array-copy-out-within-2
+    within-requires-2
+    mul-within-3
+    array-copy-out-within-3
+    within-requires-3
+    returns)

@@ -1,0 +1,55 @@
+-- Demand 3, both halves: the list of states is complete, and a triangle's shift is refused exactly when it leaves the band.
+use Prim.Native.Nat.{ℕ, _+_, _*_, _^_, _≤_, _<_}
+use mathlib.Core.List.{List, [], _++_, flatten}
+use mathlib.Core.Path.{_≡_}
+use lib.IntN.{ℤ, pos, natAbs}
+use lib.ListN.{getD, length, drop}
+use Rattle.mathematics.specs.Refusals.{value, refused}
+use Rattle.complex.specs.declared.SimplicialComplex.{SimplicialComplex}
+use Rattle.complex.specs.Complex.{Complex, complexOf}
+use Rattle.complex.specs.Judge.{Accepted}
+use Rattle.gauss_law.specs.Listing.{free-edges, Complete}
+use Rattle.gauss_law.specs.Shifts.{side, TriangleShifted}
+use Rattle.walker.specs.declared.enumerate.Enumerated.{Enumerated}
+use Rattle.walker.specs.Enumeration.{enumeratedAnswer, Listed}
+use Rattle.hamiltonian.specs.declared.triangle.TriangleShift.{TriangleShift}
+use Rattle.hamiltonian.specs.Triangle.{triangleAnswer, TriangleTold}
+
+-- one of the three edges of triangle t has left -L to L
+pub record Leaves (c : Complex) (L t : ℕ) (s : List ℤ) : Type 0 where
+  pub edge : ℕ
+  pub one-of-three : edge < 3
+  pub out : L < natAbs (getD s (side c t edge) (pos 0))
+
+-- The listing, for any list that is long enough for the states ss: their number is told, the list begins with them, state after state,
+-- and keeps what stood after them.
+abbrev pub Lists : Complex → ℕ → List (List ℤ) → Type 0
+Lists c L ss =
+    (old new : List ℤ) (r : Enumerated) → Listed c L old new r → length ss * length (c .edges) ≤ length old
+    → (enumeratedAnswer r ≡ value (length ss)) × (new ≡ flatten ss ++ drop (length ss * length (c .edges)) old)
+
+-- The shift of triangle t on the state at place k, for any list that is long enough: s is that state after the shift; the call is refused
+-- with 16 exactly when one of the three edges has left -L to L, and otherwise answers the place of s.
+pub record ShiftTold (c : Complex) (L : ℕ) (ss : List (List ℤ)) (t k : ℕ) (r : TriangleShift) : Type 0 where
+  pub s : List ℤ
+  pub shifted : TriangleShifted c t (getD ss k []) s
+  pub refused-only : triangleAnswer r ≡ refused 16 → Leaves c L t s
+  pub refused-then : Leaves c L t s → triangleAnswer r ≡ refused 16
+  pub placed : (Leaves c L t s → ⊥) → (p : ℕ) × (triangleAnswer r ≡ value p) × (p < length ss) × (getD ss p [] ≡ s)
+
+-- that for every triangle and every place below the number of states
+abbrev pub Shifts : Complex → ℕ → List (List ℤ) → Type 0
+Shifts c L ss =
+    (t k : ℕ) → t < length (c .triangles) → k < length ss → (old new : List ℤ) (r : TriangleShift) → TriangleTold c L t k old new r
+    → length ss * length (c .edges) ≤ length old → ShiftTold c L ss t k r
+
+-- there is the list of all states, and both calls go by it
+pub record Demand (c : Complex) (L : ℕ) : Type 0 where
+  pub states : List (List ℤ)
+  pub complete : Complete c (λ v. pos 0) L states
+  pub lists : Lists c L states
+  pub shifts : Shifts c L states
+
+-- for every accepted complex and truncation with the candidates within the limit
+abbrev pub Demand3 : Type 0
+Demand3 = (c : SimplicialComplex) (L : ℕ) → Accepted (complexOf c) → L ≤ 1000 → (2 * L + 1) ^ length (free-edges (complexOf c)) ≤ 1048576 → Demand (complexOf c) L

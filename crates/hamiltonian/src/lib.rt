@@ -1,0 +1,3 @@
+// The Kogut-Susskind Hamiltonian: the shift of a triangle.
+
+pub mod triangle;
