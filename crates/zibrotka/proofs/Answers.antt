@@ -1,25 +1,21 @@
 -- What the exported functions tell, from what the entries answer.
-use Prim.Native.Nat.{ℕ, zero, suc, _+_, _*_, _<_, _≤_, _^_}
-use mathlib.Core.List.{List, [], _∷_, _++_}
+use Prim.Native.Nat.{ℕ, _<_, _^_}
+use mathlib.Core.List.{List, [], _∷_}
 use mathlib.Core.Path.{_≡_, refl, sym, ap, _∙_}
-use mathlib.Core.Bool.{Bool, not, _||_, cond}
+use mathlib.Core.Bool.{cond}
 use native.Mathlib.Omega.{arith}
 use lib.IntN.{ℤ, pos, negℤ}
 use lib.ListN.{length}
-use lib.Dec.{eqb, ltb, leb}
-use Rattle.mathematics.specs.Refusals.{first, Outcome, value, refused, outcome, written}
+use Rattle.mathematics.specs.Refusals.{outcome, written}
 use Rattle.complex.specs.declared.triangle.TriEdgeIndices.{TriEdgeIndices as Indexes}
 use Rattle.complex.specs.declared.triangle.TriEdgeIndices.the-variants.{Indices, Refused as NoTriangle}
-use Rattle.complex.specs.Complex.{Complex, complexOf}
+use Rattle.complex.specs.Complex.{complexOf}
 use Rattle.complex.specs.Sides.{sidesAnswer, sides, sides-refusal, sidesOutcome}
-use Rattle.complex.proofs.Accepting.{counts, passed, accepted}
+use Rattle.complex.proofs.Accepting.{counts, passed}
 use Rattle.sheet.specs.declared.Sheet.{Sheet}
 use Rattle.sheet.specs.Sheet.{sheetIn, reading-refusal, sheetBytes, writtenAnswer}
 use Rattle.sheet.specs.declared.Written.{Written}
 use Rattle.sheet.specs.Making.{flatComplex, making-refusal, Made}
-use Rattle.sheet.proofs.Sheets.{shape-decides}
-use Rattle.sheet.proofs.RoundTrips.{header-none}
-use Rattle.complex.specs.Judge.{Accepted}
 use Rattle.gauss_law.proofs.Accepted.{free-count}
 use Rattle.sheet.proofs.Makings.{made-small}
 use Rattle.pentachora.specs.declared.FromPentachorons.{FromPentachorons}
@@ -30,17 +26,18 @@ use Rattle.pentachora.proofs.Making.{from-accepted}
 use Rattle.gauss_law.specs.declared.spanning.SpanningTreeAnswer.{SpanningTreeAnswer}
 use Rattle.gauss_law.specs.declared.law.GaussCheck.{GaussCheck}
 use Rattle.gauss_law.specs.Gauss.{lawful}
-use Rattle.gauss_law.specs.Listing.{tree-edges, free-edges}
+use Rattle.gauss_law.specs.Listing.{free-edges}
 use Rattle.gauss_law.specs.Spanning.{treeAnswer, tree-refusal, TreeTold}
 use Rattle.gauss_law.specs.Law.{lawAnswer, law-refusal, lawOutcome}
 use Rattle.walker.specs.declared.enumerate.Enumerated.{Enumerated}
-use Rattle.walker.specs.Enumeration.{states, limit-test, short, enumeratedAnswer, enumerated-refusal, Listed as AllListed}
+use Rattle.walker.specs.Enumeration.{enumeratedAnswer, Listed as AllListed}
 use Rattle.zibrotka.specs.declared.Told.{Told}
+use Rattle.zibrotka.specs.declared.Opened.{Opened}
 use Rattle.zibrotka.specs.declared.Edges.{Edges}
 use Rattle.zibrotka.specs.declared.Numbers.{Numbers}
-use Rattle.zibrotka.specs.Exports.{signed, toldOf, signedOf, yesOf, on-sheet, edgesOf, numbersOf, ReadSheet, triangle-refusal, EdgeIndices, Pentachora, tree-room, SpanningTree, GaussLaw, states-refusal, States}
-use Rattle.zibrotka.proofs.Signs.{refused-number, refused-some, value-none, signed-told, small-told, yes-outcome, yes-small, refused-signed, refused-kept}
-use Rattle.zibrotka.proofs.OnSheets.{sheet-stops, sheet-goes-on, truncated-goes-on}
+use Rattle.zibrotka.specs.Exports.{signed, toldOf, signedOf, yesOf, OpenedOf, edgesOf, numbersOf, ReadSheet, complexIn, after-sheet, EdgeIndices, Pentachora, SpanningTree, GaussLaw, States}
+use Rattle.zibrotka.proofs.Signs.{refused-number, refused-some, value-none, small-told, yes-outcome, yes-small, refused-signed, refused-kept}
+use Rattle.zibrotka.proofs.OnSheets.{stopped, stopped-told, stopped-kept, sheet-held, sheet-accepted, sheet-goes-on, call-told}
 
 -- ---- making
 pub made-few : (n : ℕ) (edges triangles : List ℕ) (lambda : ℕ) (before : List ℕ) (w : Written) (after : List ℕ) → Made n edges triangles lambda before w after → (t : Told) → t ≡ toldOf (writtenAnswer w) → t .value < 2 ^ 31
@@ -75,48 +72,37 @@ accepted-read b v e t l es ts h s is =
     }
 
 -- ---- a triangle's edges
-module _ (b : List ℕ) (t : ℕ) (before : List ℕ) where
-  number-told : (k : ℕ) → triangle-refusal b t ≡ k → (k ≡ 0 → ⊥) → (r : ℤ) → r ≡ negℤ (pos k) → EdgeIndices b t before r before
-  number-told k h some r is =
-      record {
-        answer = refused-signed (triangle-refusal b t) k 0 r h some is;
-        indices = refused-kept (triangle-refusal b t) k (sides (complexOf (sheetIn b .complex)) t) before h some;
-      }
+edges-number : (a : Indexes) (n : ℕ) (l : List ℕ) → sidesAnswer a ≡ outcome n l → edgesOf a .refusal ≡ n
+unfolding sidesAnswer edgesOf
+edges-number (Indices i j k) n l e = sym (value-none (i ∷ j ∷ k ∷ []) n l e .0)
+edges-number (NoTriangle m) n l e = refused-number m n l e
 
-  pub sheet-refused : (k : ℕ) → k ≡ reading-refusal b → (k ≡ 0 → ⊥) → (r : ℤ) → r ≡ negℤ (pos k) → EdgeIndices b t before r before
-  unfolding triangle-refusal
-  sheet-refused k h some r is =
-      number-told k (sheet-stops b ((13, leb (length (complexOf (sheetIn b .complex) .triangles)) t) ∷ []) k h some) some r is
+edges-list : (a : Indexes) (n : ℕ) (l : List ℕ) → sidesAnswer a ≡ outcome n l → edgesOf a .refusal ≡ 0 → edgesOf a .first ∷ edgesOf a .second ∷ edgesOf a .third ∷ [] ≡ l
+unfolding sidesAnswer edgesOf
+edges-list (Indices i j k) n l e none = value-none (i ∷ j ∷ k ∷ []) n l e .1
+edges-list (NoTriangle m) n l e none = absurd (refused-some m n l e none)
 
-  same-refusal : reading-refusal b ≡ 0 → sides-refusal (complexOf (sheetIn b .complex)) t ≡ triangle-refusal b t
-  unfolding sides-refusal triangle-refusal
-  same-refusal h = sheet-goes-on b ((13, leb (length (complexOf (sheetIn b .complex) .triangles)) t) ∷ []) h
+module _ (b : List ℕ) (t : ℕ) (before : List ℕ) (o : Opened) (read : OpenedOf b o) where
+  pub sheet-refused : (o .refusal ≡ 0 → ⊥) → (r : ℤ) → r ≡ negℤ (pos (o .refusal)) → EdgeIndices b t before r before
+  sheet-refused some r is = record { answer = stopped-told b o read some _ 0 r is; indices = stopped-kept b o read some _ _ before }
 
-  triangle-of : reading-refusal b ≡ 0 → (a : Indexes) → sidesAnswer a ≡ sidesOutcome (complexOf (sheetIn b .complex)) t → (edgesOf a .refusal ≡ 0 → ⊥) → (r : ℤ) → r ≡ negℤ (pos (edgesOf a .refusal)) → EdgeIndices b t before r before
-  unfolding sidesAnswer sidesOutcome edgesOf
-  triangle-of h (Indices i j k) e some r is = absurd (some refl)
-  triangle-of h (NoTriangle n) e some r is =
-      let k : n ≡ sides-refusal (complexOf (sheetIn b .complex)) t = refused-number n (sides-refusal (complexOf (sheetIn b .complex)) t) (sides (complexOf (sheetIn b .complex)) t) e in
-      number-told n (sym (same-refusal h) ∙ sym k) some r is
+  module _ (none : o .refusal ≡ 0) (a : Indexes) (given : sidesAnswer a ≡ sidesOutcome (complexOf (o .sheet .complex)) t) (s : Edges) (is : s ≡ edgesOf a) where
+    sides-held : sidesAnswer a ≡ outcome (sides-refusal (complexIn b) t) (sides (complexIn b) t)
+    unfolding sidesOutcome
+    sides-held = rw (sheet-held b o read none) at given
 
-  edges-of : reading-refusal b ≡ 0 → (a : Indexes) → sidesAnswer a ≡ sidesOutcome (complexOf (sheetIn b .complex)) t → edgesOf a .refusal ≡ 0 → EdgeIndices b t before (pos 0) (edgesOf a .first ∷ edgesOf a .second ∷ edgesOf a .third ∷ [])
-  unfolding sidesAnswer sidesOutcome edgesOf signed outcome written
-  edges-of h (Indices i j k) e none =
-      let p = value-none (i ∷ j ∷ k ∷ []) (sides-refusal (complexOf (sheetIn b .complex)) t) (sides (complexOf (sheetIn b .complex)) t) e in
-      let z : triangle-refusal b t ≡ 0 = sym (same-refusal h) ∙ p .0 in
-      record { answer = rw z; indices = rw z (p .1) }
-  edges-of h (NoTriangle n) e none =
-      absurd (refused-some n (sides-refusal (complexOf (sheetIn b .complex)) t) (sides (complexOf (sheetIn b .complex)) t) e none)
+    own-number : after-sheet b (sides-refusal (complexIn b) t) ≡ s .refusal
+    own-number = sheet-goes-on b o read none (sides-refusal (complexIn b) t) ∙ sym (ap (λ (q : Edges). q .refusal) is ∙ edges-number a _ _ sides-held)
 
-  pub triangle-told : reading-refusal b ≡ 0 → (a : Indexes) → sidesAnswer a ≡ sidesOutcome (complexOf (sheetIn b .complex)) t → (s : Edges) → s ≡ edgesOf a → (s .refusal ≡ 0 → ⊥) → (r : ℤ) → r ≡ negℤ (pos (s .refusal)) → EdgeIndices b t before r before
-  triangle-told h a e s is some r told =
-      let k : s .refusal ≡ edgesOf a .refusal = ap (λ (q : Edges). q .refusal) is in
-      triangle-of h a e (λ (z : edgesOf a .refusal ≡ 0). some (k ∙ z)) r (told ∙ ap (λ (n : ℕ). negℤ (pos n)) k)
+    pub triangle-refused : (s .refusal ≡ 0 → ⊥) → (r : ℤ) → r ≡ negℤ (pos (s .refusal)) → EdgeIndices b t before r before
+    triangle-refused some r d = record { answer = refused-signed _ (s .refusal) 0 r own-number some d; indices = refused-kept _ (s .refusal) _ before own-number some }
 
-  pub edges-told : reading-refusal b ≡ 0 → (a : Indexes) → sidesAnswer a ≡ sidesOutcome (complexOf (sheetIn b .complex)) t → (s : Edges) → s ≡ edgesOf a → s .refusal ≡ 0 → EdgeIndices b t before (pos 0) (s .first ∷ s .second ∷ s .third ∷ [])
-  edges-told h a e s is none =
-      let k : s .refusal ≡ edgesOf a .refusal = ap (λ (q : Edges). q .refusal) is in
-      rw is (edges-of h a e (sym k ∙ none))
+    pub edges-told : s .refusal ≡ 0 → EdgeIndices b t before (pos 0) (s .first ∷ s .second ∷ s .third ∷ [])
+    unfolding signed outcome written
+    edges-told right =
+        let z : after-sheet b (sides-refusal (complexIn b) t) ≡ 0 = own-number ∙ right in
+        let list = edges-list a (sides-refusal (complexIn b) t) _ sides-held (sym (ap (λ (q : Edges). q .refusal) is) ∙ right) in
+        record { answer = rw z; indices = rw (z, is) list }
 
 -- ---- pentachora
 module _ (n : ℕ) (l es ts : List ℕ) (t : ℕ) (es′ ts′ : List ℕ) where
@@ -163,114 +149,80 @@ module _ (n : ℕ) (l es ts : List ℕ) (t : ℕ) (es′ ts′ : List ℕ) where
       record { answer = rw (p .0) e; edge-list = h .edges; triangle-list = h .triangles; triangle-count = rw (p .0) f }
 
 -- ---- the spanning tree
-module _ (b tree free : List ℕ) where
-  too-few : List (ℕ × Bool)
-  too-few = (15, ltb (length tree) (length (tree-edges (complexOf (sheetIn b .complex)))) || ltb (length free) (length (free-edges (complexOf (sheetIn b .complex))))) ∷ []
-
-  pub tree-refused : (k : ℕ) → k ≡ reading-refusal b → (k ≡ 0 → ⊥) → (r : ℤ) → r ≡ negℤ (pos k) → SpanningTree b tree free r tree free
-  unfolding tree-room too-few
-  tree-refused k h some r is =
-      let n : tree-room b (length tree) (length free) ≡ k = sheet-stops b too-few k h some in
+module _ (b tree free : List ℕ) (o : Opened) (read : OpenedOf b o) where
+  pub tree-refused : (o .refusal ≡ 0 → ⊥) → (r : ℤ) → r ≡ negℤ (pos (o .refusal)) → SpanningTree b tree free r tree free
+  tree-refused some r is =
       record {
-        answer = refused-signed (tree-room b (length tree) (length free)) k (length (free-edges (complexOf (sheetIn b .complex)))) r n some is;
-        tree-list = refused-kept (tree-room b (length tree) (length free)) k _ tree n some;
-        free-list = refused-kept (tree-room b (length tree) (length free)) k _ free n some;
+        answer = stopped-told b o read some _ _ r is;
+        tree-list = stopped-kept b o read some _ _ tree;
+        free-list = stopped-kept b o read some _ _ free;
       }
 
-  same-room : reading-refusal b ≡ 0 → tree-refusal (complexOf (sheetIn b .complex)) (length tree) (length free) ≡ tree-room b (length tree) (length free)
-  unfolding tree-refusal tree-room too-few
-  same-room h = sheet-goes-on b too-few h
-
-  module _ (h : reading-refusal b ≡ 0) (c : Complex) (is : c ≡ complexOf (sheetIn b .complex)) (a : SpanningTreeAnswer) (tree′ free′ : List ℕ) (told : TreeTold c tree free a tree′ free′) where
-    told-sheet : TreeTold (complexOf (sheetIn b .complex)) tree free a tree′ free′
-    told-sheet = rw is at told
+  module _ (none : o .refusal ≡ 0) (a : SpanningTreeAnswer) (tree′ free′ : List ℕ) (given : TreeTold (complexOf (o .sheet .complex)) tree free a tree′ free′) where
+    tree-held : TreeTold (complexIn b) tree free a tree′ free′
+    tree-held = rw (sheet-held b o read none) at given
 
     pub tree-told : (t : Told) → t ≡ toldOf (treeAnswer a) → (r : ℤ) → r ≡ signedOf t → SpanningTree b tree free r tree′ free′
-    tree-told t e r s =
+    tree-told t e r d =
         record {
-          answer = s ∙ signed-told t (treeAnswer a) (tree-room b (length tree) (length free)) (length (free-edges (complexOf (sheetIn b .complex)))) e (rw (same-room h) at (told-sheet .answer));
-          tree-list = rw (same-room h) at (told-sheet .tree-list);
-          free-list = rw (same-room h) at (told-sheet .free-list);
+          answer = call-told b o read none t (treeAnswer a) _ _ e (tree-held .answer) r d;
+          tree-list = rw (sheet-goes-on b o read none) (tree-held .tree-list);
+          free-list = rw (sheet-goes-on b o read none) (tree-held .free-list);
         }
 
     pub tree-few : (t : Told) → t ≡ toldOf (treeAnswer a) → t .value < 2 ^ 31
-    tree-few t e = small-told t (treeAnswer a) _ _ e (told-sheet .answer) few
+    tree-few t e = small-told t (treeAnswer a) _ _ e (tree-held .answer) few
       where
-        few : tree-refusal (complexOf (sheetIn b .complex)) (length tree) (length free) ≡ 0 → length (free-edges (complexOf (sheetIn b .complex))) < 2 ^ 31
-        few z =
-            let c = complexOf (sheetIn b .complex) in
-            let right : Accepted c = accepted (sheetIn b .complex) .0 (sym (shape-decides b (header-none b h)) ∙ h) in
-            let e = right .edges in
-            omega (arith, free-count c right)
+        few : tree-refusal (complexIn b) (length tree) (length free) ≡ 0 → length (free-edges (complexIn b)) < 2 ^ 31
+        few z = let right = sheet-accepted b o read none in omega (arith, free-count (complexIn b) right)
 
 -- ---- Gauss's law
-module _ (b : List ℕ) (s : List ℤ) where
-  long : List (ℕ × Bool)
-  long = (12, not (eqb (length s) (length (complexOf (sheetIn b .complex) .edges)))) ∷ []
+module _ (b : List ℕ) (s : List ℤ) (o : Opened) (read : OpenedOf b o) where
+  holds : ℕ
+  holds = cond (lawful (complexIn b) (λ v. pos 0) s) 1 0
 
-  pub law-refused : (k : ℕ) → k ≡ reading-refusal b → (k ≡ 0 → ⊥) → (r : ℤ) → r ≡ negℤ (pos k) → GaussLaw b s r
-  unfolding long
-  law-refused k h some r is =
-      let n : on-sheet b long ≡ k = sheet-stops b long k h some in
-      record { answer = rw (yes-outcome (on-sheet b long) (lawful (complexOf (sheetIn b .complex)) (λ v. pos 0) s)) (refused-signed (on-sheet b long) k _ r n some is) }
+  as-number : (n : ℕ) → yesOf (outcome n (lawful (complexIn b) (λ v. pos 0) s)) ≡ outcome n holds
+  unfolding holds
+  as-number n = yes-outcome n (lawful (complexIn b) (λ v. pos 0) s)
 
-  module _ (h : reading-refusal b ≡ 0) (c : Complex) (is : c ≡ complexOf (sheetIn b .complex)) (a : GaussCheck) (told : lawAnswer a ≡ lawOutcome c s) where
-    law-sheet : yesOf (lawAnswer a) ≡ outcome (on-sheet b long) (cond (lawful (complexOf (sheetIn b .complex)) (λ v. pos 0) s) 1 0)
-    unfolding lawOutcome law-refusal long
-    law-sheet =
-        let e : lawAnswer a ≡ lawOutcome (complexOf (sheetIn b .complex)) s = rw is at told in
-        ap yesOf e ∙ rw (sheet-goes-on b long h) (yes-outcome (on-sheet b long) (lawful (complexOf (sheetIn b .complex)) (λ v. pos 0) s))
+  pub law-refused : (o .refusal ≡ 0 → ⊥) → (r : ℤ) → r ≡ negℤ (pos (o .refusal)) → GaussLaw b s r
+  law-refused some r is = record { answer = rw as-number (stopped-told b o read some _ holds r is) }
+
+  module _ (none : o .refusal ≡ 0) (a : GaussCheck) (given : lawAnswer a ≡ lawOutcome (complexOf (o .sheet .complex)) s) where
+    law-held : yesOf (lawAnswer a) ≡ outcome (law-refusal (complexIn b) (length s)) holds
+    unfolding lawOutcome
+    law-held =
+        let e : lawAnswer a ≡ lawOutcome (complexIn b) s = rw (sheet-held b o read none) at given in
+        ap yesOf e ∙ as-number (law-refusal (complexIn b) (length s))
 
     pub law-told : (t : Told) → t ≡ toldOf (yesOf (lawAnswer a)) → (r : ℤ) → r ≡ signedOf t → GaussLaw b s r
-    unfolding long
-    law-told t e r d =
-        record {
-          answer =
-              rw (yes-outcome (on-sheet b long) (lawful (complexOf (sheetIn b .complex)) (λ v. pos 0) s))
-              (d ∙ signed-told t (yesOf (lawAnswer a)) (on-sheet b long) (cond (lawful (complexOf (sheetIn b .complex)) (λ v. pos 0) s) 1 0) e law-sheet);
-        }
+    law-told t e r d = record { answer = rw as-number (call-told b o read none t (yesOf (lawAnswer a)) _ holds e law-held r d) }
 
     pub law-few : (t : Told) → t ≡ toldOf (yesOf (lawAnswer a)) → t .value < 2 ^ 31
-    law-few t e = small-told t (yesOf (lawAnswer a)) _ _ e law-sheet (λ z. yes-small (lawful (complexOf (sheetIn b .complex)) (λ v. pos 0) s))
+    unfolding holds
+    law-few t e = small-told t (yesOf (lawAnswer a)) _ holds e law-held (λ z. yes-small (lawful (complexIn b) (λ v. pos 0) s))
 
 -- ---- all states
-module _ (b : List ℕ) (old : List ℤ) where
-  c : Complex
-  c = complexOf (sheetIn b .complex)
-
-  L : ℕ
-  L = sheetIn b .lambda
-
-  own : List (ℕ × Bool)
-  own = limit-test c L ∷ (15, short c L (length old)) ∷ []
-
-  pub states-refused : (k : ℕ) → k ≡ reading-refusal b → (k ≡ 0 → ⊥) → (r : ℤ) → r ≡ negℤ (pos k) → States b old r old
-  unfolding states-refusal own c L
-  states-refused k h some r is =
-      let n : states-refusal b (length old) ≡ k = sheet-stops b own k h some in
+module _ (b : List ℕ) (old : List ℤ) (o : Opened) (read : OpenedOf b o) where
+  pub states-refused : (o .refusal ≡ 0 → ⊥) → (r : ℤ) → r ≡ negℤ (pos (o .refusal)) → States b old r old
+  states-refused some r is =
       record {
-        answer = refused-signed (states-refusal b (length old)) k _ r n some is;
-        list = refused-kept (states-refusal b (length old)) k _ old n some;
-        complete = λ z. absurd (some (sym n ∙ z));
+        answer = stopped-told b o read some _ _ r is;
+        list = stopped-kept b o read some _ _ old;
+        complete = λ z. absurd (stopped b o read some _ z);
       }
 
-  same-states : reading-refusal b ≡ 0 → enumerated-refusal c L (length old) ≡ states-refusal b (length old)
-  unfolding enumerated-refusal states-refusal own c L
-  same-states h = truncated-goes-on b own h
-
-  module _ (h : reading-refusal b ≡ 0) (s : Sheet) (is : s ≡ sheetIn b) (a : Enumerated) (new : List ℤ) (told : AllListed (complexOf (s .complex)) (s .lambda) old new a) where
-    told-states : AllListed c L old new a
-    unfolding c L
-    told-states = rw is at told
+  module _ (none : o .refusal ≡ 0) (a : Enumerated) (new : List ℤ) (given : AllListed (complexOf (o .sheet .complex)) (o .sheet .lambda) old new a) where
+    states-held : AllListed (complexIn b) (sheetIn b .lambda) old new a
+    states-held = rw (sheet-held b o read none) at given
 
     pub states-told : (t : Told) → t ≡ toldOf (enumeratedAnswer a) → (r : ℤ) → r ≡ signedOf t → States b old r new
-    unfolding c L
     states-told t e r d =
         record {
-          answer = d ∙ signed-told t (enumeratedAnswer a) (states-refusal b (length old)) (length (states c L)) e (rw (same-states h) at (told-states .answer));
-          list = rw (same-states h) at (told-states .list);
-          complete = λ z. told-states .complete (same-states h ∙ z);
+          answer = call-told b o read none t (enumeratedAnswer a) _ _ e (states-held .answer) r d;
+          list = rw (sheet-goes-on b o read none) (states-held .list);
+          complete = λ z. states-held .complete (sym (sheet-goes-on b o read none _) ∙ z);
         }
 
     pub states-few : (t : Told) → t ≡ toldOf (enumeratedAnswer a) → t .value < 2 ^ 31
-    states-few t e = small-told t (enumeratedAnswer a) _ _ e (told-states .answer) (λ z. omega (arith, told-states .few z))
+    states-few t e = small-told t (enumeratedAnswer a) _ _ e (states-held .answer) (λ z. omega (arith, states-held .few z))

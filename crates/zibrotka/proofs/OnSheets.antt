@@ -1,67 +1,64 @@
--- A call on a sheet: its own refusals come after those of the sheet.
-use Prim.Native.Nat.{ℕ, zero, suc, _<_, _≤_}
-use mathlib.Core.List.{List, [], _∷_, _++_, append-assoc}
+-- A sheet that was read, and a call on it: the call's own refusal counts where the sheet has none.
+use Prim.Native.Nat.{ℕ, zero, suc}
+use mathlib.Core.List.{List}
 use mathlib.Core.Path.{_≡_, refl, sym, ap, _∙_}
-use mathlib.Core.Bool.{Bool, true}
-use borrow.Author.Tests.{le-ltb}
-use lib.ListN.{getD, length}
-use Rattle.mathematics.specs.Tests.{all}
-use Rattle.mathematics.specs.Refusals.{first, written}
-use Rattle.mathematics.proofs.Refusals.{numbered, first-stops, first-goes-on}
-use Rattle.complex.specs.Complex.{simplices, complexOf}
-use Rattle.complex.specs.Judge.{counts-right, counts-test, shape-tests, truncated-tests}
-use Rattle.complex.proofs.Simplices.{simplices-length}
+use borrow.Author.Tests.{ne-eqb}
+use lib.IntN.{ℤ, pos, negℤ}
+use Rattle.mathematics.specs.Refusals.{Outcome, outcome, written}
+use Rattle.complex.specs.Judge.{Accepted}
+use Rattle.complex.proofs.Accepting.{accepted}
 use Rattle.sheet.specs.declared.SheetRead.{SheetRead}
-use Rattle.sheet.specs.Sheet.{word, sheetIn, header-tests, reading-refusal, readAnswer, readOf}
-use Rattle.sheet.proofs.Sheets.{Header, header-of}
+use Rattle.sheet.specs.Sheet.{sheetIn, reading-refusal, readAnswer, readOf}
+use Rattle.sheet.proofs.Sheets.{shape-decides}
 use Rattle.sheet.proofs.RoundTrips.{header-none}
-use Rattle.zibrotka.specs.Exports.{readingNumber, on-sheet}
+use Rattle.zibrotka.specs.declared.Told.{Told}
+use Rattle.zibrotka.specs.declared.Opened.{Opened}
+use Rattle.zibrotka.specs.Exports.{signed, toldOf, signedOf, readingNumber, OpenedOf, complexIn, after-sheet}
+use Rattle.zibrotka.proofs.Signs.{signed-told, refused-signed, refused-kept}
 
 number-back : (n : ℕ) → readingNumber (readAnswer n) ≡ n
 unfolding readingNumber readAnswer
 number-back zero = refl
 number-back (suc n) = refl
 
-pub reading-number : (b : List ℕ) (r : SheetRead) → r ≡ readOf b → readingNumber (r .answer) ≡ reading-refusal b
-unfolding readOf
-reading-number b r e = ap (λ (q : SheetRead). readingNumber (q .answer)) e ∙ number-back (reading-refusal b)
-
-pub sheet-read : (b : List ℕ) → reading-refusal b ≡ 0 → (r : SheetRead) → r ≡ readOf b → r .sheet ≡ sheetIn b
+pub opened : (b : List ℕ) (r : SheetRead) (n : ℕ) → r ≡ readOf b → n ≡ readingNumber (r .answer) → OpenedOf b (record { refusal = n; sheet = r .sheet })
 unfolding readOf written
-sheet-read b h r e = ap (λ (q : SheetRead). q .sheet) e ∙ rw h
+opened b r n e is =
+    record {
+      number = is ∙ ap (λ (q : SheetRead). readingNumber (q .answer)) e ∙ number-back (reading-refusal b);
+      holds = λ h. ap (λ (q : SheetRead). q .sheet) e ∙ rw h;
+    }
 
-module _ (b : List ℕ) (more : List (ℕ × Bool)) where
-  pub sheet-stops : (k : ℕ) → k ≡ reading-refusal b → (k ≡ 0 → ⊥) → on-sheet b more ≡ k
-  unfolding reading-refusal on-sheet
-  sheet-stops k h some =
-      let tests = header-tests b in
-      let shape = shape-tests (complexOf (sheetIn b .complex)) in
-      ap first (sym (append-assoc tests shape more)) ∙ first-stops (tests ++ shape) more (λ (z : first (tests ++ shape) ≡ 0). some (h ∙ z)) ∙ sym h
+module _ (b : List ℕ) (o : Opened) (read : OpenedOf b o) where
+  -- the sheet is refused: the answer is minus its number, and a lent list keeps what it held
+  module _ (some : o .refusal ≡ 0 → ⊥) (own : ℕ) where
+    sheet-stops : after-sheet b own ≡ o .refusal
+    unfolding after-sheet
+    sheet-stops = rw (ne-eqb (reading-refusal b) 0 (λ (z : reading-refusal b ≡ 0). some (read .number ∙ z))) (sym (read .number))
 
-  -- the counts of an accepted sheet are right
-  sheet-counts : reading-refusal b ≡ 0 → counts-right (getD b 5 0) (length (simplices 2 (sheetIn b .complex .edges) (getD b 6 0))) (length (simplices 3 (sheetIn b .complex .triangles) (word b 7))) ≡ true
-  sheet-counts h =
-      let c = sheetIn b .complex in
-      rw (simplices-length 2 (c .edges) (getD b 6 0), simplices-length 3 (c .triangles) (word b 7)) (header-of b (header-none b h) .counts-pass)
+    pub stopped : after-sheet b own ≡ 0 → ⊥
+    stopped z = some (sym sheet-stops ∙ z)
 
-  -- of an accepted sheet, the judge of the record says the same again
-  pub sheet-goes-on : reading-refusal b ≡ 0 → first ((counts-test (complexOf (sheetIn b .complex)) ∷ shape-tests (complexOf (sheetIn b .complex))) ++ more) ≡ on-sheet b more
-  unfolding on-sheet first header-tests complexOf sheetIn numbered all
-  sheet-goes-on h =
-      let c = sheetIn b .complex in
-      let rest : List (ℕ × Bool) = shape-tests (complexOf c) ++ more in
-      let none = header-none b h in
-      let on : first (header-tests b ++ rest) ≡ first rest = first-goes-on (header-tests b) rest refl none in
-      rw (sheet-counts h) (sym on)
+    pub stopped-told : (a : ℕ) (r : ℤ) → r ≡ negℤ (pos (o .refusal)) → r ≡ signed (outcome (after-sheet b own) a)
+    stopped-told a r is = refused-signed (after-sheet b own) (o .refusal) a r sheet-stops some is
 
-  -- with the sheet's truncation, which was judged with its header
-  pub truncated-goes-on : reading-refusal b ≡ 0 → first (truncated-tests (complexOf (sheetIn b .complex)) (sheetIn b .lambda) ++ more) ≡ on-sheet b more
-  unfolding on-sheet first header-tests complexOf sheetIn numbered all
-  truncated-goes-on h =
-      let c = sheetIn b .complex in
-      let rest : List (ℕ × Bool) = shape-tests (complexOf c) ++ more in
-      let none = header-none b h in
-      let head = header-of b none in
-      let on : first (header-tests b ++ rest) ≡ first rest = first-goes-on (header-tests b) rest refl none in
-      let left : first (truncated-tests (complexOf c) (word b 9) ++ more) ≡ first rest = rw (sheet-counts h, le-ltb 1000 (word b 9) (head .truncation)) in
-      left ∙ sym on
+    pub stopped-kept : {A : Type 0} (new old : A) → old ≡ written (after-sheet b own) new old
+    stopped-kept new old = refused-kept (after-sheet b own) (o .refusal) new old sheet-stops some
+
+  -- the sheet is read: the call's own number counts
+  module _ (none : o .refusal ≡ 0) where
+    right : reading-refusal b ≡ 0
+    right = sym (read .number) ∙ none
+
+    pub sheet-held : o .sheet ≡ sheetIn b
+    sheet-held = read .holds right
+
+    pub sheet-accepted : Accepted (complexIn b)
+    sheet-accepted = accepted (sheetIn b .complex) .0 (sym (shape-decides b (header-none b right)) ∙ right)
+
+    pub sheet-goes-on : (own : ℕ) → after-sheet b own ≡ own
+    unfolding after-sheet
+    sheet-goes-on own = rw right
+
+    pub call-told : (t : Told) (x : Outcome ℕ) (own a : ℕ) → t ≡ toldOf x → x ≡ outcome own a → (r : ℤ) → r ≡ signedOf t → r ≡ signed (outcome (after-sheet b own) a)
+    call-told t x own a e f r d = rw (sheet-goes-on own) (d ∙ signed-told t x own a e f)

@@ -1,12 +1,12 @@
 -- What the exported functions answer: one signed number, the value or minus the refusal.
 use Prim.Native.Nat.{ℕ, _*_}
-use mathlib.Core.List.{List, [], _∷_, _++_, flatten}
-use mathlib.Core.Bool.{Bool, not, _||_, cond}
+use mathlib.Core.List.{List, _++_, flatten}
+use mathlib.Core.Bool.{Bool, cond}
 use mathlib.Core.Path.{_≡_}
 use lib.IntN.{ℤ, pos, negℤ}
 use lib.ListN.{length, drop}
-use lib.Dec.{eqb, ltb, leb}
-use Rattle.mathematics.specs.Refusals.{first, Outcome, value, refused, outcome, written}
+use lib.Dec.{eqb}
+use Rattle.mathematics.specs.Refusals.{Outcome, value, refused, outcome, written}
 use Rattle.complex.specs.declared.triangle.TriEdgeIndices.{TriEdgeIndices as Indexes}
 use Rattle.complex.specs.declared.triangle.TriEdgeIndices.the-variants.{Indices, Refused as NoTriangle}
 use Rattle.sheet.specs.declared.Reading.{Reading}
@@ -15,16 +15,17 @@ use Rattle.pentachora.specs.declared.FromPentachorons.{FromPentachorons}
 use Rattle.pentachora.specs.declared.FromPentachorons.the-variants.{Counts, Refused as NoComplex}
 use Rattle.gauss_law.specs.Gauss.{lawful}
 use Rattle.gauss_law.specs.Listing.{tree-edges, free-edges, Complete}
-use Rattle.walker.specs.Enumeration.{states, limit-test, short, basis-first}
+use Rattle.gauss_law.specs.Spanning.{tree-refusal}
+use Rattle.gauss_law.specs.Law.{law-refusal}
+use Rattle.walker.specs.Enumeration.{states, basis-first, enumerated-refusal}
 use Rattle.zibrotka.specs.declared.Told.{Told}
 use Rattle.zibrotka.specs.declared.Opened.{Opened}
 use Rattle.zibrotka.specs.declared.Edges.{Edges}
 use Rattle.zibrotka.specs.declared.Numbers.{Numbers}
 use Rattle.complex.specs.Complex.{Complex, complexOf}
-use Rattle.complex.specs.Judge.{shape-tests}
-use Rattle.complex.specs.Sides.{sides}
+use Rattle.complex.specs.Sides.{sides, sides-refusal}
 use Rattle.pentachora.specs.Pentachora.{faces, refusal-from}
-use Rattle.sheet.specs.Sheet.{sheetIn, header-tests, reading-refusal, sheetBytes}
+use Rattle.sheet.specs.Sheet.{sheetIn, reading-refusal, sheetBytes}
 use Rattle.sheet.specs.Making.{flatComplex, making-refusal}
 
 unfoldable pub signed : Outcome ℕ → ℤ
@@ -83,18 +84,14 @@ pub record ReadSheet (b : List ℕ) (v e t l : ℕ) (edges triangles : List ℕ)
 abbrev pub complexIn : List ℕ → Complex
 complexIn b = complexOf (sheetIn b .complex)
 
--- the refusals of a call on a sheet: 1 to 9 as for reading it, then the call's own
-unfoldable pub on-sheet : List ℕ → List (ℕ × Bool) → ℕ
-on-sheet b more = first (header-tests b ++ (shape-tests (complexIn b) ++ more))
-
--- 13 for a number that is no triangle's
-unfoldable pub triangle-refusal : List ℕ → ℕ → ℕ
-triangle-refusal b t = on-sheet b ((13, leb (length (complexIn b .triangles)) t) ∷ [])
+-- the refusal of a sheet, or where it has none that of the call on what the sheet holds
+unfoldable pub after-sheet : List ℕ → ℕ → ℕ
+after-sheet b own = cond (eqb (reading-refusal b) 0) own (reading-refusal b)
 
 -- zibrotka_tri_edge_indices
 pub record EdgeIndices (b : List ℕ) (t : ℕ) (before : List ℕ) (r : ℤ) (after : List ℕ) : Type 0 where
-  pub answer : r ≡ signed (outcome (triangle-refusal b t) 0)
-  pub indices : after ≡ written (triangle-refusal b t) (sides (complexIn b) t) before
+  pub answer : r ≡ signed (outcome (after-sheet b (sides-refusal (complexIn b) t)) 0)
+  pub indices : after ≡ written (after-sheet b (sides-refusal (complexIn b) t)) (sides (complexIn b) t) before
 
 -- zibrotka_from_pentachorons
 pub record Pentachora (n : ℕ) (l edges triangles : List ℕ) (t : ℕ) (r : ℤ) (edges′ triangles′ : List ℕ) (t′ : ℕ) : Type 0 where
@@ -103,28 +100,18 @@ pub record Pentachora (n : ℕ) (l edges triangles : List ℕ) (t : ℕ) (r : �
   pub triangle-list : triangles′ ≡ written (refusal-from n l (length edges) (length triangles)) (flatten (faces 3 l) ++ drop (3 * length (faces 3 l)) triangles) triangles
   pub triangle-count : t′ ≡ written (refusal-from n l (length edges) (length triangles)) (length (faces 3 l)) t
 
--- 15 for a list that is too short
-unfoldable pub tree-room : List ℕ → ℕ → ℕ → ℕ
-tree-room b tree free =
-    on-sheet b
-    ((15, ltb tree (length (tree-edges (complexIn b))) || ltb free (length (free-edges (complexIn b)))) ∷ [])
-
 -- zibrotka_spanning_tree
 pub record SpanningTree (b tree free : List ℕ) (r : ℤ) (tree′ free′ : List ℕ) : Type 0 where
-  pub answer : r ≡ signed (outcome (tree-room b (length tree) (length free)) (length (free-edges (complexIn b))))
-  pub tree-list : tree′ ≡ written (tree-room b (length tree) (length free)) (tree-edges (complexIn b) ++ drop (length (tree-edges (complexIn b))) tree) tree
-  pub free-list : free′ ≡ written (tree-room b (length tree) (length free)) (free-edges (complexIn b) ++ drop (length (free-edges (complexIn b))) free) free
+  pub answer : r ≡ signed (outcome (after-sheet b (tree-refusal (complexIn b) (length tree) (length free))) (length (free-edges (complexIn b))))
+  pub tree-list : tree′ ≡ written (after-sheet b (tree-refusal (complexIn b) (length tree) (length free))) (tree-edges (complexIn b) ++ drop (length (tree-edges (complexIn b))) tree) tree
+  pub free-list : free′ ≡ written (after-sheet b (tree-refusal (complexIn b) (length tree) (length free))) (free-edges (complexIn b) ++ drop (length (free-edges (complexIn b))) free) free
 
--- zibrotka_check_gauss_law: 12 for a configuration that is not as long as the list of edges
+-- zibrotka_check_gauss_law
 pub record GaussLaw (b : List ℕ) (s : List ℤ) (r : ℤ) : Type 0 where
-  pub answer : r ≡ signed (yesOf (outcome (on-sheet b ((12, not (eqb (length s) (length (complexIn b .edges)))) ∷ [])) (lawful (complexIn b) (λ v. pos 0) s)))
-
--- 10 for too many candidates, 15 for a list that is too short
-unfoldable pub states-refusal : List ℕ → ℕ → ℕ
-states-refusal b room = on-sheet b (limit-test (complexIn b) (sheetIn b .lambda) ∷ (15, short (complexIn b) (sheetIn b .lambda) room) ∷ [])
+  pub answer : r ≡ signed (yesOf (outcome (after-sheet b (law-refusal (complexIn b) (length s))) (lawful (complexIn b) (λ v. pos 0) s)))
 
 -- zibrotka_enumerate_gauge_invariant: the list begins with all states, state after state
 pub record States (b : List ℕ) (old : List ℤ) (r : ℤ) (new : List ℤ) : Type 0 where
-  pub answer : r ≡ signed (outcome (states-refusal b (length old)) (length (states (complexIn b) (sheetIn b .lambda))))
-  pub list : new ≡ written (states-refusal b (length old)) (basis-first (complexIn b) (sheetIn b .lambda) old) old
-  pub complete : states-refusal b (length old) ≡ 0 → Complete (complexIn b) (λ v. pos 0) (sheetIn b .lambda) (states (complexIn b) (sheetIn b .lambda))
+  pub answer : r ≡ signed (outcome (after-sheet b (enumerated-refusal (complexIn b) (sheetIn b .lambda) (length old))) (length (states (complexIn b) (sheetIn b .lambda))))
+  pub list : new ≡ written (after-sheet b (enumerated-refusal (complexIn b) (sheetIn b .lambda) (length old))) (basis-first (complexIn b) (sheetIn b .lambda) old) old
+  pub complete : after-sheet b (enumerated-refusal (complexIn b) (sheetIn b .lambda) (length old)) ≡ 0 → Complete (complexIn b) (λ v. pos 0) (sheetIn b .lambda) (states (complexIn b) (sheetIn b .lambda))

@@ -1,5 +1,4 @@
-use mathlib.Core.Path.{_≡_, sym, ap, _∙_}
-use Rattle.zibrotka.proofs.OnSheets.{reading-number, sheet-read}
+use Rattle.zibrotka.proofs.OnSheets.{opened}
 use borrow.Author.Needs.{needs}
 use Rattle.zibrotka.proofs.open.Statement.{statement}
 use Rattle.zibrotka.proofs.open.Tie as tie
@@ -18,9 +17,7 @@ refusal-requires c κs = search needs
 
 -- src/lib.rt:97:1
 returns : tie.Need-returns
-returns c =
-    let r = c .before .before .read-sheet .ensures in
-    record { number = c .before .refusal .ensures ∙ reading-number _ _ r; holds = λ h. sheet-read _ h _ r }
+returns c = opened _ _ _ (c .before .before .read-sheet .ensures) (c .before .refusal .ensures)
 
 pub open-spec : {M : Type 1} → statement M
 open-spec = tie.close (tie.spec read-sheet-requires refusal-requires returns)

@@ -1,6 +1,4 @@
-use mathlib.Core.Path.{_≡_, sym, ap, _∙_}
-use Rattle.complex.specs.Complex.{complexOf}
-use Rattle.sheet.specs.Sheet.{sheetIn, reading-refusal}
+use mathlib.Core.Path.{_∙_}
 use Rattle.mathematics.proofs.Signed.{back64}
 use Rattle.zibrotka.proofs.Answers.{law-refused, law-told, law-few}
 use borrow.Author.Needs.{needs}
@@ -22,15 +20,9 @@ open-requires c κs = search needs
 refused-requires : tie.Need-refused-requires
 refused-requires c κs = search needs
 
-none : (c : tie.Else1) → reading-refusal (c .before .before .before .args .sheet .now) ≡ 0
-none c = sym (c .before .open .ensures .number) ∙ c .if1 .left
-
-complex-at : (c : tie.Else1) → complexOf (c .before .open .result .sheet .complex) ≡ complexOf (sheetIn (c .before .before .before .args .sheet .now) .complex)
-complex-at c = ap (λ s. complexOf (s .complex)) (c .before .open .ensures .holds (none c))
-
 -- src/lib.rt:269:9
 returns : tie.Need-returns
-returns c = law-refused _ _ _ (c .before .before .open .ensures .number) (c .before .if1 .taken) _ (back64 _ (c .refused .ok) ∙ c .refused .ensures)
+returns c = law-refused _ _ _ (c .before .before .open .ensures) (c .before .if1 .taken) _ (back64 _ (c .refused .ok) ∙ c .refused .ensures)
 
 -- src/lib.rt:272:21
 check-gauss-law-requires : tie.Need-check-gauss-law-requires
@@ -45,14 +37,14 @@ signed-requires : tie.Need-signed-requires
 signed-requires c κs =
     let t = c .before in
     let e = t .before .before in
-    law-few _ _ (none e) _ (complex-at e) _ (t .check-gauss-law .ensures) _ (c .told-law .ensures)
+    law-few _ _ _ (e .before .open .ensures) (e .if1 .left) _ (t .check-gauss-law .ensures) _ (c .told-law .ensures)
 
 -- src/lib.rt:262:1
 returns-2 : tie.Need-returns-2
 returns-2 c =
     let t = c .before .before in
     let e = t .before .before in
-    law-told _ _ (none e) _ (complex-at e) _ (t .check-gauss-law .ensures) _ (c .before .told-law .ensures) _ (back64 _ (c .signed .ok) ∙ c .signed .ensures)
+    law-told _ _ _ (e .before .open .ensures) (e .if1 .left) _ (t .check-gauss-law .ensures) _ (c .before .told-law .ensures) _ (back64 _ (c .signed .ok) ∙ c .signed .ensures)
 
 pub zibrotka-check-gauss-law-spec : {M : Type 1} → statement M
 zibrotka-check-gauss-law-spec =

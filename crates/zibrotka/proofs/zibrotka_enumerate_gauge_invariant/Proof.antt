@@ -1,6 +1,5 @@
-use mathlib.Core.Path.{_≡_, sym, ap, _∙_}
+use mathlib.Core.Path.{_∙_}
 use Rattle.mathematics.proofs.Signed.{back64}
-use Rattle.sheet.specs.Sheet.{sheetIn, reading-refusal}
 use Rattle.zibrotka.proofs.Answers.{states-refused, states-told, states-few}
 use borrow.Author.Needs.{needs}
 use Rattle.zibrotka.proofs.zibrotka_enumerate_gauge_invariant.Statement.{statement}
@@ -21,12 +20,9 @@ open-requires c κs = search needs
 refused-requires : tie.Need-refused-requires
 refused-requires c κs = search needs
 
-none : (c : tie.Else1) → reading-refusal (c .before .before .before .args .sheet .now) ≡ 0
-none c = sym (c .before .open .ensures .number) ∙ c .if1 .left
-
 -- src/lib.rt:332:9
 returns : tie.Need-returns
-returns c = states-refused _ _ _ (c .before .before .open .ensures .number) (c .before .if1 .taken) _ (back64 _ (c .refused .ok) ∙ c .refused .ensures)
+returns c = states-refused _ _ _ (c .before .before .open .ensures) (c .before .if1 .taken) _ (back64 _ (c .refused .ok) ∙ c .refused .ensures)
 
 -- src/lib.rt:335:24
 enumerate-gauge-invariant-requires : tie.Need-enumerate-gauge-invariant-requires
@@ -41,7 +37,7 @@ signed-requires : tie.Need-signed-requires
 signed-requires c κs =
     let t = c .before .before in
     let e = t .before .before .before in
-    states-few _ _ (none e) _ (e .before .open .ensures .holds (none e)) _ _ (t .enumerate-gauge-invariant .ensures) _ (c .told-states .ensures)
+    states-few _ _ _ (e .before .open .ensures) (e .if1 .left) _ _ (t .enumerate-gauge-invariant .ensures) _ (c .told-states .ensures)
 
 -- src/lib.rt:325:1
 same-length : tie.Need-same-length
@@ -52,7 +48,7 @@ returns-2 : tie.Need-returns-2
 returns-2 c =
     let t = c .before .before .before in
     let e = t .before .before .before in
-    states-told _ _ (none e) _ (e .before .open .ensures .holds (none e)) _ _ (t .enumerate-gauge-invariant .ensures) _ (c .before .told-states .ensures) _ (back64 _ (c .signed .ok) ∙ c .signed .ensures)
+    states-told _ _ _ (e .before .open .ensures) (e .if1 .left) _ _ (t .enumerate-gauge-invariant .ensures) _ (c .before .told-states .ensures) _ (back64 _ (c .signed .ok) ∙ c .signed .ensures)
 
 pub zibrotka-enumerate-gauge-invariant-spec : {M : Type 1} → statement M
 zibrotka-enumerate-gauge-invariant-spec =

@@ -1,6 +1,4 @@
-use mathlib.Core.Path.{_≡_, sym, ap, _∙_}
-use Rattle.complex.specs.Complex.{complexOf}
-use Rattle.sheet.specs.Sheet.{sheetIn, reading-refusal}
+use mathlib.Core.Path.{_∙_}
 use Rattle.mathematics.proofs.Signed.{back64}
 use Rattle.zibrotka.proofs.Answers.{tree-refused, tree-told, tree-few}
 use borrow.Author.Needs.{needs}
@@ -22,15 +20,9 @@ open-requires c κs = search needs
 refused-requires : tie.Need-refused-requires
 refused-requires c κs = search needs
 
-none : (c : tie.Else1) → reading-refusal (c .before .before .before .before .before .args .sheet .now) ≡ 0
-none c = sym (c .before .open .ensures .number) ∙ c .if1 .left
-
-complex-at : (c : tie.Else1) → complexOf (c .before .open .result .sheet .complex) ≡ complexOf (sheetIn (c .before .before .before .before .before .args .sheet .now) .complex)
-complex-at c = ap (λ s. complexOf (s .complex)) (c .before .open .ensures .holds (none c))
-
 -- src/lib.rt:255:9
 returns : tie.Need-returns
-returns c = tree-refused _ _ _ _ (c .before .before .open .ensures .number) (c .before .if1 .taken) _ (back64 _ (c .refused .ok) ∙ c .refused .ensures)
+returns c = tree-refused _ _ _ _ (c .before .before .open .ensures) (c .before .if1 .taken) _ (back64 _ (c .refused .ok) ∙ c .refused .ensures)
 
 -- src/lib.rt:258:22
 spanning-tree-requires : tie.Need-spanning-tree-requires
@@ -45,7 +37,7 @@ signed-requires : tie.Need-signed-requires
 signed-requires c κs =
     let t = c .before .before .before .before .before in
     let e = t .before .before .before .before in
-    tree-few _ _ _ (none e) _ (complex-at e) _ _ _ (t .spanning-tree .ensures) _ (c .told-tree .ensures)
+    tree-few _ _ _ _ (e .before .open .ensures) (e .if1 .left) _ _ _ (t .spanning-tree .ensures) _ (c .told-tree .ensures)
 
 -- src/lib.rt:248:1
 same-length : tie.Need-same-length
@@ -60,7 +52,7 @@ returns-2 : tie.Need-returns-2
 returns-2 c =
     let t = c .before .before .before .before .before .before in
     let e = t .before .before .before .before in
-    tree-told _ _ _ (none e) _ (complex-at e) _ _ _ (t .spanning-tree .ensures) _ (c .before .told-tree .ensures) _ (back64 _ (c .signed .ok) ∙ c .signed .ensures)
+    tree-told _ _ _ _ (e .before .open .ensures) (e .if1 .left) _ _ _ (t .spanning-tree .ensures) _ (c .before .told-tree .ensures) _ (back64 _ (c .signed .ok) ∙ c .signed .ensures)
 
 pub zibrotka-spanning-tree-spec : {M : Type 1} → statement M
 zibrotka-spanning-tree-spec =

@@ -1,9 +1,6 @@
-use mathlib.Core.Path.{_≡_, sym, ap, _∙_}
-use Rattle.complex.specs.Complex.{complexOf}
-use Rattle.complex.specs.Sides.{sidesAnswer, sidesOutcome}
-use Rattle.sheet.specs.Sheet.{sheetIn, reading-refusal}
+use mathlib.Core.Path.{_∙_}
 use Rattle.mathematics.proofs.Signed.{back64}
-use Rattle.zibrotka.proofs.Answers.{sheet-refused, triangle-told, edges-told}
+use Rattle.zibrotka.proofs.Answers.{sheet-refused, triangle-refused, edges-told}
 use borrow.Author.Needs.{needs}
 use Rattle.zibrotka.proofs.zibrotka_tri_edge_indices.Statement.{statement}
 use Rattle.zibrotka.proofs.zibrotka_tri_edge_indices.Tie as tie
@@ -22,18 +19,9 @@ open-requires c κs = search needs
 refused-requires : tie.Need-refused-requires
 refused-requires c κs = search needs
 
-none : (c : tie.Else1) → reading-refusal (c .before .before .before .args .sheet .now) ≡ 0
-none c = sym (c .before .open .ensures .number) ∙ c .if1 .left
-
--- the triangle's edges in the sheet that was read
-sides-at : (c : tie.After-tri-edge-indices) → sidesAnswer (c .tri-edge-indices .result) ≡ sidesOutcome (complexOf (sheetIn (c .before .before .before .before .before .args .sheet .now) .complex)) (c .before .before .before .before .before .args .triangle)
-sides-at c =
-    c .tri-edge-indices .ensures
-    ∙ ap (λ s. sidesOutcome (complexOf (s .complex)) (c .before .before .before .before .before .args .triangle)) (c .before .before .before .open .ensures .holds (none (c .before .before)))
-
 -- src/lib.rt:191:9
 returns : tie.Need-returns
-returns c = sheet-refused _ _ _ _ (c .before .before .open .ensures .number) (c .before .if1 .taken) _ (back64 _ (c .refused .ok) ∙ c .refused .ensures)
+returns c = sheet-refused _ _ _ _ (c .before .before .open .ensures) (c .before .if1 .taken) _ (back64 _ (c .refused .ok) ∙ c .refused .ensures)
 
 -- src/lib.rt:194:26
 tri-edge-indices-requires : tie.Need-tri-edge-indices-requires
@@ -51,13 +39,15 @@ refused-requires-2 c κs = search needs
 returns-2 : tie.Need-returns-2
 returns-2 c =
     let f = c .before .before in
-    triangle-told _ _ _ (none (f .before .before .before)) _ (sides-at (f .before)) _ (f .edges-of .ensures) (c .before .if2 .taken) _ (back64 _ (c .refused2 .ok) ∙ c .refused2 .ensures)
+    let e = f .before .before .before in
+    triangle-refused _ _ _ _ (e .before .open .ensures) (e .if1 .left) _ (f .before .tri-edge-indices .ensures) _ (f .edges-of .ensures) (c .before .if2 .taken) _ (back64 _ (c .refused2 .ok) ∙ c .refused2 .ensures)
 
 -- src/lib.rt:184:1
 returns-3 : tie.Need-returns-3
 returns-3 c =
     let f = c .before .before in
-    edges-told _ _ _ (none (f .before .before .before)) _ (sides-at (f .before)) _ (f .edges-of .ensures) (c .before .if2 .left)
+    let e = f .before .before .before in
+    edges-told _ _ _ _ (e .before .open .ensures) (e .if1 .left) _ (f .before .tri-edge-indices .ensures) _ (f .edges-of .ensures) (c .before .if2 .left)
 
 pub zibrotka-tri-edge-indices-spec : {M : Type 1} → statement M
 zibrotka-tri-edge-indices-spec =
