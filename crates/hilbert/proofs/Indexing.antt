@@ -11,8 +11,8 @@ use lib.ListN.{length}
 use Rattle.mathematics.specs.Refusals.{first, value, refused, outcome, written}
 use Rattle.mathematics.proofs.Refusals.{refused-outcome, refused-kept}
 use Rattle.complex.specs.Complex.{Complex}
-use Rattle.complex.specs.Judge.{Accepted}
-use Rattle.walker.specs.Enumeration.{basis-tests, short, basis-first}
+use Rattle.walker.specs.declared.tables.Walker.{Walker}
+use Rattle.walker.specs.Enumeration.{basis-tests, short, basis-first, BasisWalks}
 use Rattle.walker.proofs.Enumerating.{basis-stops, basis-goes-on}
 use Rattle.hilbert.specs.declared.index.Index.{Index}
 use Rattle.hilbert.specs.declared.index.Index.the-variants.{Place, NotInBasis, Refused}
@@ -29,6 +29,7 @@ module _ (c : Complex) (L : ℕ) (s old : List ℤ) where
         answer = rw e (h ∙ refused-outcome k _ some);
         list = rw e (refused-kept k _ old some);
         found = λ z. absurd (some (sym e ∙ z));
+        few = λ z. absurd (some (sym e ∙ z));
       }
 
   rest : List (ℕ × Bool)
@@ -57,12 +58,13 @@ module _ (c : Complex) (L : ℕ) (s old : List ℤ) where
         unfolding indexAnswer
         unlisted h = refused-indexed 17 (by-tests ∙ rw (eq-eqb (length s) (length (c .edges)) sized, room, h)) (λ z. omega arith) NotInBasis refl
 
-        pub indexed : Accepted c → in-basis c L s ≡ true → (new : List ℤ) (r : ℕ) → FoundIn c L s old new r → Indexed c L s old new (Place r)
+        pub indexed : {w : Walker} {blocks : ℕ} → BasisWalks c L w blocks → in-basis c L s ≡ true → (new : List ℤ) (r : ℕ) → FoundIn c L s old new r → Indexed c L s old new (Place r)
         unfolding indexAnswer outcome written
-        indexed accepted h new r found =
+        indexed basis h new r found =
             let none-left : index-refusal c L s (length old) ≡ 0 = by-tests ∙ rw (eq-eqb (length s) (length (c .edges)) sized, room, h) in
             record {
               answer = rw none-left (ap value (found .found (sized, h)));
               list = rw none-left (found .list);
-              found = λ z. in-basis-at c accepted L s sized h;
+              found = λ z. in-basis-at c (basis .walks .accepted) L s sized h;
+              few = λ z. basis .few;
             }

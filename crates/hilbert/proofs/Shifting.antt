@@ -13,10 +13,10 @@ use lib.Seq.{take-at}
 use Rattle.mathematics.specs.Refusals.{first, value, refused, outcome, written}
 use Rattle.mathematics.proofs.Refusals.{refused-outcome, refused-kept}
 use Rattle.complex.specs.Complex.{Complex}
-use Rattle.complex.specs.Judge.{Accepted}
 use Rattle.gauss_law.specs.Shifts.{raised, shifted}
 use Rattle.gauss_law.proofs.Shifts.{shifted-length}
-use Rattle.walker.specs.Enumeration.{basis-tests, short}
+use Rattle.walker.specs.declared.tables.Walker.{Walker}
+use Rattle.walker.specs.Enumeration.{basis-tests, short, BasisWalks}
 use Rattle.walker.proofs.Enumerating.{basis-stops, basis-goes-on}
 use Rattle.hilbert.specs.declared.index.Index.{Index}
 use Rattle.hilbert.specs.declared.index.Index.the-variants.{Place, NotInBasis, Refused}
@@ -39,6 +39,7 @@ module _ (c : Complex) (L : ℕ) (s : List ℤ) (e : ℕ) (delta : ℤ) (work re
         work-list = rw n (refused-kept k _ work some);
         result-list = rw n (refused-kept k _ result some);
         found = λ z. absurd (some (sym n ∙ z));
+        few = λ z. absurd (some (sym n ∙ z));
       }
 
   rest : List (ℕ × Bool)
@@ -84,17 +85,18 @@ module _ (c : Complex) (L : ℕ) (s : List ℤ) (e : ℕ) (delta : ℤ) (work re
             unfolding indexAnswer
             unlisted h = refused-shifted 17 (by-tests ∙ rw (eq-eqb (length s) (length (c .edges)) sized, lt-leb (length (c .edges)) e edge, room, band, h)) (λ z. omega arith) NotInBasis refl
 
-            pub placed : Accepted c → in-basis c L (shifted s e delta) ≡ true → (work′ : List ℤ) (r : ℕ) → FoundIn c L (shifted s e delta) work work′ r
+            pub placed : {w : Walker} {blocks : ℕ} → BasisWalks c L w blocks → in-basis c L (shifted s e delta) ≡ true → (work′ : List ℤ) (r : ℕ) → FoundIn c L (shifted s e delta) work work′ r
                 → (result′ : List ℤ) → result′ ≡ shifted s e delta ++ drop (length s) result → Shifted c L s e delta work result (Place r) work′ result′
             unfolding number indexAnswer outcome written
-            placed accepted h work′ r found result′ is =
+            placed basis h work′ r found result′ is =
                 let none-left : number ≡ 0 = by-tests ∙ rw (eq-eqb (length s) (length (c .edges)) sized, lt-leb (length (c .edges)) e edge, room, band, h) in
                 let long : length (shifted s e delta) ≡ length (c .edges) = shifted-length s e delta ∙ sized in
                 record {
                   answer = rw none-left (ap value (found .found (long, h)));
                   work-list = rw none-left (found .list);
                   result-list = rw none-left (is ∙ ap (λ n. shifted s e delta ++ drop n result) sized);
-                  found = λ z. in-basis-at c accepted L (shifted s e delta) long h;
+                  found = λ z. in-basis-at c (basis .walks .accepted) L (shifted s e delta) long h;
+                  few = λ z. basis .few;
                 }
 
 -- the front of a row is what was put there

@@ -1,5 +1,5 @@
 -- What config_to_index tells, and what its list then holds.
-use Prim.Native.Nat.{ℕ}
+use Prim.Native.Nat.{ℕ, _≤_}
 use mathlib.Core.List.{List, [], _∷_, _++_}
 use mathlib.Core.Bool.{Bool, not}
 use mathlib.Core.Path.{_≡_}
@@ -8,7 +8,7 @@ use lib.IntN.{ℤ}
 use lib.ListN.{length}
 use Rattle.mathematics.specs.Refusals.{first, Outcome, value, refused, outcome, written}
 use Rattle.complex.specs.Complex.{Complex}
-use Rattle.walker.specs.Enumeration.{basis-tests, short, basis-first}
+use Rattle.walker.specs.Enumeration.{states, basis-tests, short, basis-first}
 use Rattle.hilbert.specs.declared.index.Index.{Index}
 use Rattle.hilbert.specs.declared.index.Index.the-variants.{Place, NotInBasis, Refused}
 use Rattle.hilbert.specs.Basis.{in-basis, place, At}
@@ -27,8 +27,9 @@ length-test c s = (12, not (eqb (length s) (length (c .edges))))
 unfoldable pub index-refusal : Complex → ℕ → List ℤ → ℕ → ℕ
 index-refusal c L s room = first (basis-tests c L ++ (length-test c s ∷ (15, short c L room) ∷ (17, not (in-basis c L s)) ∷ []))
 
--- the place of the configuration is told, and the list begins with the basis
+-- the place of the configuration is told, and the list begins with the basis, which is no longer than the limit
 pub record Indexed (c : Complex) (L : ℕ) (s old new : List ℤ) (r : Index) : Type 0 where
   pub answer : indexAnswer r ≡ outcome (index-refusal c L s (length old)) (place c L s)
   pub list : new ≡ written (index-refusal c L s (length old)) (basis-first c L old) old
   pub found : index-refusal c L s (length old) ≡ 0 → At c L s (place c L s)
+  pub few : index-refusal c L s (length old) ≡ 0 → length (states c L) ≤ 1048576

@@ -78,7 +78,7 @@ returns-5 c =
     let enough = shown .before .before in
     let long = enough .before .before .before in
     let judged = long .before .before in
-    indexed _ _ _ _ (none judged) (sized long) (room enough) (basis judged .walks .accepted) (sym (shown .before .in-basis .ensures) ∙ not-false _ (shown .if4 .left)) _ _
+    indexed _ _ _ _ (none judged) (sized long) (room enough) (basis judged) (sym (shown .before .in-basis .ensures) ∙ not-false _ (shown .if4 .left)) _ _
     (c .before .list-and-find .ensures _ (basis judged))
 
 pub config-to-index-spec : {M : Type 1} → statement M

@@ -229,7 +229,7 @@ returns-7 c =
     let edge-is = enough .before .before .before in
     let long = edge-is .before in
     let found = c .before .list-and-find .ensures _ (basis (long .before)) in
-    placed _ _ _ _ _ _ _ (none (long .before)) (sized long) (edge edge-is) (room enough) (band-told (band .before) ∙ not-false _ (band .if5 .left)) (basis (long .before) .walks .accepted)
+    placed _ _ _ _ _ _ _ (none (long .before)) (sized long) (edge edge-is) (room enough) (band-told (band .before) ∙ not-false _ (band .if5 .left)) (basis (long .before))
     (ap (in-basis _ _) (sym (row made)) ∙ sym (shown .before .in-basis .ensures) ∙ not-false _ (shown .if6 .left))
     _ _ (rw (row made) at found)
     _ (c .before .before .before .before .before .before .write-shifted .ensures ∙ rw (value (made .before)))
