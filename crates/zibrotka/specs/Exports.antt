@@ -17,7 +17,11 @@ use Rattle.gauss_law.specs.Gauss.{lawful}
 use Rattle.gauss_law.specs.Listing.{tree-edges, free-edges, Complete}
 use Rattle.gauss_law.specs.Spanning.{tree-refusal}
 use Rattle.gauss_law.specs.Law.{law-refusal}
+use Rattle.gauss_law.specs.Shifts.{shifted}
 use Rattle.walker.specs.Enumeration.{states, basis-first, enumerated-refusal}
+use Rattle.hilbert.specs.Basis.{place, At}
+use Rattle.hilbert.specs.Index.{index-refusal}
+use Rattle.hilbert.specs.Shift.{shift-refusal}
 use Rattle.zibrotka.specs.declared.Told.{Told}
 use Rattle.zibrotka.specs.declared.Opened.{Opened}
 use Rattle.zibrotka.specs.declared.Edges.{Edges}
@@ -115,3 +119,16 @@ pub record States (b : List ℕ) (old : List ℤ) (r : ℤ) (new : List ℤ) : T
   pub answer : r ≡ signed (outcome (after-sheet b (enumerated-refusal (complexIn b) (sheetIn b .lambda) (length old))) (length (states (complexIn b) (sheetIn b .lambda))))
   pub list : new ≡ written (after-sheet b (enumerated-refusal (complexIn b) (sheetIn b .lambda) (length old))) (basis-first (complexIn b) (sheetIn b .lambda) old) old
   pub complete : after-sheet b (enumerated-refusal (complexIn b) (sheetIn b .lambda) (length old)) ≡ 0 → Complete (complexIn b) (λ v. pos 0) (sheetIn b .lambda) (states (complexIn b) (sheetIn b .lambda))
+
+-- zibrotka_config_to_index: the place of the configuration, and the list begins with all states
+pub record Places (b : List ℕ) (s old : List ℤ) (r : ℤ) (new : List ℤ) : Type 0 where
+  pub answer : r ≡ signed (outcome (after-sheet b (index-refusal (complexIn b) (sheetIn b .lambda) s (length old))) (place (complexIn b) (sheetIn b .lambda) s))
+  pub list : new ≡ written (after-sheet b (index-refusal (complexIn b) (sheetIn b .lambda) s (length old))) (basis-first (complexIn b) (sheetIn b .lambda) old) old
+  pub found : after-sheet b (index-refusal (complexIn b) (sheetIn b .lambda) s (length old)) ≡ 0 → At (complexIn b) (sheetIn b .lambda) s (place (complexIn b) (sheetIn b .lambda) s)
+
+-- zibrotka_apply_shift: the place of the shifted configuration, and the lists begin with all states and with the shifted configuration
+pub record ShiftedPlaces (b : List ℕ) (s : List ℤ) (e : ℕ) (delta : ℤ) (work result : List ℤ) (r : ℤ) (work′ result′ : List ℤ) : Type 0 where
+  pub answer : r ≡ signed (outcome (after-sheet b (shift-refusal (complexIn b) (sheetIn b .lambda) s e delta (length work) (length result))) (place (complexIn b) (sheetIn b .lambda) (shifted s e delta)))
+  pub work-list : work′ ≡ written (after-sheet b (shift-refusal (complexIn b) (sheetIn b .lambda) s e delta (length work) (length result))) (basis-first (complexIn b) (sheetIn b .lambda) work) work
+  pub result-list : result′ ≡ written (after-sheet b (shift-refusal (complexIn b) (sheetIn b .lambda) s e delta (length work) (length result))) (shifted s e delta ++ drop (length (complexIn b .edges)) result) result
+  pub found : after-sheet b (shift-refusal (complexIn b) (sheetIn b .lambda) s e delta (length work) (length result)) ≡ 0 → At (complexIn b) (sheetIn b .lambda) (shifted s e delta) (place (complexIn b) (sheetIn b .lambda) (shifted s e delta))

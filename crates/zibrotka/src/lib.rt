@@ -5,6 +5,9 @@ use gauss_law::law::GaussCheck;
 use gauss_law::law::check_gauss_law;
 use gauss_law::spanning::SpanningTreeAnswer;
 use gauss_law::spanning::spanning_tree;
+use hilbert::index::Index;
+use hilbert::index::config_to_index;
+use hilbert::shift::apply_shift;
 use pentachora::FromPentachorons;
 use pentachora::from_pentachorons;
 use sheet::Reading;
@@ -21,7 +24,8 @@ ghost use Rattle.sheet.specs.Sheet.{writtenAnswer};
 ghost use Rattle.gauss_law.specs.Spanning.{treeAnswer};
 ghost use Rattle.gauss_law.specs.Law.{lawAnswer};
 ghost use Rattle.walker.specs.Enumeration.{enumeratedAnswer};
-ghost use Rattle.zibrotka.specs.Exports.{toldOf, signedOf, readingNumber, yesOf, OpenedOf, edgesOf, numbersOf, MakeSheet, ReadSheet, EdgeIndices, Pentachora, SpanningTree, GaussLaw, States};
+ghost use Rattle.hilbert.specs.Index.{indexAnswer};
+ghost use Rattle.zibrotka.specs.Exports.{toldOf, signedOf, readingNumber, yesOf, OpenedOf, edgesOf, numbersOf, MakeSheet, ReadSheet, EdgeIndices, Pentachora, SpanningTree, GaussLaw, States, Places, ShiftedPlaces};
 
 // A value, or the refusal, which is not 0.
 pub struct Told {
@@ -108,6 +112,25 @@ fn told_states(answer: Enumerated) -> Told
             value: count,
         },
         Enumerated::Refused(number) => Told {
+            refusal: number,
+            value: 0,
+        },
+    }
+}
+
+fn told_index(answer: Index) -> Told
+    ensures { λ r. ⌜ r ≡ toldOf (indexAnswer answer) ⌝ }
+{
+    match answer {
+        Index::Place(place) => Told {
+            refusal: 0,
+            value: place,
+        },
+        Index::NotInBasis => Told {
+            refusal: 17,
+            value: 0,
+        },
+        Index::Refused(number) => Told {
             refusal: number,
             value: 0,
         },
@@ -333,4 +356,52 @@ pub extern "C" fn zibrotka_enumerate_gauge_invariant(sheet: &[u8], states: &mut 
     }
     let s = opened.sheet;
     signed(told_states(enumerate_gauge_invariant(s.complex, s.lambda, states)))
+}
+
+// The place of a configuration among the states of a sheet.
+#[no_mangle]
+pub extern "C" fn zibrotka_config_to_index(
+    sheet: &[u8],
+    configuration: &[i32],
+    states: &mut [i32],
+) -> i64
+    ensures { λ r. ⌜ Places (now (sheet .entry)) (now (configuration .entry)) (now (states .entry)) r (now (states .exit)) ⌝ }
+{
+    let opened = open(sheet);
+    let number = opened.refusal;
+    if number != 0 {
+        return refused(number);
+    }
+    let s = opened.sheet;
+    signed(told_index(config_to_index(s.complex, s.lambda, configuration, states)))
+}
+
+// The place of a configuration with a delta added on one edge.
+#[no_mangle]
+pub extern "C" fn zibrotka_apply_shift(
+    sheet: &[u8],
+    configuration: &[i32],
+    edge: u64,
+    delta: i32,
+    states: &mut [i32],
+    result: &mut [i32],
+) -> i64
+    ensures { λ r. ⌜ ShiftedPlaces (now (sheet .entry)) (now (configuration .entry)) edge delta (now (states .entry)) (now (result .entry)) r (now (states .exit)) (now (result .exit)) ⌝ }
+{
+    let opened = open(sheet);
+    let number = opened.refusal;
+    if number != 0 {
+        return refused(number);
+    }
+    let s = opened.sheet;
+    let shifted = apply_shift(
+        s.complex,
+        s.lambda,
+        configuration,
+        edge as usize,
+        delta,
+        states,
+        result,
+    );
+    signed(told_index(shifted))
 }
