@@ -104,6 +104,28 @@ int64_t zibrotka_check_gauss_law(const uint8_t *sheet, size_t sheet_len, const i
  */
 int64_t zibrotka_enumerate_gauge_invariant(const uint8_t *sheet, size_t sheet_len, int32_t *states, size_t states_len);
 
+/*
+ * The place of a configuration in the list that zibrotka_enumerate_gauge_invariant writes, counted from 0; the whole list goes to the
+ * front of `states` too. Answers the place, or minus one of 1 to 10, 12 (not as many values as edges), 15 (fewer than states times E
+ * entries) or 17 (the configuration is not in the list).
+ */
+int64_t zibrotka_config_to_index(const uint8_t *sheet, size_t sheet_len,
+                                 const int32_t *configuration, size_t configuration_len,
+                                 int32_t *states, size_t states_len);
+
+/*
+ * The place of the configuration that has `delta` more on edge number `edge`. Any 32-bit delta is added in a true sum; the configuration
+ * that it starts from need not be in the list. The whole list goes to the front of `states`, the E values of the shifted configuration to
+ * the front of `result`. Answers the place, or minus one of 1 to 10, 12 (not as many values as edges), 13 (no edge has the number), 15
+ * (fewer than states times E entries in `states`, or than E in `result`), 16 (the sum leaves -L to L) or 17 (the shifted configuration is
+ * not in the list).
+ */
+int64_t zibrotka_apply_shift(const uint8_t *sheet, size_t sheet_len,
+                             const int32_t *configuration, size_t configuration_len,
+                             uint64_t edge, int32_t delta,
+                             int32_t *states, size_t states_len,
+                             int32_t *result, size_t result_len);
+
 #ifdef __cplusplus
 }
 #endif
