@@ -126,6 +126,15 @@ int64_t zibrotka_apply_shift(const uint8_t *sheet, size_t sheet_len,
                              int32_t *states, size_t states_len,
                              int32_t *result, size_t result_len);
 
+/*
+ * The place of the state that triangle number `triangle` makes of the state at place `state`: 1 more on its edges (a,b) and (b,c), 1 less
+ * on (a,c). All states go to the front of `states`. Answers the place, or minus one of 1 to 10, 13 (no triangle or no state has the
+ * number), 15 (fewer than states times E entries) or 16 (one of the three edges leaves -L to L).
+ */
+int64_t zibrotka_apply_triangle_shift(const uint8_t *sheet, size_t sheet_len,
+                                      uint64_t triangle, uint64_t state,
+                                      int32_t *states, size_t states_len);
+
 #ifdef __cplusplus
 }
 #endif

@@ -52,6 +52,7 @@ module _ (c : Complex) (L t k : ℕ) (old : List ℤ) where
         answer = rw e (refused-outcome n _ some);
         list = rw e (refused-kept n _ old some);
         found = λ z. absurd (some (sym e ∙ z));
+        few = λ z. absurd (some (sym e ∙ z));
       }
 
   rest : List (ℕ × Bool)
@@ -83,11 +84,12 @@ module _ (c : Complex) (L t k : ℕ) (old : List ℤ) where
         band-refused h = refused-told 16 (by-tests ∙ rw (numbers, room, h)) (λ z. omega arith)
 
         -- 17 cannot occur: the shifted state is listed
-        pub placed : Accepted c → t < length (c .triangles) → k < length (states c L) → sides-within c L t (shifted-state c L t k) ≡ true → (new : List ℤ) (r : ℕ)
+        pub placed : {w : Walker} {blocks : ℕ} → BasisWalks c L w blocks → t < length (c .triangles) → k < length (states c L) → sides-within c L t (shifted-state c L t k) ≡ true → (new : List ℤ) (r : ℕ)
             → FoundIn c L (shifted-state c L t k) old new r → TriangleTold c L t k old new (Place r)
         unfolding triangleAnswer outcome written shifted-state
-        placed accepted triangle state h new r found =
+        placed basis triangle state h new r found =
             let none-left : triangle-refusal c L t k (length old) ≡ 0 = by-tests ∙ rw (numbers, room, h) in
+            let accepted = basis .walks .accepted in
             let is = state-there c accepted L k state in
             let long : length (shifted-state c L t k) ≡ length (c .edges) = triangle-long c t (getD (states c L) k []) ∙ is .sized in
             let listed = shifted-state-in-basis c accepted L t triangle (getD (states c L) k []) is h in
@@ -95,4 +97,5 @@ module _ (c : Complex) (L t k : ℕ) (old : List ℤ) where
               answer = rw none-left (ap value (found .found (long, listed)));
               list = rw none-left (found .list);
               found = λ z. in-basis-at c accepted L (shifted-state c L t k) long listed;
+              few = λ z. basis .few;
             }

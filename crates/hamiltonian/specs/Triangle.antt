@@ -42,11 +42,12 @@ triangle-refusal c L t k room =
     ∷ [])
     )
 
--- the place of the shifted state is told, and the list begins with the basis
+-- the place of the shifted state is told, and the list begins with the basis, which is no longer than the limit
 pub record TriangleTold (c : Complex) (L t k : ℕ) (old new : List ℤ) (r : TriangleShift) : Type 0 where
   pub answer : triangleAnswer r ≡ outcome (triangle-refusal c L t k (length old)) (place c L (shifted-state c L t k))
   pub list : new ≡ written (triangle-refusal c L t k (length old)) (basis-first c L old) old
   pub found : triangle-refusal c L t k (length old) ≡ 0 → At c L (shifted-state c L t k) (place c L (shifted-state c L t k))
+  pub few : triangle-refusal c L t k (length old) ≡ 0 → length (states c L) ≤ 1048576
 
 -- ---- as the code keeps it
 -- three edges of a row, with values to which 1 can be added a few times

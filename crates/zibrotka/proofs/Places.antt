@@ -12,9 +12,11 @@ use Rattle.hilbert.specs.declared.index.Index.{Index}
 use Rattle.hilbert.specs.Basis.{At}
 use Rattle.hilbert.specs.Index.{indexAnswer, Indexed}
 use Rattle.hilbert.specs.Shift.{Shifted}
+use Rattle.hamiltonian.specs.declared.triangle.TriangleShift.{TriangleShift}
+use Rattle.hamiltonian.specs.Triangle.{triangleAnswer, TriangleTold}
 use Rattle.zibrotka.specs.declared.Told.{Told}
 use Rattle.zibrotka.specs.declared.Opened.{Opened}
-use Rattle.zibrotka.specs.Exports.{toldOf, signedOf, OpenedOf, complexIn, Places, ShiftedPlaces}
+use Rattle.zibrotka.specs.Exports.{toldOf, signedOf, OpenedOf, complexIn, Places, ShiftedPlaces, TrianglePlaces}
 use Rattle.zibrotka.proofs.Signs.{small-told}
 use Rattle.zibrotka.proofs.OnSheets.{stopped, stopped-told, stopped-kept, sheet-held, sheet-goes-on, call-told}
 
@@ -73,3 +75,28 @@ module _ (b : List ℕ) (s : List ℤ) (e : ℕ) (delta : ℤ) (work result : Li
 
     pub shift-few : (t : Told) → t ≡ toldOf (indexAnswer a) → t .value < 2 ^ 31
     shift-few t is = small-told t (indexAnswer a) _ _ is (shift-held .answer) (λ z. place-small _ _ _ _ (shift-held .found z) (shift-held .few z))
+
+-- ---- the place of a shifted state
+module _ (b : List ℕ) (n k : ℕ) (old : List ℤ) (o : Opened) (read : OpenedOf b o) where
+  pub triangle-refused : (o .refusal ≡ 0 → ⊥) → (r : ℤ) → r ≡ negℤ (pos (o .refusal)) → TrianglePlaces b n k old r old
+  triangle-refused some r is =
+      record {
+        answer = stopped-told b o read some _ _ r is;
+        list = stopped-kept b o read some _ _ old;
+        found = λ z. absurd (stopped b o read some _ z);
+      }
+
+  module _ (none : o .refusal ≡ 0) (a : TriangleShift) (new : List ℤ) (given : TriangleTold (complexOf (o .sheet .complex)) (o .sheet .lambda) n k old new a) where
+    triangle-held : TriangleTold (complexIn b) (sheetIn b .lambda) n k old new a
+    triangle-held = rw (sheet-held b o read none) at given
+
+    pub triangle-told : (t : Told) → t ≡ toldOf (triangleAnswer a) → (r : ℤ) → r ≡ signedOf t → TrianglePlaces b n k old r new
+    triangle-told t e r d =
+        record {
+          answer = call-told b o read none t (triangleAnswer a) _ _ e (triangle-held .answer) r d;
+          list = rw (sheet-goes-on b o read none) (triangle-held .list);
+          found = λ z. triangle-held .found (sym (sheet-goes-on b o read none _) ∙ z);
+        }
+
+    pub triangle-few : (t : Told) → t ≡ toldOf (triangleAnswer a) → t .value < 2 ^ 31
+    triangle-few t e = small-told t (triangleAnswer a) _ _ e (triangle-held .answer) (λ z. place-small _ _ _ _ (triangle-held .found z) (triangle-held .few z))

@@ -22,6 +22,7 @@ use Rattle.walker.specs.Enumeration.{states, basis-first, enumerated-refusal}
 use Rattle.hilbert.specs.Basis.{place, At}
 use Rattle.hilbert.specs.Index.{index-refusal}
 use Rattle.hilbert.specs.Shift.{shift-refusal}
+use Rattle.hamiltonian.specs.Triangle.{shifted-state, triangle-refusal}
 use Rattle.zibrotka.specs.declared.Told.{Told}
 use Rattle.zibrotka.specs.declared.Opened.{Opened}
 use Rattle.zibrotka.specs.declared.Edges.{Edges}
@@ -132,3 +133,9 @@ pub record ShiftedPlaces (b : List ℕ) (s : List ℤ) (e : ℕ) (delta : ℤ) (
   pub work-list : work′ ≡ written (after-sheet b (shift-refusal (complexIn b) (sheetIn b .lambda) s e delta (length work) (length result))) (basis-first (complexIn b) (sheetIn b .lambda) work) work
   pub result-list : result′ ≡ written (after-sheet b (shift-refusal (complexIn b) (sheetIn b .lambda) s e delta (length work) (length result))) (shifted s e delta ++ drop (length (complexIn b .edges)) result) result
   pub found : after-sheet b (shift-refusal (complexIn b) (sheetIn b .lambda) s e delta (length work) (length result)) ≡ 0 → At (complexIn b) (sheetIn b .lambda) (shifted s e delta) (place (complexIn b) (sheetIn b .lambda) (shifted s e delta))
+
+-- zibrotka_apply_triangle_shift: the place of the shifted state, and the list begins with all states
+pub record TrianglePlaces (b : List ℕ) (t k : ℕ) (old : List ℤ) (r : ℤ) (new : List ℤ) : Type 0 where
+  pub answer : r ≡ signed (outcome (after-sheet b (triangle-refusal (complexIn b) (sheetIn b .lambda) t k (length old))) (place (complexIn b) (sheetIn b .lambda) (shifted-state (complexIn b) (sheetIn b .lambda) t k)))
+  pub list : new ≡ written (after-sheet b (triangle-refusal (complexIn b) (sheetIn b .lambda) t k (length old))) (basis-first (complexIn b) (sheetIn b .lambda) old) old
+  pub found : after-sheet b (triangle-refusal (complexIn b) (sheetIn b .lambda) t k (length old)) ≡ 0 → At (complexIn b) (sheetIn b .lambda) (shifted-state (complexIn b) (sheetIn b .lambda) t k) (place (complexIn b) (sheetIn b .lambda) (shifted-state (complexIn b) (sheetIn b .lambda) t k))

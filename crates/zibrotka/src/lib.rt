@@ -5,6 +5,8 @@ use gauss_law::law::GaussCheck;
 use gauss_law::law::check_gauss_law;
 use gauss_law::spanning::SpanningTreeAnswer;
 use gauss_law::spanning::spanning_tree;
+use hamiltonian::triangle::TriangleShift;
+use hamiltonian::triangle::apply_triangle_shift;
 use hilbert::index::Index;
 use hilbert::index::config_to_index;
 use hilbert::shift::apply_shift;
@@ -25,7 +27,8 @@ ghost use Rattle.gauss_law.specs.Spanning.{treeAnswer};
 ghost use Rattle.gauss_law.specs.Law.{lawAnswer};
 ghost use Rattle.walker.specs.Enumeration.{enumeratedAnswer};
 ghost use Rattle.hilbert.specs.Index.{indexAnswer};
-ghost use Rattle.zibrotka.specs.Exports.{toldOf, signedOf, readingNumber, yesOf, OpenedOf, edgesOf, numbersOf, MakeSheet, ReadSheet, EdgeIndices, Pentachora, SpanningTree, GaussLaw, States, Places, ShiftedPlaces};
+ghost use Rattle.hamiltonian.specs.Triangle.{triangleAnswer};
+ghost use Rattle.zibrotka.specs.Exports.{toldOf, signedOf, readingNumber, yesOf, OpenedOf, edgesOf, numbersOf, MakeSheet, ReadSheet, EdgeIndices, Pentachora, SpanningTree, GaussLaw, States, Places, ShiftedPlaces, TrianglePlaces};
 
 // A value, or the refusal, which is not 0.
 pub struct Told {
@@ -97,6 +100,21 @@ fn told_law(answer: GaussCheck) -> Told
             value: yes as usize,
         },
         GaussCheck::Refused(number) => Told {
+            refusal: number,
+            value: 0,
+        },
+    }
+}
+
+fn told_triangle(answer: TriangleShift) -> Told
+    ensures { λ r. ⌜ r ≡ toldOf (triangleAnswer answer) ⌝ }
+{
+    match answer {
+        TriangleShift::Place(place) => Told {
+            refusal: 0,
+            value: place,
+        },
+        TriangleShift::Refused(number) => Told {
             refusal: number,
             value: 0,
         },
@@ -404,4 +422,30 @@ pub extern "C" fn zibrotka_apply_shift(
         result,
     );
     signed(told_index(shifted))
+}
+
+// The place of the state that a triangle's shift makes of a sheet's state at a place.
+#[no_mangle]
+pub extern "C" fn zibrotka_apply_triangle_shift(
+    sheet: &[u8],
+    triangle: u64,
+    state: u64,
+    states: &mut [i32],
+) -> i64
+    ensures { λ r. ⌜ TrianglePlaces (now (sheet .entry)) triangle state (now (states .entry)) r (now (states .exit)) ⌝ }
+{
+    let opened = open(sheet);
+    let number = opened.refusal;
+    if number != 0 {
+        return refused(number);
+    }
+    let s = opened.sheet;
+    let answer = apply_triangle_shift(
+        s.complex,
+        s.lambda,
+        triangle as usize,
+        state as usize,
+        states,
+    );
+    signed(told_triangle(answer))
 }

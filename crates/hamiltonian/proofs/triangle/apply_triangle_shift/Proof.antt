@@ -192,7 +192,7 @@ returns-5 c =
     let here = enough .before in
     let b = basis (judged here) in
     let found = c .before .list-and-find .ensures _ b in
-    placed _ _ _ _ _ (none (judged here)) (numbers here) (room enough) (b .walks .accepted) (there here .0) (there here .1) (band-told (shown .before) ∙ not-false _ (shown .if4 .left)) _ _ (rw (part made) at found)
+    placed _ _ _ _ _ (none (judged here)) (numbers here) (room enough) b (there here .0) (there here .1) (band-told (shown .before) ∙ not-false _ (shown .if4 .left)) _ _ (rw (part made) at found)
 
 pub apply-triangle-shift-spec : {M : Type 1} → statement M
 apply-triangle-shift-spec =
