@@ -5,11 +5,21 @@ use mathlib.Core.List.{List, [], _∷_, _++_}
 use mathlib.Core.Path.{_≡_}
 use lib.IntN.{ℤ, pos}
 use lib.ListN.{length}
+use Rattle.mathematics.specs.Refusals.{Outcome, value, refused}
+use Rattle.mathematics.proofs.Ordered.{Each}
 use Rattle.complex.specs.Complex.{Complex}
 use Rattle.complex.specs.Judge.{refusal}
 use Rattle.gauss_law.specs.Listing.{tree-edges, free-edges}
+use Rattle.hamiltonian.specs.Triangle.{triangleOutcome}
 use Rattle.lines.specs.Lines.{ascii}
 use Rattle.lines.specs.Printed.{printed}
+
+-- what is told of a triangle's shift of the state at a place, with a list of so many entries
+pub record Shift : Type 0 where
+  pub triangle : ℕ
+  pub state : ℕ
+  pub room : ℕ
+  pub told : Outcome ℕ
 
 -- a complex and a truncation, with the values that are expected of them
 pub record Case : Type 0 where
@@ -18,13 +28,15 @@ pub record Case : Type 0 where
   pub tree : List ℕ
   pub free : List ℕ
   pub text : String
+  pub shifts : List Shift
 
--- what is claimed of a case: it is accepted, and its tree, its free edges and its printed basis are the expected ones
+-- what is claimed of a case: it is accepted, and its tree, its free edges, its printed basis and its shifts are the expected ones
 pub record Holds (k : Case) : Type 0 where
   pub accepted : refusal (k .complex) ≡ 0
   pub tree : tree-edges (k .complex) ≡ k .tree
   pub free : free-edges (k .complex) ≡ k .free
   pub basis : printed (k .complex) (k .truncation) ≡ ascii (k .text)
+  pub shifts : Each (λ x. triangleOutcome (k .complex) (k .truncation) (x .triangle) (x .state) (x .room) ≡ x .told) (k .shifts)
 
 unfoldable pub triangle : Complex
 triangle =
@@ -50,6 +62,7 @@ table =
       tree = 0 ∷ 1 ∷ [];
       free = 2 ∷ [];
       text = "vertices 3 edges 3 triangles 1 lambda 1 dim 3\n0 -1 1 -1\n1 0 0 0\n2 1 -1 1\n";
+      shifts = record { triangle = 0; state = 2; room = 9; told = refused 16 } ∷ record { triangle = 0; state = 0; room = 9; told = value 1 } ∷ [];
     }
     ∷ record {
       complex = triangle;
@@ -57,6 +70,7 @@ table =
       tree = 0 ∷ 1 ∷ [];
       free = 2 ∷ [];
       text = "vertices 3 edges 3 triangles 1 lambda 0 dim 1\n0 0 0 0\n";
+      shifts = record { triangle = 0; state = 0; room = 3; told = refused 16 } ∷ [];
     }
     ∷ record {
       complex = one-vertex;
@@ -64,6 +78,7 @@ table =
       tree = [];
       free = [];
       text = "vertices 1 edges 0 triangles 0 lambda 1 dim 1\n0\n";
+      shifts = [];
     }
     ∷ record {
       complex = tetrahedron;
@@ -71,5 +86,6 @@ table =
       tree = 0 ∷ 1 ∷ 2 ∷ [];
       free = 3 ∷ 4 ∷ 5 ∷ [];
       text = "vertices 4 edges 6 triangles 4 lambda 1 dim 15\n0 -1 0 1 -1 0 -1\n1 0 -1 1 0 0 -1\n2 0 0 0 -1 1 -1\n3 1 -1 0 0 1 -1\n4 -1 0 1 0 -1 0\n5 0 -1 1 1 -1 0\n6 -1 1 0 -1 0 0\n7 0 0 0 0 0 0\n8 1 -1 0 1 0 0\n9 0 1 -1 -1 1 0\n10 1 0 -1 0 1 0\n11 -1 1 0 0 -1 1\n12 0 0 0 1 -1 1\n13 0 1 -1 0 0 1\n14 1 0 -1 1 0 1\n";
+      shifts = record { triangle = 3; state = 7; room = 90; told = value 12 } ∷ record { triangle = 3; state = 8; room = 90; told = refused 16 } ∷ [];
     }
     ∷ []

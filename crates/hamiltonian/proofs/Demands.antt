@@ -26,7 +26,7 @@ use Rattle.gauss_law.proofs.Shifts.{triangle-shifted}
 use Rattle.walker.specs.Enumeration.{states, limit-test, basis-tests, short, basis-first, enumerated-refusal, enumeratedAnswer}
 use Rattle.walker.proofs.Enumerating.{basis-goes-on}
 use Rattle.hilbert.specs.Basis.{within, place}
-use Rattle.hamiltonian.specs.Triangle.{triangleAnswer, shifted-state, sides-within, triangle-refusal, TriangleTold}
+use Rattle.hamiltonian.specs.Triangle.{triangleAnswer, shifted-state, sides-within, triangle-refusal, triangleOutcome, TriangleTold}
 use Rattle.hamiltonian.specs.Demand.{Leaves, Lists, ShiftTold, Shifts, Demand, Demand3}
 use Rattle.hamiltonian.proofs.TriangleTelling.{state-there}
 
@@ -105,7 +105,7 @@ module _ (c : Complex) (right : Accepted c) (L : ℕ) (none : first (basis-tests
         ∙ rw (lt-leb (length (c .triangles)) t number, lt-leb (length (states c L)) k state, enough room long)
 
     shift-told : (old new : List ℤ) (r : _) → TriangleTold c L t k old new r → length (states c L) * length (c .edges) ≤ length old → ShiftTold c L (states c L) t k r
-    unfolding outcome shifted-state
+    unfolding outcome shifted-state triangleOutcome
     shift-told old new r h long =
         record {
           s = shifted-state c L t k;

@@ -21,7 +21,7 @@ use Rattle.hilbert.specs.Basis.{in-basis, place}
 use Rattle.hilbert.specs.Search.{Sought, FoundIn}
 use Rattle.hilbert.proofs.Order.{in-basis-at}
 use Rattle.hamiltonian.specs.declared.triangle.TriangleShift.the-variants.{Place, Refused}
-use Rattle.hamiltonian.specs.Triangle.{triangleAnswer, shifted-state, sides-within, triangle-refusal, TriangleTold}
+use Rattle.hamiltonian.specs.Triangle.{triangleAnswer, shifted-state, sides-within, triangle-refusal, triangleOutcome, TriangleTold}
 use Rattle.hamiltonian.proofs.TriangleRows.{shifted-state-in-basis}
 
 -- what stands at a place of the list is a state
@@ -46,7 +46,7 @@ listed-sought c L t k w blocks basis triangle state band room enough =
 module _ (c : Complex) (L t k : ℕ) (old : List ℤ) where
   -- a refusal leaves the list
   refused-told : (n : ℕ) → triangle-refusal c L t k (length old) ≡ n → (n ≡ 0 → ⊥) → TriangleTold c L t k old old (Refused n)
-  unfolding triangleAnswer
+  unfolding triangleAnswer triangleOutcome
   refused-told n e some =
       record {
         answer = rw e (refused-outcome n _ some);
@@ -86,7 +86,7 @@ module _ (c : Complex) (L t k : ℕ) (old : List ℤ) where
         -- 17 cannot occur: the shifted state is listed
         pub placed : {w : Walker} {blocks : ℕ} → BasisWalks c L w blocks → t < length (c .triangles) → k < length (states c L) → sides-within c L t (shifted-state c L t k) ≡ true → (new : List ℤ) (r : ℕ)
             → FoundIn c L (shifted-state c L t k) old new r → TriangleTold c L t k old new (Place r)
-        unfolding triangleAnswer outcome written shifted-state
+        unfolding triangleAnswer triangleOutcome outcome written shifted-state
         placed basis triangle state h new r found =
             let none-left : triangle-refusal c L t k (length old) ≡ 0 = by-tests ∙ rw (numbers, room, h) in
             let accepted = basis .walks .accepted in

@@ -42,9 +42,13 @@ triangle-refusal c L t k room =
     ∷ [])
     )
 
--- the place of the shifted state is told, and the list begins with the basis, which is no longer than the limit
+-- the place of the shifted state, or the refusal
+unfoldable pub triangleOutcome : Complex → ℕ → ℕ → ℕ → ℕ → Outcome ℕ
+triangleOutcome c L t k room = outcome (triangle-refusal c L t k room) (place c L (shifted-state c L t k))
+
+-- that is told, and the list begins with the basis, which is no longer than the limit
 pub record TriangleTold (c : Complex) (L t k : ℕ) (old new : List ℤ) (r : TriangleShift) : Type 0 where
-  pub answer : triangleAnswer r ≡ outcome (triangle-refusal c L t k (length old)) (place c L (shifted-state c L t k))
+  pub answer : triangleAnswer r ≡ triangleOutcome c L t k (length old)
   pub list : new ≡ written (triangle-refusal c L t k (length old)) (basis-first c L old) old
   pub found : triangle-refusal c L t k (length old) ≡ 0 → At c L (shifted-state c L t k) (place c L (shifted-state c L t k))
   pub few : triangle-refusal c L t k (length old) ≡ 0 → length (states c L) ≤ 1048576

@@ -13,7 +13,7 @@ use Rattle.hilbert.specs.Basis.{At}
 use Rattle.hilbert.specs.Index.{indexAnswer, Indexed}
 use Rattle.hilbert.specs.Shift.{Shifted}
 use Rattle.hamiltonian.specs.declared.triangle.TriangleShift.{TriangleShift}
-use Rattle.hamiltonian.specs.Triangle.{triangleAnswer, TriangleTold}
+use Rattle.hamiltonian.specs.Triangle.{triangleAnswer, triangleOutcome, TriangleTold}
 use Rattle.zibrotka.specs.declared.Told.{Told}
 use Rattle.zibrotka.specs.declared.Opened.{Opened}
 use Rattle.zibrotka.specs.Exports.{toldOf, signedOf, OpenedOf, complexIn, Places, ShiftedPlaces, TrianglePlaces}
@@ -91,6 +91,7 @@ module _ (b : List ℕ) (n k : ℕ) (old : List ℤ) (o : Opened) (read : Opened
     triangle-held = rw (sheet-held b o read none) at given
 
     pub triangle-told : (t : Told) → t ≡ toldOf (triangleAnswer a) → (r : ℤ) → r ≡ signedOf t → TrianglePlaces b n k old r new
+    unfolding triangleOutcome
     triangle-told t e r d =
         record {
           answer = call-told b o read none t (triangleAnswer a) _ _ e (triangle-held .answer) r d;
@@ -99,4 +100,5 @@ module _ (b : List ℕ) (n k : ℕ) (old : List ℤ) (o : Opened) (read : Opened
         }
 
     pub triangle-few : (t : Told) → t ≡ toldOf (triangleAnswer a) → t .value < 2 ^ 31
+    unfolding triangleOutcome
     triangle-few t e = small-told t (triangleAnswer a) _ _ e (triangle-held .answer) (λ z. place-small _ _ _ _ (triangle-held .found z) (triangle-held .few z))
