@@ -3,6 +3,7 @@ use Prim.Native.Nat.{ℕ, _-_, _<_, _≤_}
 use mathlib.Core.List.{List, [], _∷_, _++_}
 use mathlib.Core.Bool.{Bool, true, false, not, _||_, cond}
 use mathlib.Core.Path.{_≡_, refl, sym, ap, _∙_}
+use mathlib.Core.Logic.{_≢_}
 use native.Mathlib.Omega.{arith}
 use native.Mathlib.Nat.{sub-zero}
 use borrow.Author.Tests.{eq-eqb, ne-eqb, le-leb, lt-leb}
@@ -17,7 +18,7 @@ use Rattle.gauss_law.specs.Shifts.{raised, shifted}
 use Rattle.gauss_law.proofs.Shifts.{shifted-length}
 use Rattle.walker.specs.declared.tables.Walker.{Walker}
 use Rattle.walker.specs.Enumeration.{basis-tests, short, BasisWalks}
-use Rattle.walker.proofs.Enumerating.{basis-stops, basis-goes-on}
+use Rattle.walker.proofs.Enumerating.{basis-stops, basis-goes-on, basis-at-most}
 use Rattle.hilbert.specs.declared.index.Index.{Index}
 use Rattle.hilbert.specs.declared.index.Index.the-variants.{Place, NotInBasis, Refused}
 use Rattle.hilbert.specs.Basis.{within, in-basis, place}
@@ -25,17 +26,19 @@ use Rattle.hilbert.specs.Search.{FoundIn}
 use Rattle.hilbert.specs.Index.{indexAnswer, length-test}
 use Rattle.hilbert.specs.Shift.{shift-refusal, Shifted}
 use Rattle.hilbert.proofs.Order.{in-basis-at}
+use Rattle.hilbert.proofs.Indexing.{told-number, own-case}
 
 module _ (c : Complex) (L : ℕ) (s : List ℤ) (e : ℕ) (delta : ℤ) (work result : List ℤ) where
   number : ℕ
   number = shift-refusal c L s e delta (length work) (length result)
 
   -- a refusal leaves the lists
-  refused-shifted : (k : ℕ) → number ≡ k → (k ≡ 0 → ⊥) → (r : Index) → indexAnswer r ≡ refused k → Shifted c L s e delta work result r work result
+  refused-shifted : (k : ℕ) → number ≡ k → (k ≡ 0 → ⊥) → (r : Index) → indexAnswer r ≡ refused k → told-number r ≢ 17 → Shifted c L s e delta work result r work result
   unfolding number
-  refused-shifted k n some r h =
+  refused-shifted k n some r h own =
       record {
         answer = rw n (h ∙ refused-outcome k _ some);
+        own = own-case r own;
         work-list = rw n (refused-kept k _ work some);
         result-list = rw n (refused-kept k _ result some);
         found = λ z. absurd (some (sym n ∙ z));
@@ -52,8 +55,8 @@ module _ (c : Complex) (L : ℕ) (s : List ℤ) (e : ℕ) (delta : ℤ) (work re
       ∷ []
 
   pub basis-refused : (k : ℕ) → k ≡ first (basis-tests c L) → (k ≡ 0 → ⊥) → Shifted c L s e delta work result (Refused k) work result
-  unfolding number shift-refusal indexAnswer rest
-  basis-refused k h some = refused-shifted k (basis-stops c L rest k h some) some (Refused k) refl
+  unfolding number shift-refusal indexAnswer rest told-number
+  basis-refused k h some = refused-shifted k (basis-stops c L rest k h some) some (Refused k) refl (λ z. omega (arith, h, basis-at-most c L))
 
   module _ (none : first (basis-tests c L) ≡ 0) where
     by-tests : number
@@ -62,37 +65,38 @@ module _ (c : Complex) (L : ℕ) (s : List ℤ) (e : ℕ) (delta : ℤ) (work re
     by-tests = basis-goes-on c L rest none
 
     pub length-refused : (length s ≡ length (c .edges) → ⊥) → Shifted c L s e delta work result (Refused 12) work result
-    unfolding indexAnswer
-    length-refused h = refused-shifted 12 (by-tests ∙ rw (ne-eqb (length s) (length (c .edges)) h)) (λ z. omega arith) (Refused 12) refl
+    unfolding indexAnswer told-number
+    length-refused h = refused-shifted 12 (by-tests ∙ rw (ne-eqb (length s) (length (c .edges)) h)) (λ z. omega arith) (Refused 12) refl (λ z. omega arith)
 
     module _ (sized : length s ≡ length (c .edges)) where
       pub edge-refused : length (c .edges) ≤ e → Shifted c L s e delta work result (Refused 13) work result
-      unfolding indexAnswer
-      edge-refused h = refused-shifted 13 (by-tests ∙ rw (eq-eqb (length s) (length (c .edges)) sized, le-leb (length (c .edges)) e h)) (λ z. omega arith) (Refused 13) refl
+      unfolding indexAnswer told-number
+      edge-refused h = refused-shifted 13 (by-tests ∙ rw (eq-eqb (length s) (length (c .edges)) sized, le-leb (length (c .edges)) e h)) (λ z. omega arith) (Refused 13) refl (λ z. omega arith)
 
       module _ (edge : e < length (c .edges)) where
         pub room-refused : (short c L (length work) || ltb (length result) (length (c .edges))) ≡ true → Shifted c L s e delta work result (Refused 15) work result
-        unfolding indexAnswer
-        room-refused h = refused-shifted 15 (by-tests ∙ rw (eq-eqb (length s) (length (c .edges)) sized, lt-leb (length (c .edges)) e edge, h)) (λ z. omega arith) (Refused 15) refl
+        unfolding indexAnswer told-number
+        room-refused h = refused-shifted 15 (by-tests ∙ rw (eq-eqb (length s) (length (c .edges)) sized, lt-leb (length (c .edges)) e edge, h)) (λ z. omega arith) (Refused 15) refl (λ z. omega arith)
 
         module _ (room : (short c L (length work) || ltb (length result) (length (c .edges))) ≡ false) where
           pub band-refused : within L (raised s e delta) ≡ false → Shifted c L s e delta work result (Refused 16) work result
-          unfolding indexAnswer
-          band-refused h = refused-shifted 16 (by-tests ∙ rw (eq-eqb (length s) (length (c .edges)) sized, lt-leb (length (c .edges)) e edge, room, h)) (λ z. omega arith) (Refused 16) refl
+          unfolding indexAnswer told-number
+          band-refused h = refused-shifted 16 (by-tests ∙ rw (eq-eqb (length s) (length (c .edges)) sized, lt-leb (length (c .edges)) e edge, room, h)) (λ z. omega arith) (Refused 16) refl (λ z. omega arith)
 
           module _ (band : within L (raised s e delta) ≡ true) where
             pub unlisted : in-basis c L (shifted s e delta) ≡ false → Shifted c L s e delta work result NotInBasis work result
-            unfolding indexAnswer
-            unlisted h = refused-shifted 17 (by-tests ∙ rw (eq-eqb (length s) (length (c .edges)) sized, lt-leb (length (c .edges)) e edge, room, band, h)) (λ z. omega arith) NotInBasis refl
+            unfolding indexAnswer told-number
+            unlisted h = refused-shifted 17 (by-tests ∙ rw (eq-eqb (length s) (length (c .edges)) sized, lt-leb (length (c .edges)) e edge, room, band, h)) (λ z. omega arith) NotInBasis refl (λ z. omega arith)
 
             pub placed : {w : Walker} {blocks : ℕ} → BasisWalks c L w blocks → in-basis c L (shifted s e delta) ≡ true → (work′ : List ℤ) (r : ℕ) → FoundIn c L (shifted s e delta) work work′ r
                 → (result′ : List ℤ) → result′ ≡ shifted s e delta ++ drop (length s) result → Shifted c L s e delta work result (Place r) work′ result′
-            unfolding number indexAnswer outcome written
+            unfolding number indexAnswer told-number outcome written
             placed basis h work′ r found result′ is =
                 let none-left : number ≡ 0 = by-tests ∙ rw (eq-eqb (length s) (length (c .edges)) sized, lt-leb (length (c .edges)) e edge, room, band, h) in
                 let long : length (shifted s e delta) ≡ length (c .edges) = shifted-length s e delta ∙ sized in
                 record {
                   answer = rw none-left (ap value (found .found (long, h)));
+                  own = own-case (Place r) (λ z. omega arith);
                   work-list = rw none-left (found .list);
                   result-list = rw none-left (is ∙ ap (λ n. shifted s e delta ++ drop n result) sized);
                   found = λ z. in-basis-at c (basis .walks .accepted) L (shifted s e delta) long h;

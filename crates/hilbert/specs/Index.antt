@@ -3,6 +3,7 @@ use Prim.Native.Nat.{ℕ, _≤_}
 use mathlib.Core.List.{List, [], _∷_, _++_}
 use mathlib.Core.Bool.{Bool, not}
 use mathlib.Core.Path.{_≡_}
+use mathlib.Core.Logic.{_≢_}
 use lib.Dec.{eqb}
 use lib.IntN.{ℤ}
 use lib.ListN.{length}
@@ -27,9 +28,10 @@ length-test c s = (12, not (eqb (length s) (length (c .edges))))
 unfoldable pub index-refusal : Complex → ℕ → List ℤ → ℕ → ℕ
 index-refusal c L s room = first (basis-tests c L ++ (length-test c s ∷ (15, short c L room) ∷ (17, not (in-basis c L s)) ∷ []))
 
--- the place of the configuration is told, and the list begins with the basis, which is no longer than the limit
+-- the place of the configuration is told, 17 by a case of its own, and the list begins with the basis, which is no longer than the limit
 pub record Indexed (c : Complex) (L : ℕ) (s old new : List ℤ) (r : Index) : Type 0 where
   pub answer : indexAnswer r ≡ outcome (index-refusal c L s (length old)) (place c L s)
+  pub own : r ≢ Refused 17
   pub list : new ≡ written (index-refusal c L s (length old)) (basis-first c L old) old
   pub found : index-refusal c L s (length old) ≡ 0 → At c L s (place c L s)
   pub few : index-refusal c L s (length old) ≡ 0 → length (states c L) ≤ 1048576

@@ -3,6 +3,7 @@ use Prim.Native.Nat.{ℕ, _≤_}
 use mathlib.Core.List.{List, [], _∷_, _++_}
 use mathlib.Core.Bool.{Bool, not, _||_}
 use mathlib.Core.Path.{_≡_}
+use mathlib.Core.Logic.{_≢_}
 use lib.Dec.{leb, ltb}
 use lib.IntN.{ℤ}
 use lib.ListN.{length, drop}
@@ -11,6 +12,7 @@ use Rattle.complex.specs.Complex.{Complex}
 use Rattle.gauss_law.specs.Shifts.{raised, shifted}
 use Rattle.walker.specs.Enumeration.{states, basis-tests, short, basis-first}
 use Rattle.hilbert.specs.declared.index.Index.{Index}
+use Rattle.hilbert.specs.declared.index.Index.the-variants.{Refused}
 use Rattle.hilbert.specs.Basis.{within, in-basis, place, At}
 use Rattle.hilbert.specs.Index.{indexAnswer, length-test}
 
@@ -28,10 +30,11 @@ shift-refusal c L s e delta work-room result-room =
     ∷ [])
     )
 
--- the place of the shifted configuration is told, and the two lists begin with the basis, which is no longer than the limit, and with the
--- shifted configuration
+-- the place of the shifted configuration is told, 17 by a case of its own, and the two lists begin with the basis, which is no longer than
+-- the limit, and with the shifted configuration
 pub record Shifted (c : Complex) (L : ℕ) (s : List ℤ) (e : ℕ) (delta : ℤ) (work result : List ℤ) (r : Index) (work′ result′ : List ℤ) : Type 0 where
   pub answer : indexAnswer r ≡ outcome (shift-refusal c L s e delta (length work) (length result)) (place c L (shifted s e delta))
+  pub own : r ≢ Refused 17
   pub work-list : work′ ≡ written (shift-refusal c L s e delta (length work) (length result)) (basis-first c L work) work
   pub result-list : result′ ≡ written (shift-refusal c L s e delta (length work) (length result)) (shifted s e delta ++ drop (length (c .edges)) result) result
   pub found : shift-refusal c L s e delta (length work) (length result) ≡ 0 → At c L (shifted s e delta) (place c L (shifted s e delta))

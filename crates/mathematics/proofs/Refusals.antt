@@ -1,11 +1,11 @@
 -- The first test that holds, in two lists of tests one after the other, and what a refusal leaves.
-use Prim.Native.Nat.{ℕ, zero, suc}
+use Prim.Native.Nat.{ℕ, zero, suc, _≤_}
 use mathlib.Core.List.{List, [], _∷_, _++_}
 use mathlib.Core.Path.{_≡_, refl, sym, _∙_}
 use mathlib.Core.Bool.{Bool, true, false, not, _&&_, cond}
-use borrow.Author.Tests.{eq-eqb, eqb-false, not-true}
+use borrow.Author.Tests.{eq-eqb, eqb-false, leb-true, not-true}
 use native.Mathlib.Omega.{arith}
-use lib.Dec.{eqb}
+use lib.Dec.{eqb, leb}
 use Rattle.mathematics.specs.Tests.{all}
 use Rattle.mathematics.specs.Refusals.{first, refused, outcome, written}
 use Rattle.mathematics.proofs.Tests.{and-parts}
@@ -36,6 +36,19 @@ first-goes-on (t ∷ xs) ys n h = go (t .1) h (first-goes-on xs ys (p .1))
     go : (b : Bool) → cond b (t .0) (first xs) ≡ 0 → (first xs ≡ 0 → first (xs ++ ys) ≡ first ys) → cond b (t .0) (first (xs ++ ys)) ≡ first ys
     go true h rest = absurd (eqb-false (t .0) 0 (not-true (eqb (t .0) 0) (p .0)) h)
     go false h rest = rest h
+
+-- no test has a number above n, so none above it is told
+pub first-at-most : (n : ℕ) (xs : List (ℕ × Bool)) → all (λ (t : ℕ × Bool). leb (t .0) n) xs ≡ true → first xs ≤ n
+unfolding first all
+first-at-most n [] h = omega arith
+first-at-most n (t ∷ xs) h = go (t .1) (first-at-most n xs (p .1))
+  where
+    p : (leb (t .0) n ≡ true) × (all (λ (t : ℕ × Bool). leb (t .0) n) xs ≡ true)
+    p = and-parts (leb (t .0) n) (all (λ (t : ℕ × Bool). leb (t .0) n) xs) h
+
+    go : (b : Bool) → first xs ≤ n → cond b (t .0) (first xs) ≤ n
+    go true rest = leb-true (t .0) n (p .0)
+    go false rest = rest
 
 -- a refusal is answered, and a lent list keeps what it held
 pub refused-outcome : {A : Type 0} (k : ℕ) (a : A) → (k ≡ 0 → ⊥) → refused k ≡ outcome k a

@@ -10,7 +10,7 @@ use lib.ListN.{length, drop}
 use borrow.Author.Tests.{le-ltb}
 use Rattle.mathematics.specs.Tests.{all}
 use Rattle.mathematics.specs.Refusals.{first, value, outcome, written}
-use Rattle.mathematics.proofs.Refusals.{first-stops, first-goes-on, numbered, refused-outcome, refused-kept}
+use Rattle.mathematics.proofs.Refusals.{first-stops, first-goes-on, first-at-most, numbered, refused-outcome, refused-kept}
 use Rattle.complex.specs.Complex.{Complex}
 use Rattle.complex.specs.Judge.{truncated-tests}
 use Rattle.gauss_law.specs.Listing.{Complete}
@@ -36,6 +36,11 @@ module _ (c : Complex) (L : ℕ) where
   pub basis-goes-on : (rest : List (ℕ × Bool)) → first (basis-tests c L) ≡ 0 → first (basis-tests c L ++ rest) ≡ first rest
   unfolding numbered all
   basis-goes-on rest e = first-goes-on (basis-tests c L) rest refl e
+
+  -- what a basis is refused by is at most 10
+  pub basis-at-most : first (basis-tests c L) ≤ 10
+  unfolding all
+  basis-at-most = first-at-most 10 (basis-tests c L) refl
 
   refused-prepared : (k : ℕ) → first (basis-tests c L) ≡ k → (k ≡ 0 → ⊥) → (r : Prepared) → r .refusal ≡ k → PreparedFor c L r
   refused-prepared k e some r h = record { refusal = h ∙ sym e; basis = λ z. absurd (some (sym h ∙ z)) }
