@@ -6,6 +6,7 @@ use crate::pentachora::same_answer;
 use crate::reference::{self, MOST_EDGES};
 use crate::rust;
 use crate::sheets::{hexadecimal, sheet_size, simpler_sheets};
+use crate::shrink::{configuration_size, simpler_configurations};
 
 /// `spanning_tree` of any bytes.
 #[derive(Clone)]
@@ -106,44 +107,12 @@ impl Case for GaussLaw {
     }
 
     fn simpler(&self) -> Vec<GaussLaw> {
-        let with = |sheet: Vec<u8>, configuration: Vec<i32>| GaussLaw { sheet, configuration };
-        let mut simpler = vec![];
-        // edges go with their values
-        if let Ok(sheet) = reference::read_sheet(&self.sheet) {
-            let pairs = sheet.complex.edges.iter().zip(&self.configuration);
-            let mut keep = |vertices: u64, kept: &dyn Fn(&[u8; 2]) -> bool, moved: &dyn Fn(u8) -> u8| {
-                let mut other = sheet.clone();
-                other.complex.vertices = vertices;
-                other.complex.triangles.clear();
-                other.complex.edges = pairs.clone().filter(|(edge, _)| kept(edge)).map(|(edge, _)| edge.map(moved)).collect();
-                let values = pairs.clone().filter(|(edge, _)| kept(edge)).map(|(_, &value)| value).collect();
-                simpler.push(with(reference::encode(&other), values));
-            };
-            let vertices = sheet.complex.vertices;
-            for gone in 0..vertices as u8 {
-                keep(vertices - 1, &|edge| !edge.contains(&gone), &|vertex| if vertex > gone { vertex - 1 } else { vertex });
-            }
-            for gone in &sheet.complex.edges {
-                keep(vertices, &|edge| edge != gone, &|vertex| vertex);
-            }
-        }
-        simpler.extend(simpler_sheets(&self.sheet).into_iter().map(|sheet| with(sheet, self.configuration.clone())));
-        if let Some((_, shorter)) = self.configuration.split_last() {
-            simpler.push(with(self.sheet.clone(), shorter.to_vec()));
-        }
-        for (at, &value) in self.configuration.iter().enumerate() {
-            for other in [0, 1, -1, value / 2, value - value.signum()] {
-                let mut configuration = self.configuration.clone();
-                configuration[at] = other;
-                simpler.push(with(self.sheet.clone(), configuration));
-            }
-        }
-        simpler
+        let both = simpler_configurations(&self.sheet, &self.configuration);
+        both.into_iter().map(|(sheet, configuration)| GaussLaw { sheet, configuration }).collect()
     }
 
     fn size(&self) -> Vec<u128> {
-        let sum: u128 = self.configuration.iter().map(|&value| 2 * u128::from(value.unsigned_abs()) + u128::from(value < 0)).sum();
-        [sheet_size(&self.sheet), vec![self.configuration.len() as u128, sum]].concat()
+        [sheet_size(&self.sheet), configuration_size(&self.configuration)].concat()
     }
 
     fn show(&self) -> String {

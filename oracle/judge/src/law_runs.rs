@@ -2,8 +2,8 @@
 
 use crate::case::{Tally, run};
 use crate::law::{GaussLaw, SpanningTree};
-use crate::lent::Room;
-use crate::listing::{Listing, free_edges};
+use crate::lent::{NO_ROOM, Room};
+use crate::listing::Listing;
 use crate::random::Random;
 use crate::reference::{self, Complex, MOST_CANDIDATES, MOST_EDGES, MOST_LAMBDA, Sheet};
 use crate::runs::QUICK_SEED;
@@ -14,7 +14,7 @@ const QUICK_ROUNDS: usize = 8_000;
 
 /// A listing is asked for where its candidates are not too many.
 fn list(listing: &Listing, most: u64, tally: &mut Tally) {
-    if listing.candidates() <= most {
+    if reference::to_try(&listing.sheet) <= most {
         run(listing, tally);
     }
 }
@@ -31,7 +31,7 @@ fn whole(sheet: &Sheet, tally: &mut Tally) {
             run(&GaussLaw { sheet: bytes.clone(), configuration: vec![value; len] }, tally);
         }
     }
-    for spare in [0, 1, 700, -1, Listing::NO_ROOM] {
+    for spare in [0, 1, 700, -1, NO_ROOM] {
         list(&Listing { sheet: bytes.clone(), spare }, MOST_CANDIDATES, tally);
     }
 }
@@ -39,7 +39,7 @@ fn whole(sheet: &Sheet, tally: &mut Tally) {
 /// The three calls on any bytes: with room and a right length, and without.
 pub fn any_bytes(bytes: &[u8], tally: &mut Tally) {
     let n_edges = bytes.get(6).map_or(0, |&count| usize::from(count));
-    for (room, len, spare) in [(Room::Ample, n_edges, 30), (Room::Nothing, 0, Listing::NO_ROOM)] {
+    for (room, len, spare) in [(Room::Ample, n_edges, 30), (Room::Nothing, 0, NO_ROOM)] {
         run(&SpanningTree { sheet: bytes.to_vec(), room }, tally);
         run(&GaussLaw { sheet: bytes.to_vec(), configuration: vec![1; len] }, tally);
         list(&Listing { sheet: bytes.to_vec(), spare }, 2_500, tally);
@@ -184,7 +184,7 @@ pub fn limits(tally: &mut Tally) {
         for (at, vertices) in sizes.into_iter().enumerate() {
             let complex = inputs::complex_with(&mut random, vertices, free);
             assert_eq!(complex.edges.len() as u64, vertices - 1 + free, "the generator gave up");
-            let largest = reference::largest_lambda(free as usize);
+            let largest = reference::largest_lambda(free as usize, MOST_CANDIDATES);
             let mut some =
                 vec![0, 1, largest, largest + 1, largest + 2, random.between(largest, MOST_LAMBDA), MOST_LAMBDA, MOST_LAMBDA + 1];
             some.sort_unstable();
@@ -220,13 +220,12 @@ pub fn random_round(random: &mut Random, most: u64, tally: &mut Tally) {
     for _ in 0..6 {
         run(&GaussLaw { sheet: bytes.clone(), configuration: configurations::any_length(random, &sheet.complex) }, tally);
     }
-    let free = free_edges(&sheet);
-    let affordable = (0..=MOST_LAMBDA).rev().find(|&lambda| reference::candidates(free, lambda).is_some_and(|count| count <= most));
-    let affordable = affordable.expect("L 0 has one candidate");
-    let largest = reference::largest_lambda(free);
+    let free = sheet.complex.free_edges();
+    let affordable = reference::largest_lambda(free, most);
+    let largest = reference::largest_lambda(free, MOST_CANDIDATES);
     for lambda in [affordable, random.below(affordable + 1), largest + 1, random.between(largest, MOST_LAMBDA + 1)] {
         sheet.lambda = lambda;
-        let spare = if random.one_in(6) { random.pick(&[-1, -1, -2, -60, Listing::NO_ROOM]) } else { random.between(0, 70) as i64 };
+        let spare = if random.one_in(6) { random.pick(&[-1, -1, -2, -60, NO_ROOM]) } else { random.between(0, 70) as i64 };
         list(&Listing::of(&sheet, spare), most, tally);
     }
     any_bytes(&inputs::any_sheet_bytes(random), tally);

@@ -58,6 +58,21 @@ impl Room {
     }
 }
 
+/// Of one lent list: nothing of it is lent.
+pub const NO_ROOM: i64 = i64::MIN / 2;
+
+/// How long one lent list is that is so much longer than the result needs, or shorter.
+pub fn length(need: usize, spare: i64) -> usize {
+    (need as i64 + spare).max(0) as usize
+}
+
+pub fn show_spare(spare: i64) -> String {
+    match spare {
+        NO_ROOM => "nothing lent".into(),
+        spare => format!("lent list {spare} entries longer than the states"),
+    }
+}
+
 pub struct Lent<T> {
     name: &'static str,
     whole: Vec<T>,

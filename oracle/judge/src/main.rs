@@ -14,6 +14,7 @@ mod reference;
 mod runs;
 mod rust;
 mod sheets;
+mod shrink;
 
 use case::Tally;
 use std::process::ExitCode;

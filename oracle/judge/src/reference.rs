@@ -33,6 +33,11 @@ impl Complex {
         self.triangles.concat()
     }
 
+    /// How many edges are free, where there is one part.
+    pub fn free_edges(&self) -> usize {
+        self.edges.len() + 1 - self.vertices as usize
+    }
+
     /// 4: a count outside its range.
     fn counts(&self) -> Result<(), u8> {
         counts(self.vertices, self.edges.len(), self.triangles.len())
@@ -237,9 +242,22 @@ pub fn candidates(free: usize, lambda: u64) -> Option<u64> {
     Some(product)
 }
 
-/// The largest L that the limit lets pass with so many free edges.
-pub fn largest_lambda(free: usize) -> u64 {
-    (0..=MOST_LAMBDA).rev().find(|&lambda| candidates(free, lambda).is_some()).expect("L 0 has one candidate")
+/// The sheet that a basis is asked of and its candidates, or the first of 1 to 10 that holds.
+pub fn read_for_basis(bytes: &[u8]) -> Result<(Sheet, u64), u8> {
+    let sheet = read_sheet(bytes)?;
+    let candidates = candidates(sheet.complex.free_edges(), sheet.lambda).ok_or(10)?;
+    Ok((sheet, candidates))
+}
+
+/// How many candidates a lister has to try; none where the sheet is refused.
+pub fn to_try(bytes: &[u8]) -> u64 {
+    read_for_basis(bytes).map_or(0, |(_, candidates)| candidates)
+}
+
+/// The largest L with so many free edges and up to so many candidates.
+pub fn largest_lambda(free: usize, most: u64) -> u64 {
+    let few = |lambda: &u64| candidates(free, *lambda).is_some_and(|count| count <= most);
+    (0..=MOST_LAMBDA).rev().find(few).expect("L 0 has one candidate")
 }
 
 /// The listing by its definition: of all assignments within ±L the lawful ones, ordered by their values on the free edges, the

@@ -1,7 +1,7 @@
 //! Sheets: made, read, read back, written again, and the edges of their triangles.
 
 use crate::case::{Case, Kind, Tally};
-use crate::lent::Lent;
+use crate::lent::{self, Lent};
 use crate::pentachora::same_answer;
 use crate::reference::{self, Complex, HEADER, Sheet};
 use crate::rust;
@@ -88,7 +88,7 @@ impl MakeSheet {
 impl Case for MakeSheet {
     fn compare(&self, tally: &mut Tally) -> Result<(), String> {
         let need = HEADER + self.edges.len() / 2 * 2 + self.triangles.len() / 3 * 3;
-        let room = (need as i64 + self.spare).max(0) as usize;
+        let room = lent::length(need, self.spare);
         let expected = reference::make_sheet(self.n_vertices, &self.edges, &self.triangles, self.lambda, room);
         let mut lent = Lent::<u8>::new("sheet", room);
         let answer = port::make_sheet(self.n_vertices, &self.edges, &self.triangles, self.lambda, lent.list());
