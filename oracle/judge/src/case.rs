@@ -20,6 +20,10 @@ pub enum Kind {
     LawfulBeyond,
     NotLawfulBeyond,
     Listings,
+    Places,
+    EdgeShifts,
+    EdgeShiftsBeyond,
+    TriangleShifts,
 }
 
 impl Kind {
@@ -37,6 +41,10 @@ impl Kind {
             Kind::LawfulBeyond => "lawful ones beyond the Rust",
             Kind::NotLawfulBeyond => "other ones beyond the Rust",
             Kind::Listings => "lists of states",
+            Kind::Places => "places",
+            Kind::EdgeShifts => "edges' shifts",
+            Kind::EdgeShiftsBeyond => "edges' shifts beyond the Rust",
+            Kind::TriangleShifts => "triangles' shifts",
         }
     }
 
@@ -51,12 +59,31 @@ impl Kind {
             Kind::Trees => &[1, 2, 3, 4, 5, 6, 7, 8, 9, 15],
             Kind::NotLawful => &[1, 2, 3, 4, 5, 6, 7, 8, 9, 12],
             Kind::Listings => &[1, 2, 3, 4, 5, 6, 7, 8, 9, 10, 15],
+            Kind::Places => &[1, 2, 3, 4, 5, 6, 7, 8, 9, 10, 12, 15, 17],
+            Kind::EdgeShifts => &[1, 2, 3, 4, 5, 6, 7, 8, 9, 10, 12, 13, 15, 16, 17],
+            Kind::EdgeShiftsBeyond => &[16],
+            Kind::TriangleShifts => &[1, 2, 3, 4, 5, 6, 7, 8, 9, 10, 13, 15, 16],
+        }
+    }
+
+    /// Whether some input is accepted: a sum beyond 32 bits never is.
+    fn accepts(self) -> bool {
+        self != Kind::EdgeShiftsBeyond
+    }
+
+    /// Whether the library has the call.
+    pub const fn there(self) -> bool {
+        match self {
+            Kind::Places => port::CONFIG_TO_INDEX,
+            Kind::EdgeShifts | Kind::EdgeShiftsBeyond => port::APPLY_SHIFT,
+            Kind::TriangleShifts => port::APPLY_TRIANGLE_SHIFT,
+            _ => true,
         }
     }
 
     /// Those that this library can be asked for.
     fn all() -> impl Iterator<Item = Kind> {
-        const ALL: [Kind; 12] = [
+        const ALL: [Kind; 16] = [
             Kind::FromPentachora,
             Kind::TriangleEdges,
             Kind::SheetMade,
@@ -69,8 +96,12 @@ impl Kind {
             Kind::LawfulBeyond,
             Kind::NotLawfulBeyond,
             Kind::Listings,
+            Kind::Places,
+            Kind::EdgeShifts,
+            Kind::EdgeShiftsBeyond,
+            Kind::TriangleShifts,
         ];
-        ALL.into_iter()
+        ALL.into_iter().filter(|kind| kind.there())
     }
 }
 
@@ -102,7 +133,8 @@ impl Tally {
     pub fn missed(&self) -> Vec<String> {
         let mut missed = vec![];
         for kind in Kind::all() {
-            for &expected in [0].iter().chain(kind.refusals()) {
+            let accepted: &[u8] = if kind.accepts() { &[0] } else { &[] };
+            for &expected in accepted.iter().chain(kind.refusals()) {
                 if !self.counts.contains_key(&(kind, expected)) {
                     missed.push(format!("{} {expected}", kind.name()));
                 }
@@ -120,6 +152,8 @@ impl Tally {
 }
 
 pub trait Case: Clone + Send + 'static {
+    /// Whether the library has the call; where it has not, nothing is compared.
+    const THERE: bool = true;
     /// Calls both sides; the text says what differs.
     fn compare(&self, tally: &mut Tally) -> Result<(), String>;
     /// Inputs to try in its place; only those that are smaller are looked at.
@@ -130,6 +164,9 @@ pub trait Case: Clone + Send + 'static {
 
 /// Compares one input. A difference is shown with the smallest input that could be found for it, and ends the program.
 pub fn run<C: Case>(case: &C, tally: &mut Tally) {
+    if !C::THERE {
+        return;
+    }
     enter(case);
     if let Err(what) = case.compare(tally) {
         let (case, what) = smallest(case.clone(), what);

@@ -10,7 +10,7 @@ use std::collections::BTreeSet;
 // ---- pentachora
 
 /// Numbers that a reader of narrower words would take for small ones.
-fn strange(random: &mut Random, near: u64) -> u64 {
+pub fn strange(random: &mut Random, near: u64) -> u64 {
     let small = random.below(near + 1);
     random.pick(&[near, near + 1, 64, 65, 255, 256 + small, 65_536 + small, (1 << 32) + small, 1 << 63, u64::MAX, u64::MAX - small])
 }

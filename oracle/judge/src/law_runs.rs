@@ -1,14 +1,15 @@
 //! The runs of `spanning_tree`, `check_gauss_law` and `enumerate_gauge_invariant`.
 
 use crate::case::{Tally, run};
+use crate::complexes::{SQUARE, TWO_APART, pairs, path};
 use crate::law::{GaussLaw, SpanningTree};
-use crate::lent::{NO_ROOM, Room};
+use crate::lent::{self, NO_ROOM, Room};
 use crate::listing::Listing;
 use crate::random::Random;
-use crate::reference::{self, Complex, MOST_CANDIDATES, MOST_EDGES, MOST_LAMBDA, Sheet};
+use crate::reference::{self, MOST_CANDIDATES, MOST_EDGES, MOST_LAMBDA, Sheet};
 use crate::runs::QUICK_SEED;
 use crate::sheets::sheet;
-use crate::{configurations, inputs, rust};
+use crate::{complexes, configurations, inputs, rust};
 
 const QUICK_ROUNDS: usize = 8_000;
 
@@ -46,36 +47,10 @@ pub fn any_bytes(bytes: &[u8], tally: &mut Tally) {
     }
 }
 
-/// All pairs of the first vertices in dictionary order.
-fn pairs(vertices: u8) -> Vec<[u8; 2]> {
-    (0..vertices).flat_map(|a| (a + 1..vertices).map(move |b| [a, b])).collect()
-}
-
-fn path(vertices: u8) -> Vec<[u8; 2]> {
-    (1..vertices).map(|vertex| [vertex - 1, vertex]).collect()
-}
-
 /// The cases of the scope paper, the ends of the ranges, and the differences from the Rust that are intended.
 pub fn written_down(tally: &mut Tally) {
-    let two_apart = [[0, 1], [0, 2], [1, 2], [3, 4], [3, 5], [4, 5]];
-    let square = [[0, 1], [1, 2], [2, 3], [0, 3]];
     for lambda in [0, 1, 2, 7, 1000] {
-        for sheet in [
-            sheet(1, &[], &[], lambda),
-            sheet(2, &pairs(2), &[], lambda),
-            sheet(3, &pairs(3), &[[0, 1, 2]], lambda),
-            sheet(3, &[[1, 2], [0, 2], [0, 1]], &[], lambda),
-            sheet(4, &pairs(4), &inputs::closed(&pairs(4)), lambda),
-            sheet(4, &square, &[], lambda),
-            sheet(64, &path(64), &[], lambda),
-            sheet(64, &path(64).into_iter().rev().collect::<Vec<_>>(), &[], lambda),
-            sheet(64, &(1..64).map(|vertex| [0, vertex]).collect::<Vec<_>>(), &[], lambda),
-            sheet(64, &(0..63).map(|vertex| [vertex, 63]).collect::<Vec<_>>(), &[], lambda),
-            sheet(6, &two_apart, &[[0, 1, 2], [3, 4, 5]], lambda),
-            sheet(2, &[], &[], lambda),
-            sheet(0, &[], &[], lambda),
-            sheet(65, &path(64), &[], lambda),
-        ] {
+        for sheet in complexes::written_down(lambda) {
             whole(&sheet, tally);
         }
     }
@@ -102,7 +77,7 @@ pub fn written_down(tally: &mut Tally) {
     list(&Listing::of(&sheet(62, &longest, &[], 511), 5), MOST_CANDIDATES, tally);
 
     // sums that wrap in 32 bits, some of them to zero
-    let on_square = reference::encode(&sheet(4, &square, &[], 1));
+    let on_square = reference::encode(&sheet(4, &SQUARE, &[], 1));
     let on_star: Vec<[u8; 2]> = (1..64).map(|vertex| [0, vertex]).collect();
     for value in [i32::MIN, i32::MAX, 1 << 30, -(1 << 30), 1 << 24, 1 << 26, -(1 << 26)] {
         for signs in 0..16 {
@@ -113,34 +88,15 @@ pub fn written_down(tally: &mut Tally) {
     }
 
     // what docs/DIFFERENCES.md says of the Rust: 1 and 3
-    let wrapping = rust::filled(&sheet(4, &square, &[], 1).complex);
+    let wrapping = rust::filled(&sheet(4, &SQUARE, &[], 1).complex);
     assert!(phyz_quantum::gauss_law::check_gauss_law(&wrapping, &[i32::MIN; 4]), "the Rust no longer wraps");
-    let apart = sheet(6, &two_apart, &[], 1).complex;
+    let apart = sheet(6, &TWO_APART, &[], 1).complex;
     assert_eq!(rust::enumerate_gauge_invariant(&apart, 1).len(), 81, "the Rust no longer lists two parts");
 }
 
-/// Every graph on up to five vertices, its edges in dictionary order and in two others, with L 0 to 2.
+/// Every small graph in three orders with L 0 to 2.
 pub fn small_graphs(tally: &mut Tally) {
-    let mut random = Random::new(QUICK_SEED);
-    for vertices in 1..=5_u8 {
-        let pairs = pairs(vertices);
-        for mask in 0..1_u32 << pairs.len() {
-            let mut edges: Vec<[u8; 2]> = (0..pairs.len()).filter(|&at| mask >> at & 1 == 1).map(|at| pairs[at]).collect();
-            for order in 0..3 {
-                if order > 0 {
-                    random.shuffle(&mut edges);
-                }
-                let triangles = if order == 1 { vec![] } else { inputs::closed(&edges) };
-                for lambda in 0..=2 {
-                    let sheet = Sheet {
-                        complex: Complex { vertices: vertices.into(), edges: edges.clone(), triangles: triangles.clone() },
-                        lambda,
-                    };
-                    small_graph(&sheet, &mut random, tally);
-                }
-            }
-        }
-    }
+    complexes::small_graphs(|_, sheet, random| small_graph(sheet, random, tally));
 }
 
 fn small_graph(sheet: &Sheet, random: &mut Random, tally: &mut Tally) {
@@ -213,7 +169,7 @@ pub fn random_rounds(tally: &mut Tally) {
 
 /// A complex with a few configurations and lists of states of up to so many candidates, then damaged sheets.
 pub fn random_round(random: &mut Random, most: u64, tally: &mut Tally) {
-    let complex = any_complex(random);
+    let complex = complexes::any(random);
     let mut sheet = Sheet { complex, lambda: random.below(MOST_LAMBDA + 1) };
     let bytes = reference::encode(&sheet);
     run(&SpanningTree { sheet: bytes.clone(), room: random.pick(&Room::ALL) }, tally);
@@ -225,20 +181,7 @@ pub fn random_round(random: &mut Random, most: u64, tally: &mut Tally) {
     let largest = reference::largest_lambda(free, MOST_CANDIDATES);
     for lambda in [affordable, random.below(affordable + 1), largest + 1, random.between(largest, MOST_LAMBDA + 1)] {
         sheet.lambda = lambda;
-        let spare = if random.one_in(6) { random.pick(&[-1, -1, -2, -60, NO_ROOM]) } else { random.between(0, 70) as i64 };
-        list(&Listing::of(&sheet, spare), most, tally);
+        list(&Listing::of(&sheet, lent::any_spare(random)), most, tally);
     }
     any_bytes(&inputs::any_sheet_bytes(random), tally);
-}
-
-/// Often few vertices, or so many that few edges can be free.
-fn any_complex(random: &mut Random) -> Complex {
-    let vertices = match random.below(6) {
-        0 | 1 => random.between(40, 64),
-        2 => random.between(1, 64),
-        _ => random.between(1, 12),
-    };
-    let most = 64 - vertices;
-    let free = if random.one_in(4) { random.below(most + 1) } else { random.below(most.min(7) + 1) };
-    inputs::complex_with(random, vertices, free)
 }

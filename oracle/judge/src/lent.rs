@@ -1,5 +1,7 @@
 //! Lists that are lent to the port: filled with a pattern beforehand, with a margin on both sides, and held against it afterwards.
 
+use crate::random::Random;
+
 const MARGIN: usize = 8;
 
 pub trait Pattern: Copy + PartialEq + std::fmt::Debug {
@@ -66,6 +68,11 @@ pub fn length(need: usize, spare: i64) -> usize {
     (need as i64 + spare).max(0) as usize
 }
 
+/// Mostly room enough.
+pub fn any_spare(random: &mut Random) -> i64 {
+    if random.one_in(6) { random.pick(&[-1, -1, -2, -60, NO_ROOM]) } else { random.between(0, 70) as i64 }
+}
+
 pub fn show_spare(spare: i64) -> String {
     match spare {
         NO_ROOM => "nothing lent".into(),
@@ -98,6 +105,12 @@ impl<T: Pattern> Lent<T> {
 
     /// The front holds this and everything else is as it was.
     pub fn holds(&self, front: &[T]) -> Result<(), String> {
+        // all at once, then one by one for what differs
+        let behind = MARGIN + front.len();
+        let as_before = |mut places: std::ops::Range<usize>| places.all(|at| self.whole[at] == T::before(at));
+        if self.whole[MARGIN..behind] == *front && as_before(0..MARGIN) && as_before(behind..self.whole.len()) {
+            return Ok(());
+        }
         for (at, &found) in self.whole.iter().enumerate() {
             let expected = match at.checked_sub(MARGIN) {
                 Some(place) if place < front.len() => front[place],

@@ -1,6 +1,8 @@
 //! Holds the port against the Rust, and against the scope paper where the Rust has no say.
 
+mod basis;
 mod case;
+mod complexes;
 mod configurations;
 mod inputs;
 mod law;
@@ -8,12 +10,15 @@ mod law_runs;
 mod lent;
 mod listing;
 mod pentachora;
+mod place_runs;
+mod places;
 mod random;
 mod record;
 mod reference;
 mod runs;
 mod rust;
 mod sheets;
+mod shifts;
 mod shrink;
 
 use case::Tally;

@@ -271,3 +271,85 @@ pub fn states(complex: &Complex, lambda: u64) -> Vec<Vec<i32>> {
     states.sort_by_key(|state| free.iter().rev().map(|&edge| state[edge as usize]).collect::<Vec<i32>>());
     states
 }
+
+// ---- places and shifts, of a sheet that is read for its basis and of its states
+
+/// Whether a configuration is listed: every value within ±L, and lawful.
+pub fn listed(sheet: &Sheet, configuration: &[i32]) -> bool {
+    configuration.iter().all(|&value| in_band(sheet, value.into())) && lawful(&sheet.complex, configuration)
+}
+
+fn in_band(sheet: &Sheet, value: i64) -> bool {
+    value.unsigned_abs() <= sheet.lambda
+}
+
+/// How many listed states come before a listed one.
+pub fn place(states: &[Vec<i32>], state: &[i32]) -> usize {
+    states.iter().take_while(|other| *other != state).count()
+}
+
+/// 15 of a work list.
+fn work_room(sheet: &Sheet, states: &[Vec<i32>], room: usize) -> Result<(), u8> {
+    if room < states.len() * sheet.complex.edges.len() { Err(15) } else { Ok(()) }
+}
+
+/// The place that `config_to_index` tells, or the first of 12, 15 and 17 that holds.
+pub fn config_to_index(sheet: &Sheet, states: &[Vec<i32>], configuration: &[i32], room: usize) -> Result<usize, u8> {
+    if configuration.len() != sheet.complex.edges.len() {
+        return Err(12);
+    }
+    work_room(sheet, states, room)?;
+    if listed(sheet, configuration) { Ok(place(states, configuration)) } else { Err(17) }
+}
+
+/// What `apply_shift` reaches, or the first of 12, 13, 15, 16 and 17 that holds; the rooms are those of the work list and the result.
+pub fn apply_shift(
+    sheet: &Sheet,
+    states: &[Vec<i32>],
+    configuration: &[i32],
+    edge: u64,
+    delta: i32,
+    rooms: (usize, usize),
+) -> Result<(Vec<i32>, usize), u8> {
+    let n_edges = sheet.complex.edges.len();
+    if configuration.len() != n_edges {
+        return Err(12);
+    }
+    if edge >= n_edges as u64 {
+        return Err(13);
+    }
+    work_room(sheet, states, rooms.0)?;
+    if rooms.1 < n_edges {
+        return Err(15);
+    }
+    let sum = i64::from(configuration[edge as usize]) + i64::from(delta);
+    if !in_band(sheet, sum) {
+        return Err(16);
+    }
+    let mut shifted = configuration.to_vec();
+    shifted[edge as usize] = sum as i32;
+    if !listed(sheet, &shifted) {
+        return Err(17);
+    }
+    let place = place(states, &shifted);
+    Ok((shifted, place))
+}
+
+/// The place that `apply_triangle_shift` tells, or the first of 13, 15 and 16 that holds.
+pub fn apply_triangle_shift(sheet: &Sheet, states: &[Vec<i32>], triangle: u64, state: u64, room: usize) -> Result<usize, u8> {
+    let complex = &sheet.complex;
+    if triangle >= complex.triangles.len() as u64 || state >= states.len() as u64 {
+        return Err(13);
+    }
+    work_room(sheet, states, room)?;
+    let [a, b, c] = complex.triangles[triangle as usize];
+    let mut shifted = states[state as usize].clone();
+    for (side, sign) in [([a, b], 1), ([a, c], -1), ([b, c], 1)] {
+        let edge = complex.edges.iter().position(|&edge| edge == side).expect("8 was judged");
+        shifted[edge] += sign;
+    }
+    if !shifted.iter().all(|&value| in_band(sheet, value.into())) {
+        return Err(16);
+    }
+    Ok(place(states, &shifted))
+}

@@ -5,6 +5,7 @@ use crate::inputs;
 use crate::law_runs;
 use crate::lent::Room;
 use crate::pentachora::FromPentachora;
+use crate::place_runs;
 use crate::random::Random;
 use crate::reference::{self, HEADER, Sheet};
 use crate::rust;
@@ -16,10 +17,17 @@ const QUICK_ROUNDS: usize = 12_000;
 
 type Part = (&'static str, fn(&mut Tally));
 
+fn begin(what: &str) {
+    println!("{what}");
+    if let Some(missing) = port::missing() {
+        println!("{missing}");
+    }
+}
+
 pub fn quick() -> Tally {
     let mut tally = Tally::default();
-    println!("quick run, seed {QUICK_SEED}");
-    let parts: [Part; 10] = [
+    begin(&format!("quick run, seed {QUICK_SEED}"));
+    let parts: [Part; 14] = [
         ("cases that were written down", written_down),
         ("every short list of pentachora", short_pentachora),
         ("every sheet of a few small numbers", small_sheets),
@@ -35,6 +43,10 @@ pub fn quick() -> Tally {
         ("every graph on up to five vertices", law_runs::small_graphs),
         ("every number of free edges", law_runs::limits),
         ("random complexes and configurations", law_runs::random_rounds),
+        ("places and shifts that were written down", place_runs::written_down),
+        ("long lists", place_runs::long_lists),
+        ("every triangle of every state of small graphs", place_runs::small_graphs),
+        ("random places and shifts", place_runs::random_rounds),
     ];
     for (name, part) in parts {
         let start = Instant::now();
@@ -46,13 +58,14 @@ pub fn quick() -> Tally {
 
 pub fn long(seed: u64, minutes: f64) -> Tally {
     let mut tally = Tally::default();
-    println!("long run, seed {seed}, {minutes} minutes");
+    begin(&format!("long run, seed {seed}, {minutes} minutes"));
     let mut random = Random::new(seed);
     let end = Instant::now() + Duration::from_secs_f64(60.0 * minutes);
     while Instant::now() < end {
         for round in 0..100 {
             random_round(&mut random, &mut tally);
             law_runs::random_round(&mut random, if round == 0 { reference::MOST_CANDIDATES } else { 3_000 }, &mut tally);
+            place_runs::random_round(&mut random, if round == 0 { 100_000 } else { 1_000 }, &mut tally);
         }
     }
     tally
@@ -298,6 +311,7 @@ fn one_byte_changed(tally: &mut Tally) {
                 changed[at] = value;
                 run(&TriangleEdges { sheet: changed.clone() }, tally);
                 law_runs::any_bytes(&changed, tally);
+                place_runs::any_bytes(&changed, tally);
                 run(&ReadSheet { bytes: changed }, tally);
             }
         }
@@ -311,6 +325,7 @@ fn lengths(tally: &mut Tally) {
             other.resize(len, 1);
             run(&ReadSheet { bytes: other.clone() }, tally);
             law_runs::any_bytes(&other, tally);
+            place_runs::any_bytes(&other, tally);
             run(&TriangleEdges { sheet: other }, tally);
         }
         // each byte taken out, and each put in twice

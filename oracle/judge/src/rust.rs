@@ -1,7 +1,9 @@
-//! The Rust that judges: its complex and its Gauss law, asked in the judge's terms.
+//! The Rust that judges: its complex, its Gauss law and its basis, asked in the judge's terms.
 
 use crate::reference::Complex;
 use phyz_quantum::gauss_law;
+use phyz_quantum::hamiltonian::open_triangle_shift;
+use phyz_quantum::hilbert::U1HilbertSpace;
 use phyz_regge::SimplicialComplex;
 
 /// The Rust adds in 32 bits: it is asked about values up to this only, of which no sum wraps.
@@ -50,4 +52,35 @@ pub fn check_gauss_law(complex: &Complex, configuration: &[i32]) -> Option<bool>
 
 pub fn enumerate_gauge_invariant(complex: &Complex, lambda: u64) -> Vec<Vec<i32>> {
     gauss_law::enumerate_gauge_invariant(&filled(complex), lambda as u32)
+}
+
+/// The Rust's basis, with the record that it was made of.
+pub struct Space {
+    record: SimplicialComplex,
+    space: U1HilbertSpace,
+}
+
+impl Space {
+    pub fn new(complex: &Complex, lambda: u64) -> Space {
+        let record = filled(complex);
+        let space = U1HilbertSpace::new(&record, lambda as u32);
+        Space { record, space }
+    }
+
+    pub fn states(&self) -> &[Vec<i32>] {
+        &self.space.basis
+    }
+
+    pub fn config_to_index(&self, configuration: &[i32]) -> Option<usize> {
+        self.space.config_to_index(configuration)
+    }
+
+    /// Its sum wraps where it does not fit 32 bits.
+    pub fn apply_shift(&self, configuration: &[i32], edge: usize, delta: i32) -> Option<(Vec<i32>, usize)> {
+        self.space.apply_shift(configuration, edge, delta)
+    }
+
+    pub fn apply_triangle_shift(&self, triangle: usize, state: usize) -> Option<usize> {
+        open_triangle_shift(&self.space, self.space.index_to_config(state), &self.record.tri_edge_indices(triangle))
+    }
 }

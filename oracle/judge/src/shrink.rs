@@ -20,9 +20,10 @@ pub fn simpler_lambdas(bytes: &[u8]) -> Vec<Vec<u8>> {
 /// A sheet and a value for each of its edges.
 type Both = (Vec<u8>, Vec<i32>);
 
-/// Edges go with their values, then simpler sheets, fewer values and smaller ones.
+/// No value but zero; edges go with their values; then simpler sheets, fewer values and smaller ones.
 pub fn simpler_configurations(bytes: &[u8], configuration: &[i32]) -> Vec<Both> {
-    let mut simpler = fewer_edges(bytes, configuration);
+    let mut simpler = vec![(bytes.to_vec(), vec![0; configuration.len()])];
+    simpler.extend(fewer_edges(bytes, configuration));
     simpler.extend(simpler_sheets(bytes).into_iter().map(|sheet| (sheet, configuration.to_vec())));
     if let Some((_, shorter)) = configuration.split_last() {
         simpler.push((bytes.to_vec(), shorter.to_vec()));

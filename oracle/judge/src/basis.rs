@@ -1,0 +1,98 @@
+//! A sheet whose basis is needed: the states are listed by the Rust when they are first asked for, and kept for all calls on the sheet.
+
+use crate::case::{Kind, Tally};
+use crate::lent::{self, Lent};
+use crate::listing::same_states;
+use crate::pentachora::same_answer;
+use crate::reference::{self, Sheet};
+use crate::rust::Space;
+use std::sync::{Arc, OnceLock};
+
+/// Where there is no basis, work lists are as long as if it had so many entries.
+const NO_BASIS: usize = 50;
+
+pub struct Basis {
+    pub sheet: Sheet,
+    pub space: Space,
+    /// state after state
+    pub flat: Vec<i32>,
+}
+
+impl Basis {
+    fn of(sheet: Sheet) -> Result<Basis, String> {
+        let space = Space::new(&sheet.complex, sheet.lambda);
+        same_states(&sheet, space.states())?;
+        let flat = space.states().concat();
+        Ok(Basis { sheet, space, flat })
+    }
+}
+
+/// Any bytes, with the basis or one of 1 to 10.
+#[derive(Clone)]
+pub struct Given {
+    pub bytes: Vec<u8>,
+    judged: Arc<OnceLock<Result<Result<Basis, u8>, String>>>,
+}
+
+impl Given {
+    pub fn new(bytes: Vec<u8>) -> Given {
+        Given { bytes, judged: Arc::default() }
+    }
+
+    pub fn of(sheet: &Sheet) -> Given {
+        Given::new(reference::encode(sheet))
+    }
+
+    pub fn basis(&self) -> Result<Result<&Basis, u8>, String> {
+        let judged = self.judged.get_or_init(|| match reference::read_for_basis(&self.bytes) {
+            Ok((sheet, _)) => Basis::of(sheet).map(Ok),
+            Err(number) => Ok(Err(number)),
+        });
+        judged.as_ref().map(|judged| judged.as_ref().map_err(|&number| number)).map_err(String::clone)
+    }
+
+    /// How many entries the basis has.
+    pub fn need(&self) -> Result<usize, String> {
+        Ok(self.basis()?.map_or(NO_BASIS, |basis| basis.flat.len()))
+    }
+
+    /// A call with a work list alone, which is so much longer than the basis, or shorter.
+    pub fn compare(
+        &self,
+        kind: Kind,
+        spare: i64,
+        expected: impl Fn(&Basis, usize) -> Result<Result<usize, u8>, String>,
+        call: impl Fn(&[u8], &mut [i32]) -> i64,
+        tally: &mut Tally,
+    ) -> Result<(), String> {
+        let room = lent::length(self.need()?, spare);
+        let expected = match self.basis()? {
+            Ok(basis) => expected(basis, room)?,
+            Err(number) => Err(number),
+        };
+        tally.count(kind, expected.err().unwrap_or(0));
+        let mut states = Lent::new("states", room);
+        let answer = call(&self.bytes, states.list());
+        self.told(answer, expected, &states)
+    }
+
+    /// The answer is the place and the work list begins with the basis, or it is the refusal and the list is as it was.
+    pub fn told(&self, answer: i64, expected: Result<usize, u8>, states: &Lent<i32>) -> Result<(), String> {
+        match (expected, self.basis()?) {
+            (Ok(place), Ok(basis)) => {
+                same_answer(answer, place as i64)?;
+                states.holds(&basis.flat)
+            }
+            (Ok(_), Err(_)) => Err("the judge expects a place without a basis".into()),
+            (Err(number), _) => {
+                same_answer(answer, -i64::from(number))?;
+                states.unchanged()
+            }
+        }
+    }
+}
+
+/// The Rust has nothing where a refusal is expected.
+pub fn agree<T: PartialEq>(by_rust: Option<T>, expected: &Result<T, u8>) -> Result<(), String> {
+    if by_rust.as_ref() == expected.as_ref().ok() { Ok(()) } else { Err("the judge's own place and the Rust's differ".into()) }
+}
