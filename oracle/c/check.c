@@ -192,14 +192,26 @@ static int laws(void)
     return 0;
 }
 
+/* no entry of a list was written to */
+static int as_it_was(const int32_t *list, size_t len)
+{
+    return all_are((const uint8_t *)list, len * sizeof *list, 0xEE);
+}
+
+/* the states of the triangle sheet, and whether they stand at the front of a list with nothing else changed */
+static const int32_t on_triangle[9] = {-1, 1, -1, 0, 0, 0, 1, -1, 1};
+
+static int begins_with_the_basis(const int32_t *list, size_t len)
+{
+    return memcmp(list, on_triangle, sizeof on_triangle) == 0 && as_it_was(list + 9, len - 9);
+}
+
 static int listings(void)
 {
-    const int32_t on_triangle[] = {-1, 1, -1, 0, 0, 0, 1, -1, 1};
     const int32_t on_kite[] = {0, 1, -1, -1, 0, 0, 0, 0, 0, -1, 1, 1};
     /* (0,1) (0,2) (1,2) (0,3) (1,3): two free edges, and L 512 */
     const uint8_t over[] = {'G', 'L', 'S', 1, 0, 4, 5, 0, 0, 0, 2, 0, 1, 0, 2, 1, 2, 0, 3, 1, 3};
     int32_t states[16];
-    const uint8_t *bytes = (const uint8_t *)states;
 
     memset(states, 0xEE, sizeof states);
     CHECK(zibrotka_enumerate_gauge_invariant(NULL, 0, states, 16) == -ZIBROTKA_SHEET_SHORT);
@@ -208,22 +220,104 @@ static int listings(void)
     CHECK(zibrotka_enumerate_gauge_invariant(over, sizeof over, NULL, 0) == -ZIBROTKA_CANDIDATES);
     CHECK(zibrotka_enumerate_gauge_invariant(triangle_sheet, 20, states, 8) == -ZIBROTKA_ROOM);
     CHECK(zibrotka_enumerate_gauge_invariant(triangle_sheet, 20, NULL, 0) == -ZIBROTKA_ROOM);
-    CHECK(all_are(bytes, sizeof states, 0xEE));
+    CHECK(as_it_was(states, 16));
 
     CHECK(zibrotka_enumerate_gauge_invariant(triangle_sheet, 20, states, 16) == 3);
-    CHECK(memcmp(states, on_triangle, sizeof on_triangle) == 0);
-    CHECK(all_are(bytes + sizeof on_triangle, sizeof states - sizeof on_triangle, 0xEE));
+    CHECK(begins_with_the_basis(states, 16));
     CHECK(zibrotka_enumerate_gauge_invariant(kite_sheet, 19, states, 12) == 3);
-    CHECK(memcmp(states, on_kite, sizeof on_kite) == 0);
-    CHECK(all_are(bytes + sizeof on_kite, sizeof states - sizeof on_kite, 0xEE));
+    CHECK(memcmp(states, on_kite, sizeof on_kite) == 0 && as_it_was(states + 12, 4));
     CHECK(zibrotka_enumerate_gauge_invariant(point_sheet, 11, NULL, 0) == 1);
     return 0;
 }
+
+#ifdef HAS_config_to_index
+static int places(void)
+{
+    const int32_t zero[] = {0, 0, 0, 0}, last[] = {1, -1, 1}, unlawful[] = {0, 0, 1}, outside[] = {2, -2, 2};
+    int32_t states[16];
+
+    memset(states, 0xEE, sizeof states);
+    CHECK(zibrotka_config_to_index(NULL, 0, zero, 3, states, 16) == -ZIBROTKA_SHEET_SHORT);
+    CHECK(zibrotka_config_to_index(triangle_sheet, 20, zero, 4, states, 8) == -ZIBROTKA_LENGTH);
+    CHECK(zibrotka_config_to_index(triangle_sheet, 20, NULL, 0, NULL, 0) == -ZIBROTKA_LENGTH);
+    CHECK(zibrotka_config_to_index(triangle_sheet, 20, unlawful, 3, states, 8) == -ZIBROTKA_ROOM);
+    CHECK(zibrotka_config_to_index(triangle_sheet, 20, unlawful, 3, states, 16) == -ZIBROTKA_NOT_LISTED);
+    CHECK(zibrotka_config_to_index(triangle_sheet, 20, outside, 3, states, 16) == -ZIBROTKA_NOT_LISTED);
+    CHECK(as_it_was(states, 16));
+
+    CHECK(zibrotka_config_to_index(triangle_sheet, 20, zero, 3, states, 16) == 1);
+    CHECK(begins_with_the_basis(states, 16));
+    CHECK(zibrotka_config_to_index(triangle_sheet, 20, last, 3, states, 9) == 2);
+    CHECK(zibrotka_config_to_index(point_sheet, 11, NULL, 0, NULL, 0) == 0);
+    return 0;
+}
+#endif
+
+#ifdef HAS_apply_shift
+static int shifts(void)
+{
+    const int32_t zero[] = {0, 0, 0, 0}, below[] = {INT32_MIN, 0, 0}, above[] = {INT32_MAX, 1, -1};
+    int32_t states[16], result[8];
+
+    memset(states, 0xEE, sizeof states);
+    memset(result, 0xEE, sizeof result);
+    CHECK(zibrotka_apply_shift(triangle_sheet, 19, zero, 3, 0, 1, states, 16, result, 8) == -ZIBROTKA_SHEET_LENGTH);
+    CHECK(zibrotka_apply_shift(triangle_sheet, 20, zero, 4, 3, 2, states, 8, result, 2) == -ZIBROTKA_LENGTH);
+    CHECK(zibrotka_apply_shift(triangle_sheet, 20, zero, 3, 3, 2, states, 8, result, 2) == -ZIBROTKA_NUMBER);
+    CHECK(zibrotka_apply_shift(triangle_sheet, 20, zero, 3, UINT64_C(4294967296), 0, states, 16, result, 8) == -ZIBROTKA_NUMBER);
+    CHECK(zibrotka_apply_shift(triangle_sheet, 20, zero, 3, 0, 2, states, 8, result, 8) == -ZIBROTKA_ROOM);
+    CHECK(zibrotka_apply_shift(triangle_sheet, 20, zero, 3, 0, 2, states, 16, result, 2) == -ZIBROTKA_ROOM);
+    CHECK(zibrotka_apply_shift(triangle_sheet, 20, zero, 3, 0, 2, states, 16, result, 8) == -ZIBROTKA_BAND);
+    CHECK(zibrotka_apply_shift(triangle_sheet, 20, below, 3, 0, INT32_MIN, states, 16, result, 8) == -ZIBROTKA_BAND);
+    CHECK(zibrotka_apply_shift(triangle_sheet, 20, zero, 3, 0, 1, states, 16, result, 8) == -ZIBROTKA_NOT_LISTED);
+    CHECK(as_it_was(states, 16) && as_it_was(result, 8));
+
+    CHECK(zibrotka_apply_shift(triangle_sheet, 20, zero, 3, 2, 0, states, 16, result, 8) == 1);
+    CHECK(begins_with_the_basis(states, 16));
+    CHECK(memcmp(result, zero, 12) == 0 && as_it_was(result + 3, 5));
+    CHECK(zibrotka_apply_shift(triangle_sheet, 20, above, 3, 0, INT32_MIN, states, 9, result, 3) == 0);
+    CHECK(memcmp(result, on_triangle, 12) == 0);
+    return 0;
+}
+#endif
+
+#ifdef HAS_apply_triangle_shift
+static int triangle_shifts(void)
+{
+    int32_t states[16];
+
+    memset(states, 0xEE, sizeof states);
+    CHECK(zibrotka_apply_triangle_shift(apart_sheet, 11, 0, 0, states, 16) == -ZIBROTKA_UNREACHED);
+    CHECK(zibrotka_apply_triangle_shift(triangle_sheet, 20, 1, 0, states, 8) == -ZIBROTKA_NUMBER);
+    CHECK(zibrotka_apply_triangle_shift(triangle_sheet, 20, 0, 3, states, 8) == -ZIBROTKA_NUMBER);
+    CHECK(zibrotka_apply_triangle_shift(triangle_sheet, 20, UINT64_MAX, UINT64_MAX, NULL, 0) == -ZIBROTKA_NUMBER);
+    CHECK(zibrotka_apply_triangle_shift(triangle_sheet, 20, 0, 2, states, 8) == -ZIBROTKA_ROOM);
+    CHECK(zibrotka_apply_triangle_shift(triangle_sheet, 20, 0, 2, states, 16) == -ZIBROTKA_BAND);
+    CHECK(as_it_was(states, 16));
+
+    CHECK(zibrotka_apply_triangle_shift(triangle_sheet, 20, 0, 0, states, 16) == 1);
+    CHECK(begins_with_the_basis(states, 16));
+    CHECK(zibrotka_apply_triangle_shift(triangle_sheet, 20, 0, 1, states, 9) == 2);
+    return 0;
+}
+#endif
 
 int main(void)
 {
     if (making() || reading() || triangle_edges() || pentachora() || trees() || laws() || listings())
         return 1;
+#ifdef HAS_config_to_index
+    if (places())
+        return 1;
+#endif
+#ifdef HAS_apply_shift
+    if (shifts())
+        return 1;
+#endif
+#ifdef HAS_apply_triangle_shift
+    if (triangle_shifts())
+        return 1;
+#endif
     printf("C: %d checks passed\n", passed);
     return 0;
 }
