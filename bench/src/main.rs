@@ -1,5 +1,7 @@
 //! Times the port against the Rust on the same inputs, the best of a few rounds.
 
+mod places;
+
 use phyz_quantum::gauss_law;
 use phyz_regge::SimplicialComplex;
 use std::hint::black_box;
@@ -7,8 +9,12 @@ use std::process::ExitCode;
 use std::time::Instant;
 
 type Table = (&'static str, fn());
-const TABLES: [Table; 3] =
-    [("pentachora", from_pentachorons), ("triangles", tri_edge_indices), ("states", enumerate_gauge_invariant)];
+const TABLES: [Table; 4] = [
+    ("pentachora", from_pentachorons),
+    ("triangles", tri_edge_indices),
+    ("states", enumerate_gauge_invariant),
+    ("places", places::table),
+];
 
 fn main() -> ExitCode {
     let words: Vec<String> = std::env::args().skip(1).collect();
@@ -102,11 +108,8 @@ fn tri_edge_indices() {
 /// The port fills one lent list again and again; the Rust makes new lists each time, and letting go of them is not timed.
 fn enumerate_gauge_invariant() {
     println!("enumerate_gauge_invariant (the port judges the whole sheet each time; the Rust is given a finished record)");
-    let columns = |name: &str, words: [String; 9]| {
-        let [v, e, f, l, candidates, states, port, rust, ratio] = words;
-        println!("{name:<16} {v:>3} {e:>3} {f:>3} {l:>4} {candidates:>11} {states:>8} {port:>9} {rust:>9} {ratio:>10}");
-    };
-    columns("", ["V", "E", "F", "L", "candidates", "states", "port ms", "Rust ms", "port/Rust"].map(String::from));
+    let row = |name: &str, words: [String; 9]| columns(&format!("{name:<16}"), [3, 3, 3, 4, 11, 8, 9, 9, 10], words);
+    row("", ["V", "E", "F", "L", "candidates", "states", "port ms", "Rust ms", "port/Rust"].map(String::from));
     for (name, record, lambda) in large() {
         let (e, f) = (record.n_edges(), record.n_edges() + 1 - record.n_vertices);
         let sheet = sheet_with(&record, lambda);
@@ -121,7 +124,7 @@ fn enumerate_gauge_invariant() {
         let candidates = (2 * lambda as usize + 1).pow(f as u32);
         let [v, e, f, l, candidates, count] =
             [record.n_vertices, e, f, lambda as usize, candidates, count].map(|number| number.to_string());
-        columns(name, [v, e, f, l, candidates, count, format!("{port:.2}"), format!("{rust:.2}"), format!("{:.3}", port / rust)]);
+        row(name, [v, e, f, l, candidates, count, format!("{port:.2}"), format!("{rust:.2}"), format!("{:.3}", port / rust)]);
     }
     println!();
     println!("small ones, a call");
@@ -140,6 +143,12 @@ fn enumerate_gauge_invariant() {
         });
         println!("{vertices:>4} {:>4} {lambda:>4} {states:>9} {port:>10.0} {rust:>10.0} {:>10.3}", record.n_edges(), port / rust);
     }
+}
+
+/// A line of words, each as wide as its column.
+fn columns<const N: usize>(first: &str, widths: [usize; N], words: [String; N]) {
+    let line: String = widths.iter().zip(words).map(|(&width, word)| format!(" {word:>width$}")).collect();
+    println!("{first}{line}");
 }
 
 /// The best of three calls, or of more where they are short; what a call answers goes after the clock is read.
