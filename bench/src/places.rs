@@ -19,14 +19,13 @@ enum Ask {
 
 impl Ask {
     /// Of a state near a place: itself, from beside it, and the next one before it that the triangle does not take out of the band.
-    fn near(at: usize, space: &U1HilbertSpace, record: &SimplicialComplex) -> Vec<Ask> {
+    fn near(at: usize, space: &U1HilbertSpace, record: &SimplicialComplex) -> [Ask; 3] {
         let configuration = space.index_to_config(at).to_vec();
         let mut start = configuration.clone();
         start[EDGE] -= DELTA;
         let inside = |state: &usize| Ask::TriangleShift { state: *state }.rust(space, record).is_some();
         let state = (0..=at).rev().find(inside).expect("the first state can be shifted");
-        let all = [Ask::Place { configuration }, Ask::Shift { start }, Ask::TriangleShift { state }];
-        all.into_iter().filter(Ask::there).collect()
+        [Ask::Place { configuration }, Ask::Shift { start }, Ask::TriangleShift { state }]
     }
 
     fn name(&self) -> &'static str {
@@ -34,15 +33,6 @@ impl Ask {
             Ask::Place { .. } => "config_to_index",
             Ask::Shift { .. } => "apply_shift",
             Ask::TriangleShift { .. } => "apply_triangle_shift",
-        }
-    }
-
-    /// Whether the library has the call.
-    fn there(&self) -> bool {
-        match self {
-            Ask::Place { .. } => port::CONFIG_TO_INDEX,
-            Ask::Shift { .. } => port::APPLY_SHIFT,
-            Ask::TriangleShift { .. } => port::APPLY_TRIANGLE_SHIFT,
         }
     }
 
@@ -68,9 +58,6 @@ impl Ask {
 /// The port fills one lent list again and again; the Rust makes its basis and map anew each time, and letting go of them is not timed.
 pub fn table() {
     println!("places (the port judges the sheet and lists its basis each time; the Rust's U1HilbertSpace::new is counted)");
-    if let Some(missing) = port::missing() {
-        println!("{missing}");
-    }
     let row = |name: &str, call: &str, words: [String; 6]| columns(&format!("{name:<6} {call:<20}"), [4, 8, 8, 9, 9, 10], words);
     row("", "", ["L", "states", "place", "port ms", "Rust ms", "port/Rust"].map(String::from));
     for (name, mut record, lambda) in large().into_iter().filter(|(name, ..)| ["K4", "K5", "chain"].contains(name)) {

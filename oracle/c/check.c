@@ -230,7 +230,6 @@ static int listings(void)
     return 0;
 }
 
-#ifdef HAS_config_to_index
 static int places(void)
 {
     const int32_t zero[] = {0, 0, 0, 0}, last[] = {1, -1, 1}, unlawful[] = {0, 0, 1}, outside[] = {2, -2, 2};
@@ -251,9 +250,7 @@ static int places(void)
     CHECK(zibrotka_config_to_index(point_sheet, 11, NULL, 0, NULL, 0) == 0);
     return 0;
 }
-#endif
 
-#ifdef HAS_apply_shift
 static int shifts(void)
 {
     const int32_t zero[] = {0, 0, 0, 0}, below[] = {INT32_MIN, 0, 0}, above[] = {INT32_MAX, 1, -1};
@@ -279,9 +276,7 @@ static int shifts(void)
     CHECK(memcmp(result, on_triangle, 12) == 0);
     return 0;
 }
-#endif
 
-#ifdef HAS_apply_triangle_shift
 static int triangle_shifts(void)
 {
     int32_t states[16];
@@ -300,24 +295,12 @@ static int triangle_shifts(void)
     CHECK(zibrotka_apply_triangle_shift(triangle_sheet, 20, 0, 1, states, 9) == 2);
     return 0;
 }
-#endif
 
 int main(void)
 {
-    if (making() || reading() || triangle_edges() || pentachora() || trees() || laws() || listings())
+    if (making() || reading() || triangle_edges() || pentachora() || trees() || laws() || listings() || places() || shifts() ||
+        triangle_shifts())
         return 1;
-#ifdef HAS_config_to_index
-    if (places())
-        return 1;
-#endif
-#ifdef HAS_apply_shift
-    if (shifts())
-        return 1;
-#endif
-#ifdef HAS_apply_triangle_shift
-    if (triangle_shifts())
-        return 1;
-#endif
     printf("C: %d checks passed\n", passed);
     return 0;
 }

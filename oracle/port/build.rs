@@ -1,10 +1,7 @@
 //! Links libzibrotka.a from the folder that ZIBROTKA_LIB names, else from target/staticlib of the repository.
 
+use std::env;
 use std::path::Path;
-use std::{env, fs};
-
-/// Calls that a library may not have yet: src/lib.rs has a switch for each.
-const LATER: [&str; 3] = ["config_to_index", "apply_shift", "apply_triangle_shift"];
 
 fn main() {
     println!("cargo:rerun-if-env-changed=ZIBROTKA_LIB");
@@ -17,13 +14,4 @@ fn main() {
     assert!(library.is_file(), "no {}: make it with `rt staticlib zibrotka`, or set ZIBROTKA_LIB to its folder", library.display());
     println!("cargo:rustc-link-search=native={}", folder.display());
     println!("cargo:rustc-link-lib=static=zibrotka");
-    // an archive begins with the names that it has
-    let archive = fs::read(&library).unwrap();
-    for call in LATER {
-        println!("cargo:rustc-check-cfg=cfg({call})");
-        let name = format!("zibrotka_{call}\0");
-        if archive.windows(name.len()).any(|bytes| bytes == name.as_bytes()) {
-            println!("cargo:rustc-cfg={call}");
-        }
-    }
 }

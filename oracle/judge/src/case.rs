@@ -71,38 +71,24 @@ impl Kind {
         self != Kind::EdgeShiftsBeyond
     }
 
-    /// Whether the library has the call.
-    pub const fn there(self) -> bool {
-        match self {
-            Kind::Places => port::CONFIG_TO_INDEX,
-            Kind::EdgeShifts | Kind::EdgeShiftsBeyond => port::APPLY_SHIFT,
-            Kind::TriangleShifts => port::APPLY_TRIANGLE_SHIFT,
-            _ => true,
-        }
-    }
-
-    /// Those that this library can be asked for.
-    fn all() -> impl Iterator<Item = Kind> {
-        const ALL: [Kind; 16] = [
-            Kind::FromPentachora,
-            Kind::TriangleEdges,
-            Kind::SheetMade,
-            Kind::SheetRead,
-            Kind::ReadBack,
-            Kind::WrittenAgain,
-            Kind::Trees,
-            Kind::Lawful,
-            Kind::NotLawful,
-            Kind::LawfulBeyond,
-            Kind::NotLawfulBeyond,
-            Kind::Listings,
-            Kind::Places,
-            Kind::EdgeShifts,
-            Kind::EdgeShiftsBeyond,
-            Kind::TriangleShifts,
-        ];
-        ALL.into_iter().filter(|kind| kind.there())
-    }
+    const ALL: [Kind; 16] = [
+        Kind::FromPentachora,
+        Kind::TriangleEdges,
+        Kind::SheetMade,
+        Kind::SheetRead,
+        Kind::ReadBack,
+        Kind::WrittenAgain,
+        Kind::Trees,
+        Kind::Lawful,
+        Kind::NotLawful,
+        Kind::LawfulBeyond,
+        Kind::NotLawfulBeyond,
+        Kind::Listings,
+        Kind::Places,
+        Kind::EdgeShifts,
+        Kind::EdgeShiftsBeyond,
+        Kind::TriangleShifts,
+    ];
 }
 
 /// How many comparisons were made, by kind and by what was expected (0 for an accepted input, else the refusal).
@@ -121,7 +107,7 @@ impl Tally {
     }
 
     pub fn print_answers(&self) {
-        for kind in Kind::all() {
+        for kind in Kind::ALL {
             let met = |expected: u8| self.counts.get(&(kind, expected)).copied().unwrap_or(0);
             let refused: Vec<String> = kind.refusals().iter().map(|&number| format!("{number}: {}", met(number))).collect();
             let refused = if refused.is_empty() { String::new() } else { format!(", refused {}", refused.join(", ")) };
@@ -132,7 +118,7 @@ impl Tally {
     /// The kinds with an answer that no input asked for: then the run itself is too thin.
     pub fn missed(&self) -> Vec<String> {
         let mut missed = vec![];
-        for kind in Kind::all() {
+        for kind in Kind::ALL {
             let accepted: &[u8] = if kind.accepts() { &[0] } else { &[] };
             for &expected in accepted.iter().chain(kind.refusals()) {
                 if !self.counts.contains_key(&(kind, expected)) {
@@ -144,7 +130,7 @@ impl Tally {
     }
 
     pub fn last_line(&self) -> String {
-        let met = Kind::all().filter(|&kind| self.of(kind) > 0);
+        let met = Kind::ALL.into_iter().filter(|&kind| self.of(kind) > 0);
         let kinds: Vec<String> = met.map(|kind| format!("{} {}", self.of(kind), kind.name())).collect();
         let total: u64 = self.counts.values().sum();
         format!("judge: {total} comparisons, no difference: {}", kinds.join(", "))
@@ -152,8 +138,6 @@ impl Tally {
 }
 
 pub trait Case: Clone + Send + 'static {
-    /// Whether the library has the call; where it has not, nothing is compared.
-    const THERE: bool = true;
     /// Calls both sides; the text says what differs.
     fn compare(&self, tally: &mut Tally) -> Result<(), String>;
     /// Inputs to try in its place; only those that are smaller are looked at.
@@ -164,9 +148,6 @@ pub trait Case: Clone + Send + 'static {
 
 /// Compares one input. A difference is shown with the smallest input that could be found for it, and ends the program.
 pub fn run<C: Case>(case: &C, tally: &mut Tally) {
-    if !C::THERE {
-        return;
-    }
     enter(case);
     if let Err(what) = case.compare(tally) {
         let (case, what) = smallest(case.clone(), what);

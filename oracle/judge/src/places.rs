@@ -27,8 +27,6 @@ impl Place {
 }
 
 impl Case for Place {
-    const THERE: bool = Kind::Places.there();
-
     fn compare(&self, tally: &mut Tally) -> Result<(), String> {
         let call = |sheet: &[u8], states: &mut [i32]| port::config_to_index(sheet, &self.configuration, states);
         self.given.compare(Kind::Places, self.spare, |basis, room| self.expected(basis, room), call, tally)

@@ -17,16 +17,9 @@ const QUICK_ROUNDS: usize = 12_000;
 
 type Part = (&'static str, fn(&mut Tally));
 
-fn begin(what: &str) {
-    println!("{what}");
-    if let Some(missing) = port::missing() {
-        println!("{missing}");
-    }
-}
-
 pub fn quick() -> Tally {
     let mut tally = Tally::default();
-    begin(&format!("quick run, seed {QUICK_SEED}"));
+    println!("quick run, seed {QUICK_SEED}");
     let parts: [Part; 14] = [
         ("cases that were written down", written_down),
         ("every short list of pentachora", short_pentachora),
@@ -58,7 +51,7 @@ pub fn quick() -> Tally {
 
 pub fn long(seed: u64, minutes: f64) -> Tally {
     let mut tally = Tally::default();
-    begin(&format!("long run, seed {seed}, {minutes} minutes"));
+    println!("long run, seed {seed}, {minutes} minutes");
     let mut random = Random::new(seed);
     let end = Instant::now() + Duration::from_secs_f64(60.0 * minutes);
     while Instant::now() < end {

@@ -36,8 +36,6 @@ impl EdgeShift {
 }
 
 impl Case for EdgeShift {
-    const THERE: bool = Kind::EdgeShifts.there();
-
     fn compare(&self, tally: &mut Tally) -> Result<(), String> {
         let n_edges = self.given.basis()?.map_or(MOST_EDGES, |basis| basis.sheet.complex.edges.len());
         let rooms = self.room.lengths(self.given.need()?, n_edges);
@@ -134,8 +132,6 @@ impl TriangleShift {
 }
 
 impl Case for TriangleShift {
-    const THERE: bool = Kind::TriangleShifts.there();
-
     fn compare(&self, tally: &mut Tally) -> Result<(), String> {
         let call = |sheet: &[u8], states: &mut [i32]| port::apply_triangle_shift(sheet, self.triangle, self.state, states);
         self.given.compare(Kind::TriangleShifts, self.spare, |basis, room| self.expected(basis, room), call, tally)

@@ -5,23 +5,6 @@
 pub const EDGE_BYTES: usize = 2 * 63;
 pub const TRIANGLE_BYTES: usize = 3 * 256;
 
-/// Whether the library has these calls; the build looks for their names. Once every library has one, its switch, its place in build.rs
-/// and run, and what asks for it go.
-pub const CONFIG_TO_INDEX: bool = cfg!(config_to_index);
-pub const APPLY_SHIFT: bool = cfg!(apply_shift);
-pub const APPLY_TRIANGLE_SHIFT: bool = cfg!(apply_triangle_shift);
-
-/// One line that names the calls that the library does not have, if there are any.
-pub fn missing() -> Option<String> {
-    let later = [
-        ("zibrotka_config_to_index", CONFIG_TO_INDEX),
-        ("zibrotka_apply_shift", APPLY_SHIFT),
-        ("zibrotka_apply_triangle_shift", APPLY_TRIANGLE_SHIFT),
-    ];
-    let names: Vec<&str> = later.into_iter().filter(|&(_, there)| !there).map(|(name, _)| name).collect();
-    (!names.is_empty()).then(|| format!("left out, since the library does not have them yet: {}", names.join(", ")))
-}
-
 // A slice goes over as two arguments, pointer and length: `&[T]` in such a declaration would be one argument of two words.
 mod raw {
     use super::{EDGE_BYTES, TRIANGLE_BYTES};
@@ -73,37 +56,15 @@ mod raw {
             configuration_len: usize,
         ) -> i64;
         pub fn zibrotka_enumerate_gauge_invariant(sheet: *const u8, sheet_len: usize, states: *mut i32, states_len: usize) -> i64;
-    }
-
-    // declared where the library has the call; where it has not, asking for it stops the program
-    macro_rules! later {
-        ($switch:ident, $name:ident($($argument:ident: $type:ty),* $(,)?)) => {
-            #[cfg($switch)]
-            unsafe extern "C" {
-                pub fn $name($($argument: $type),*) -> i64;
-            }
-            #[cfg(not($switch))]
-            #[allow(clippy::too_many_arguments)]
-            pub unsafe fn $name($(_: $type),*) -> i64 {
-                panic!(concat!("this library has no ", stringify!($name)))
-            }
-        };
-    }
-
-    later!(
-        config_to_index,
-        zibrotka_config_to_index(
+        pub fn zibrotka_config_to_index(
             sheet: *const u8,
             sheet_len: usize,
             configuration: *const i32,
             configuration_len: usize,
             states: *mut i32,
             states_len: usize,
-        )
-    );
-    later!(
-        apply_shift,
-        zibrotka_apply_shift(
+        ) -> i64;
+        pub fn zibrotka_apply_shift(
             sheet: *const u8,
             sheet_len: usize,
             configuration: *const i32,
@@ -114,19 +75,16 @@ mod raw {
             states_len: usize,
             result: *mut i32,
             result_len: usize,
-        )
-    );
-    later!(
-        apply_triangle_shift,
-        zibrotka_apply_triangle_shift(
+        ) -> i64;
+        pub fn zibrotka_apply_triangle_shift(
             sheet: *const u8,
             sheet_len: usize,
             triangle: u64,
             state: u64,
             states: *mut i32,
             states_len: usize,
-        )
-    );
+        ) -> i64;
+    }
 }
 
 /// A sheet's bytes from flat edges and triangles; answers how many bytes were written.
