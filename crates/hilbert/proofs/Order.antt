@@ -6,15 +6,14 @@ use mathlib.Core.Path.{_≡_, refl, sym, ap, _∙_}
 use mathlib.Core.Logic.{_⊎_, inl, inr}
 use native.Mathlib.Omega.{arith}
 use native.Mathlib.Decide.{decLt, ℕ-discrete}
-use lib.Dec.{ltb, leb·suc-suc}
+use lib.Dec.{ltb}
 use lib.IntN.{ℤ, pos, natAbs}
 use lib.Signed.{ltZ, _<ℤ_}
 use lib.ListN.{getD, length}
 use borrow.Author.Tests.{lt-ltb, le-ltb, leb-true, le-leb}
-use Rattle.mathematics.specs.Counting.{keep}
 use Rattle.mathematics.proofs.Tests.{and-parts, and-both, all-at, at-all}
 use Rattle.mathematics.proofs.Integers.{by-parts, less-by-parts, less-to-parts, less-test, not-less-test, test-less, test-not-less}
-use Rattle.mathematics.proofs.Ordered.{ordered-at, place-member, member-place}
+use Rattle.mathematics.proofs.Ordered.{ordered-at, place-member, member-place, kept-front}
 use Rattle.mathematics.proofs.Below.{listed-member, member-listed}
 use Rattle.mathematics.proofs.Flat.{flatten-row}
 use Rattle.complex.specs.Complex.{Complex}
@@ -143,17 +142,6 @@ unfolding comes-before smaller
 self-smaller c s = smaller-past (free-edges c) s s 0 (length (free-edges c)) (omega arith) (λ j a b. refl)
 
 -- ---- the place of a listed configuration
--- where just the first k entries pass, k pass
-kept-front : {A : Type 0} (p : A → Bool) (d : A) (l : List A) (k : ℕ) → k ≤ length l → ((i : ℕ) → i < length l → p (getD l i d) ≡ ltb i k) → length (keep p l) ≡ k
-unfolding keep
-kept-front p d [] k h pass = omega arith
-kept-front p d (x ∷ l) zero h pass =
-    rw (pass 0 (omega arith) ∙ le-ltb 0 0 (omega arith))
-    (kept-front p d l zero (omega arith) (λ i b. pass (suc i) (omega arith) ∙ le-ltb (suc i) 0 (omega arith) ∙ sym (le-ltb i 0 (omega arith))))
-kept-front p d (x ∷ l) (suc k) h pass =
-    rw (pass 0 (omega arith) ∙ lt-ltb 0 (suc k) (omega arith))
-    (ap suc (kept-front p d l k (omega arith) (λ i b. pass (suc i) (omega arith) ∙ leb·suc-suc (suc i) k)))
-
 module _ (c : Complex) (accepted : Accepted c) (L : ℕ) where
   complete : Complete c (λ v. pos 0) L (states c L)
   unfolding states

@@ -14,3 +14,6 @@ pub mod Below
 pub mod Flags
 pub mod Digits
 pub mod Pasted
+pub mod Bits
+pub mod Totals
+pub mod Appended

@@ -1,9 +1,11 @@
 -- Lists by their entries: what holds of each, what is a member, and what holds between each entry and all later ones.
-use Prim.Native.Nat.{ℕ, zero, suc, _<_}
+use Prim.Native.Nat.{ℕ, zero, suc, _<_, _≤_}
 use mathlib.Core.List.{List, [], _∷_, _++_, map}
 use mathlib.Core.Bool.{Bool, true, false, cond, false≢true}
 use mathlib.Core.Path.{_≡_, refl, sym, _∙_, ap}
 use native.Mathlib.Omega.{arith}
+use borrow.Author.Tests.{lt-ltb, le-ltb}
+use lib.Dec.{ltb, leb·suc-suc}
 use lib.ListN.{getD, length}
 use Rattle.mathematics.specs.Counting.{keep}
 
@@ -159,6 +161,17 @@ module _ {A : Type 0} (p : A → Bool) where
       go : (b : Bool) → Member x (keep p l) → Member x (cond b (y ∷ keep p l) (keep p l))
       go true ih = behind ih
       go false ih = ih
+
+-- where just the first k entries pass, k pass
+pub kept-front : {A : Type 0} (p : A → Bool) (d : A) (l : List A) (k : ℕ) → k ≤ length l → ((i : ℕ) → i < length l → p (getD l i d) ≡ ltb i k) → length (keep p l) ≡ k
+unfolding keep
+kept-front p d [] k h pass = omega arith
+kept-front p d (x ∷ l) zero h pass =
+    rw (pass 0 (omega arith) ∙ le-ltb 0 0 (omega arith))
+    (kept-front p d l zero (omega arith) (λ i b. pass (suc i) (omega arith) ∙ le-ltb (suc i) 0 (omega arith) ∙ sym (le-ltb i 0 (omega arith))))
+kept-front p d (x ∷ l) (suc k) h pass =
+    rw (pass 0 (omega arith) ∙ lt-ltb 0 (suc k) (omega arith))
+    (ap suc (kept-front p d l k (omega arith) (λ i b. pass (suc i) (omega arith) ∙ leb·suc-suc (suc i) k)))
 
 -- ---- two strictly ordered lists with the same members are equal
 module _ {A : Type 0} (R : A → A → Type 0) (trans : (x y z : A) → R x y → R y z → R x z) (irreflexive : (x : A) → R x x → ⊥) where

@@ -3,3 +3,4 @@ pub mod Lists
 pub mod Refusals
 pub mod Integers
 pub mod Counting
+pub mod Bits
