@@ -1,0 +1,4 @@
+pub mod EvenSets
+pub mod Loops
+pub mod Forest
+pub mod Basis

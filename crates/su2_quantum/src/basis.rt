@@ -1,0 +1,62 @@
+// The list of all even edge sets.
+use crate::forest::closing_loops;
+use complex::SimplicialComplex;
+use complex::judge::judge;
+ghost use mathlib.Core.Path.{_≡_};
+ghost use mathlib.Core.List.{_++_, map};
+ghost use Prim.Native.Nat.{_+_, _^_, _≤_};
+ghost use lib.Bits.{bitXor};
+ghost use lib.ListN.{length, take, drop};
+ghost use Rattle.complex.specs.Complex.{complexOf};
+ghost use Rattle.su2_quantum.specs.Loops.{spanned};
+ghost use Rattle.su2_quantum.specs.Basis.{Su2Listed};
+
+// The first masks, each with a loop added, go behind them.
+fn double(states: &mut [u64], count: usize, cycle: u64)
+    requires { ⌜ (count ≤ 2 ^ 20) × (count + count ≤ length (now states)) ⌝ }
+    ensures { λ _. ⌜ now (states .exit) ≡ take count (now (states .entry)) ++ map (λ x. bitXor x cycle) (take count (now (states .entry))) ++ drop (count + count) (now (states .entry)) ⌝ }
+{
+    for i in 0..count {
+        states[count + i] = states[i] ^ cycle;
+    }
+}
+
+// All sums of the first loops go to the beginning of a list.
+fn write_masks(states: &mut [u64], loops: &[u64; 63], n: usize)
+    requires { ⌜ (length (now loops) ≡ 63) × (n ≤ 20) × (2 ^ n ≤ length (now states)) ⌝ }
+    ensures { λ _. ⌜ now (states .exit) ≡ spanned (now (loops .entry)) n ++ drop (2 ^ n) (now (states .entry)) ⌝ }
+{
+    states[0] = 0;
+    let mut count = 1;
+    for j in 0..n {
+        double(states, count, loops[j]);
+        count += count;
+    }
+}
+
+pub enum Su2Basis {
+    States(usize),
+    Refused(u8),
+}
+
+// All even edge sets of a record, ascending, go to the beginning of the list. The record is judged first.
+pub fn su2_basis(c: SimplicialComplex, states: &mut [u64]) -> Su2Basis
+    ensures { λ r. ⌜ Su2Listed (complexOf c) (now (states .entry)) (now (states .exit)) r ⌝ }
+{
+    let number = judge(c);
+    if number != 0 {
+        return Su2Basis::Refused(number);
+    }
+    let f = closing_loops(c);
+    let n = f.count;
+    if 20 < n {
+        return Su2Basis::Refused(10);
+    }
+    let count = 1 << n;
+    if states.len() < count {
+        return Su2Basis::Refused(15);
+    }
+    let loops = f.loops;
+    write_masks(states, &loops, n);
+    Su2Basis::States(count)
+}

@@ -1,0 +1,4 @@
+// The two-valued truncation of SU(2): even edge sets as masks.
+
+pub mod basis;
+pub mod forest;
