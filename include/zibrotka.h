@@ -135,6 +135,13 @@ int64_t zibrotka_apply_triangle_shift(const uint8_t *sheet, size_t sheet_len,
                                       uint64_t triangle, uint64_t state,
                                       int32_t *states, size_t states_len);
 
+/*
+ * The basis of the two-valued truncation: every set of edges with an even number of edges at each vertex, as a mask whose bit e says that
+ * edge e is in the set. The masks go to the front of `states`, ascending. Answers their number, 2 to the number of free edges, or minus
+ * one of 1 to 9, 10 (more than 1,048,576) or 15 (fewer entries than masks). L plays no part, but a sheet with an L over 1000 is 5.
+ */
+int64_t zibrotka_su2_basis(const uint8_t *sheet, size_t sheet_len, uint64_t *states, size_t states_len);
+
 #ifdef __cplusplus
 }
 #endif

@@ -23,6 +23,8 @@ use Rattle.hilbert.specs.Basis.{place, At}
 use Rattle.hilbert.specs.Index.{index-refusal}
 use Rattle.hilbert.specs.Shift.{shift-refusal}
 use Rattle.hamiltonian.specs.Triangle.{shifted-state, triangle-refusal}
+use Rattle.su2_quantum.specs.EvenSets.{su2-states, EvenComplete}
+use Rattle.su2_quantum.specs.Basis.{su2-refusal}
 use Rattle.zibrotka.specs.declared.Told.{Told}
 use Rattle.zibrotka.specs.declared.Opened.{Opened}
 use Rattle.zibrotka.specs.declared.Edges.{Edges}
@@ -139,3 +141,9 @@ pub record TrianglePlaces (b : List ℕ) (t k : ℕ) (old : List ℤ) (r : ℤ) 
   pub answer : r ≡ signed (outcome (after-sheet b (triangle-refusal (complexIn b) (sheetIn b .lambda) t k (length old))) (place (complexIn b) (sheetIn b .lambda) (shifted-state (complexIn b) (sheetIn b .lambda) t k)))
   pub list : new ≡ written (after-sheet b (triangle-refusal (complexIn b) (sheetIn b .lambda) t k (length old))) (basis-first (complexIn b) (sheetIn b .lambda) old) old
   pub found : after-sheet b (triangle-refusal (complexIn b) (sheetIn b .lambda) t k (length old)) ≡ 0 → At (complexIn b) (sheetIn b .lambda) (shifted-state (complexIn b) (sheetIn b .lambda) t k) (place (complexIn b) (sheetIn b .lambda) (shifted-state (complexIn b) (sheetIn b .lambda) t k))
+
+-- zibrotka_su2_basis: the list begins with all masks, ascending
+pub record Masks (b old : List ℕ) (r : ℤ) (new : List ℕ) : Type 0 where
+  pub answer : r ≡ signed (outcome (after-sheet b (su2-refusal (complexIn b) (length old))) (length (su2-states (complexIn b))))
+  pub list : new ≡ written (after-sheet b (su2-refusal (complexIn b) (length old))) (su2-states (complexIn b) ++ drop (length (su2-states (complexIn b))) old) old
+  pub complete : after-sheet b (su2-refusal (complexIn b) (length old)) ≡ 0 → EvenComplete (complexIn b) (su2-states (complexIn b))

@@ -17,6 +17,8 @@ use sheet::Sheet;
 use sheet::Written;
 use sheet::make_sheet;
 use sheet::read_sheet;
+use su2_quantum::basis::Su2Basis;
+use su2_quantum::basis::su2_basis;
 use walker::enumerate::Enumerated;
 use walker::enumerate::enumerate_gauge_invariant;
 ghost use mathlib.Core.Path.{_≡_};
@@ -28,7 +30,8 @@ ghost use Rattle.gauss_law.specs.Law.{lawAnswer};
 ghost use Rattle.walker.specs.Enumeration.{enumeratedAnswer};
 ghost use Rattle.hilbert.specs.Index.{indexAnswer};
 ghost use Rattle.hamiltonian.specs.Triangle.{triangleAnswer};
-ghost use Rattle.zibrotka.specs.Exports.{toldOf, signedOf, readingNumber, yesOf, OpenedOf, edgesOf, numbersOf, MakeSheet, ReadSheet, EdgeIndices, Pentachora, SpanningTree, GaussLaw, States, Places, ShiftedPlaces, TrianglePlaces};
+ghost use Rattle.su2_quantum.specs.Basis.{su2Answer};
+ghost use Rattle.zibrotka.specs.Exports.{toldOf, signedOf, readingNumber, yesOf, OpenedOf, edgesOf, numbersOf, MakeSheet, ReadSheet, EdgeIndices, Pentachora, SpanningTree, GaussLaw, States, Places, ShiftedPlaces, TrianglePlaces, Masks};
 
 // A value, or the refusal, which is not 0.
 pub struct Told {
@@ -100,6 +103,21 @@ fn told_law(answer: GaussCheck) -> Told
             value: yes as usize,
         },
         GaussCheck::Refused(number) => Told {
+            refusal: number,
+            value: 0,
+        },
+    }
+}
+
+fn told_masks(answer: Su2Basis) -> Told
+    ensures { λ r. ⌜ r ≡ toldOf (su2Answer answer) ⌝ }
+{
+    match answer {
+        Su2Basis::States(count) => Told {
+            refusal: 0,
+            value: count,
+        },
+        Su2Basis::Refused(number) => Told {
             refusal: number,
             value: 0,
         },
@@ -448,4 +466,18 @@ pub extern "C" fn zibrotka_apply_triangle_shift(
         states,
     );
     signed(told_triangle(answer))
+}
+
+// All even edge sets of a sheet: their number.
+#[no_mangle]
+pub extern "C" fn zibrotka_su2_basis(sheet: &[u8], states: &mut [u64]) -> i64
+    ensures { λ r. ⌜ Masks (now (sheet .entry)) (now (states .entry)) r (now (states .exit)) ⌝ }
+{
+    let opened = open(sheet);
+    let number = opened.refusal;
+    if number != 0 {
+        return refused(number);
+    }
+    let s = opened.sheet;
+    signed(told_masks(su2_basis(s.complex, states)))
 }
