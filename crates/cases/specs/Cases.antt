@@ -11,6 +11,7 @@ use Rattle.complex.specs.Complex.{Complex}
 use Rattle.complex.specs.Judge.{refusal}
 use Rattle.gauss_law.specs.Listing.{tree-edges, free-edges}
 use Rattle.hamiltonian.specs.Triangle.{triangleOutcome}
+use Rattle.su2_quantum.specs.EvenSets.{su2-states}
 use Rattle.lines.specs.Lines.{ascii}
 use Rattle.lines.specs.Printed.{printed}
 
@@ -29,14 +30,16 @@ pub record Case : Type 0 where
   pub free : List ℕ
   pub text : String
   pub shifts : List Shift
+  pub masks : List ℕ
 
--- what is claimed of a case: it is accepted, and its tree, its free edges, its printed basis and its shifts are the expected ones
+-- what is claimed of a case: it is accepted, and its tree, its free edges, its printed basis, its shifts and its two-valued basis are the expected ones
 pub record Holds (k : Case) : Type 0 where
   pub accepted : refusal (k .complex) ≡ 0
   pub tree : tree-edges (k .complex) ≡ k .tree
   pub free : free-edges (k .complex) ≡ k .free
   pub basis : printed (k .complex) (k .truncation) ≡ ascii (k .text)
   pub shifts : Each (λ x. triangleOutcome (k .complex) (k .truncation) (x .triangle) (x .state) (x .room) ≡ x .told) (k .shifts)
+  pub masks : su2-states (k .complex) ≡ k .masks
 
 unfoldable pub triangle : Complex
 triangle =
@@ -63,6 +66,7 @@ table =
       free = 2 ∷ [];
       text = "vertices 3 edges 3 triangles 1 lambda 1 dim 3\n0 -1 1 -1\n1 0 0 0\n2 1 -1 1\n";
       shifts = record { triangle = 0; state = 2; room = 9; told = refused 16 } ∷ record { triangle = 0; state = 0; room = 9; told = value 1 } ∷ [];
+      masks = 0 ∷ 7 ∷ [];
     }
     ∷ record {
       complex = triangle;
@@ -71,6 +75,7 @@ table =
       free = 2 ∷ [];
       text = "vertices 3 edges 3 triangles 1 lambda 0 dim 1\n0 0 0 0\n";
       shifts = record { triangle = 0; state = 0; room = 3; told = refused 16 } ∷ [];
+      masks = 0 ∷ 7 ∷ [];
     }
     ∷ record {
       complex = one-vertex;
@@ -79,6 +84,7 @@ table =
       free = [];
       text = "vertices 1 edges 0 triangles 0 lambda 1 dim 1\n0\n";
       shifts = [];
+      masks = 0 ∷ [];
     }
     ∷ record {
       complex = tetrahedron;
@@ -87,5 +93,6 @@ table =
       free = 3 ∷ 4 ∷ 5 ∷ [];
       text = "vertices 4 edges 6 triangles 4 lambda 1 dim 15\n0 -1 0 1 -1 0 -1\n1 0 -1 1 0 0 -1\n2 0 0 0 -1 1 -1\n3 1 -1 0 0 1 -1\n4 -1 0 1 0 -1 0\n5 0 -1 1 1 -1 0\n6 -1 1 0 -1 0 0\n7 0 0 0 0 0 0\n8 1 -1 0 1 0 0\n9 0 1 -1 -1 1 0\n10 1 0 -1 0 1 0\n11 -1 1 0 0 -1 1\n12 0 0 0 1 -1 1\n13 0 1 -1 0 0 1\n14 1 0 -1 1 0 1\n";
       shifts = record { triangle = 3; state = 7; room = 90; told = value 12 } ∷ record { triangle = 3; state = 8; room = 90; told = refused 16 } ∷ [];
+      masks = 0 ∷ 11 ∷ 21 ∷ 30 ∷ 38 ∷ 45 ∷ 51 ∷ 56 ∷ [];
     }
     ∷ []

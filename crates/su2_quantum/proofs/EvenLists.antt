@@ -52,14 +52,14 @@ module _ (c : Complex) (accepted : Accepted c) where
   echelon = record { rising = grown-rising (c .edges); own = grown-own (c .edges); others = grown-others (c .edges); top = grown-top (c .edges) }
 
   -- a sum of loops is an even set
-  combined-listed : (k : ℕ) → Listed (combined loops k n)
+  pub combined-listed : (k : ℕ) → Listed (combined loops k n)
   combined-listed =
       combined-each Listed (even-zero c accepted, pow-pos (length (c .edges)))
       (λ x y p q. (even-xor c accepted x y (p .0) (q .0), xor-lt (length (c .edges)) x y (p .1) (q .1)))
       loops n (grown-loops c accepted)
 
   -- an even set is the sum of the loops of its closing edges
-  combined-all : (x : ℕ) → Listed x → combined loops (closing-bits closing x n) n ≡ x
+  pub combined-all : (x : ℕ) → Listed x → combined loops (closing-bits closing x n) n ≡ x
   combined-all x h =
       let y = combined loops (closing-bits closing x n) n in
       let k = combined-listed (closing-bits closing x n) in

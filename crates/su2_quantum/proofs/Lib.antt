@@ -6,3 +6,4 @@ pub mod ClosingCount
 pub mod EvenLists
 pub mod Doubling
 pub mod Telling
+pub mod Placing

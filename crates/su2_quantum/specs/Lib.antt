@@ -2,3 +2,4 @@ pub mod EvenSets
 pub mod Loops
 pub mod Forest
 pub mod Basis
+pub mod Place

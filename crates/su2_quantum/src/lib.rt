@@ -2,3 +2,4 @@
 
 pub mod basis;
 pub mod forest;
+pub mod place;

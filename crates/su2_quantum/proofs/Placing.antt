@@ -1,0 +1,87 @@
+-- The place of a mask, by the tables of its complex.
+use Prim.Native.Nat.{ℕ, zero, suc, _+_, _*_, _^_, _<_, _≤_}
+use mathlib.Core.List.{List}
+use mathlib.Core.Bool.{Bool, true, false, _&&_, cond, false≢true}
+use mathlib.Core.Path.{_≡_, refl, sym, ap, _∙_}
+use mathlib.Core.Logic.{_≢_}
+use native.Mathlib.Nat.{lt-of-lt-of-le}
+use native.Mathlib.Omega.{arith}
+use borrow.Author.Tests.{lt-ltb, ltb-true}
+use lib.Bits.{bitXor}
+use lib.Dec.{eqb, ltb}
+use lib.ListN.{getD, length}
+use lib.Seq.{getD-take}
+use Rattle.mathematics.specs.Bits.{bit}
+use Rattle.mathematics.proofs.Tests.{and-parts, and-both}
+use Rattle.complex.specs.Complex.{Complex}
+use Rattle.su2_quantum.specs.declared.forest.Forest.{Forest}
+use Rattle.su2_quantum.specs.declared.place.MaskPlace.the-variants.{Place, NotListed}
+use Rattle.su2_quantum.specs.EvenSets.{even, mask-place}
+use Rattle.su2_quantum.specs.Loops.{combined, closing-bits}
+use Rattle.su2_quantum.specs.Forest.{Front}
+use Rattle.su2_quantum.specs.Place.{maskPlaced, LoopsOf, Readable}
+use Rattle.su2_quantum.proofs.Forests.{all-grown, closing-below}
+use Rattle.su2_quantum.proofs.EvenLists.{combined-listed, combined-all, mask-place-read}
+
+-- only the first entries matter
+bits-same : (l m : List ℕ) (x n : ℕ) → ((j : ℕ) → j < n → getD l j 0 ≡ getD m j 0) → closing-bits l x n ≡ closing-bits m x n
+unfolding closing-bits
+bits-same l m x zero h = refl
+bits-same l m x (suc n) h = rw (bits-same l m x n (λ j k. h j (omega arith)), h n (omega arith))
+
+sums-same : (l m : List ℕ) (k n : ℕ) → ((j : ℕ) → j < n → getD l j 0 ≡ getD m j 0) → combined l k n ≡ combined m k n
+unfolding combined
+sums-same l m k zero h = refl
+sums-same l m k (suc n) h = rw (sums-same l m k n (λ j k. h j (omega arith)), h n (omega arith))
+
+front-at : (l list : List ℕ) (n : ℕ) → Front l list n → (j : ℕ) → j < n → getD list j 0 ≡ getD l j 0
+front-at l list n h j k = sym (getD-take n list j 0 k) ∙ ap (λ (m : List ℕ). getD m j 0) (h .stands)
+
+module _ (c : Complex) (f : Forest) (of : LoopsOf c f) (x : ℕ) where
+  abbrev closing : List ℕ
+  closing = all-grown (c .edges) .closing
+
+  abbrev loops : List ℕ
+  loops = all-grown (c .edges) .loops
+
+  number : f .count ≡ length closing
+  number = of .keeps .closing .count
+
+  place-is : closing-bits (f .closing) x (f .count) ≡ closing-bits closing x (length closing)
+  place-is = bits-same (f .closing) closing x (f .count) (front-at closing (f .closing) (f .count) (of .keeps .closing)) ∙ ap (closing-bits closing x) number
+
+  sum-is : (k : ℕ) → combined (f .loops) k (f .count) ≡ combined loops k (length closing)
+  sum-is k = sums-same (f .loops) loops k (f .count) (front-at loops (f .loops) (f .count) (of .keeps .loops)) ∙ ap (combined loops k) number
+
+  -- the sum of the loops of its closing edges is the mask itself just where it is listed
+  pub placed : combined (f .loops) (closing-bits (f .closing) x (f .count)) (f .count) ≡ x → Place (closing-bits (f .closing) x (f .count)) ≡ maskPlaced c x
+  unfolding maskPlaced
+  placed h =
+      let sum : combined loops (closing-bits closing x (length closing)) (length closing) ≡ x = ap (λ (k : ℕ). combined loops k (length closing)) (sym place-is) ∙ sym (sum-is _) ∙ h in
+      let here = rw sum at (combined-listed c (of .accepted) (closing-bits closing x (length closing))) in
+      rw (lt-ltb x (2 ^ length (c .edges)) (here .1), here .0) (ap Place (place-is ∙ sym (mask-place-read c (of .accepted) x (here .0) (here .1))))
+
+  pub not-listed : combined (f .loops) (closing-bits (f .closing) x (f .count)) (f .count) ≢ x → NotListed ≡ maskPlaced c x
+  unfolding maskPlaced
+  not-listed h = go (ltb x (2 ^ length (c .edges)) && even c x) refl
+    where
+      go : (b : Bool) → (ltb x (2 ^ length (c .edges)) && even c x) ≡ b → NotListed ≡ cond b (Place (mask-place c x)) NotListed
+      go false e = refl
+      go true e =
+          let r = and-parts (ltb x (2 ^ length (c .edges))) (even c x) e in
+          absurd (h (sum-is _ ∙ ap (λ (k : ℕ). combined loops k (length closing)) place-is ∙ combined-all c (of .accepted) x (r .1, ltb-true x (2 ^ length (c .edges)) (r .0))))
+
+-- the tables of an accepted complex with few closing edges can be read
+pub loops-readable : (c : Complex) (f : Forest) → LoopsOf c f → f .count ≤ 20 → Readable f
+loops-readable c f of few =
+    record {
+      long = of .keeps .closing .long;
+      loops-long = of .keeps .loops .long;
+      few = few;
+      below = λ j h.
+          rw (front-at (all-grown (c .edges) .closing) (f .closing) (f .count) (of .keeps .closing) j h)
+          (lt-of-lt-of-le (closing-below (c .edges) j (rw (← (of .keeps .closing .count)) h)) edges-few);
+    }
+  where
+    edges-few : length (c .edges) ≤ 64
+    edges-few = omega (arith, of .accepted .edges)
