@@ -84,6 +84,7 @@ mod raw {
             states: *mut i32,
             states_len: usize,
         ) -> i64;
+        pub fn zibrotka_su2_basis(sheet: *const u8, sheet_len: usize, states: *mut u64, states_len: usize) -> i64;
     }
 }
 
@@ -203,4 +204,9 @@ pub fn apply_shift(sheet: &[u8], configuration: &[i32], edge: u64, delta: i32, s
 /// The place that a triangle shifts the state at a place to; the work list gets the basis.
 pub fn apply_triangle_shift(sheet: &[u8], triangle: u64, state: u64, states: &mut [i32]) -> i64 {
     unsafe { raw::zibrotka_apply_triangle_shift(sheet.as_ptr(), sheet.len(), triangle, state, states.as_mut_ptr(), states.len()) }
+}
+
+/// Every set of edges that is even at each vertex, as a mask, ascending; answers the number of masks.
+pub fn su2_basis(sheet: &[u8], states: &mut [u64]) -> i64 {
+    unsafe { raw::zibrotka_su2_basis(sheet.as_ptr(), sheet.len(), states.as_mut_ptr(), states.len()) }
 }
