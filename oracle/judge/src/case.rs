@@ -24,6 +24,7 @@ pub enum Kind {
     EdgeShifts,
     EdgeShiftsBeyond,
     TriangleShifts,
+    Masks,
 }
 
 impl Kind {
@@ -45,6 +46,7 @@ impl Kind {
             Kind::EdgeShifts => "edges' shifts",
             Kind::EdgeShiftsBeyond => "edges' shifts beyond the Rust",
             Kind::TriangleShifts => "triangles' shifts",
+            Kind::Masks => "lists of masks",
         }
     }
 
@@ -58,7 +60,7 @@ impl Kind {
             Kind::ReadBack | Kind::WrittenAgain | Kind::Lawful | Kind::LawfulBeyond | Kind::NotLawfulBeyond => &[],
             Kind::Trees => &[1, 2, 3, 4, 5, 6, 7, 8, 9, 15],
             Kind::NotLawful => &[1, 2, 3, 4, 5, 6, 7, 8, 9, 12],
-            Kind::Listings => &[1, 2, 3, 4, 5, 6, 7, 8, 9, 10, 15],
+            Kind::Listings | Kind::Masks => &[1, 2, 3, 4, 5, 6, 7, 8, 9, 10, 15],
             Kind::Places => &[1, 2, 3, 4, 5, 6, 7, 8, 9, 10, 12, 15, 17],
             Kind::EdgeShifts => &[1, 2, 3, 4, 5, 6, 7, 8, 9, 10, 12, 13, 15, 16, 17],
             Kind::EdgeShiftsBeyond => &[16],
@@ -71,7 +73,7 @@ impl Kind {
         self != Kind::EdgeShiftsBeyond
     }
 
-    const ALL: [Kind; 16] = [
+    const ALL: [Kind; 17] = [
         Kind::FromPentachora,
         Kind::TriangleEdges,
         Kind::SheetMade,
@@ -88,6 +90,7 @@ impl Kind {
         Kind::EdgeShifts,
         Kind::EdgeShiftsBeyond,
         Kind::TriangleShifts,
+        Kind::Masks,
     ];
 }
 

@@ -59,6 +59,21 @@ pub fn small_graphs(mut visit: impl FnMut(usize, &Sheet, &mut Random)) {
     }
 }
 
+/// The fewest vertices that bear so many free edges.
+pub fn fewest_vertices(free: u64) -> u64 {
+    (1..=12).find(|vertices| vertices * (vertices - 1) / 2 >= vertices - 1 + free).expect("12 vertices bear 63 edges")
+}
+
+/// Numbers of vertices to try with so many free edges: the fewest, a few more, and many.
+pub fn sizes(random: &mut Random, free: u64) -> Vec<u64> {
+    let (fewest, most) = (fewest_vertices(free), 64 - free);
+    let mut sizes = vec![fewest, random.between(fewest, most.min(12))];
+    if most >= 40 {
+        sizes.push(if random.one_in(2) { most } else { random.between(40, most) });
+    }
+    sizes
+}
+
 /// Often few vertices, or so many that few edges can be free.
 pub fn any(random: &mut Random) -> Complex {
     let vertices = match random.below(6) {

@@ -127,17 +127,7 @@ fn small_graph(sheet: &Sheet, random: &mut Random, tally: &mut Tally) {
 pub fn limits(tally: &mut Tally) {
     let mut random = Random::new(QUICK_SEED);
     for free in 0..=52_u64 {
-        // the fewest vertices that bear so many edges, a few more, and many
-        let fewest =
-            (1..=12).find(|vertices| vertices * (vertices - 1) / 2 >= vertices - 1 + free).expect("12 vertices bear 63 edges");
-        let most = 64 - free;
-        let few = random.between(fewest, most.min(12));
-        let mut sizes = vec![fewest, few];
-        if most >= 40 {
-            let many = if random.one_in(2) { most } else { random.between(40, most) };
-            sizes.push(many);
-        }
-        for (at, vertices) in sizes.into_iter().enumerate() {
+        for (at, vertices) in complexes::sizes(&mut random, free).into_iter().enumerate() {
             let complex = inputs::complex_with(&mut random, vertices, free);
             assert_eq!(complex.edges.len() as u64, vertices - 1 + free, "the generator gave up");
             let largest = reference::largest_lambda(free as usize, MOST_CANDIDATES);

@@ -9,6 +9,8 @@ mod law;
 mod law_runs;
 mod lent;
 mod listing;
+mod mask_runs;
+mod masks;
 mod pentachora;
 mod place_runs;
 mod places;

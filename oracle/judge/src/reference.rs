@@ -353,3 +353,34 @@ pub fn apply_triangle_shift(sheet: &Sheet, states: &[Vec<i32>], triangle: u64, s
     }
     Ok(place(states, &shifted))
 }
+
+// ---- sets of edges that are even at each vertex, as masks
+
+/// Whether the set has an even number of edges at each vertex.
+pub fn even(complex: &Complex, mask: u64) -> bool {
+    let mut odd = vec![false; complex.vertices as usize];
+    for (edge, &[a, b]) in complex.edges.iter().enumerate() {
+        if mask >> edge & 1 == 1 {
+            odd[usize::from(a)] ^= true;
+            odd[usize::from(b)] ^= true;
+        }
+    }
+    !odd.contains(&true)
+}
+
+/// All of them by their definition, ascending. For few edges only.
+pub fn masks(complex: &Complex) -> Vec<u64> {
+    (0..1 << complex.edges.len()).filter(|&mask| even(complex, mask)).collect()
+}
+
+/// The sheet that masks are asked of and how many there are, or the first of 1 to 10 that holds.
+pub fn read_for_masks(bytes: &[u8]) -> Result<(Sheet, u64), u8> {
+    let sheet = read_sheet(bytes)?;
+    let count = 1 << sheet.complex.free_edges();
+    if count > MOST_CANDIDATES { Err(10) } else { Ok((sheet, count)) }
+}
+
+/// How many masks a lister has to write; none where the sheet is refused.
+pub fn masks_to_write(bytes: &[u8]) -> u64 {
+    read_for_masks(bytes).map_or(0, |(_, count)| count)
+}

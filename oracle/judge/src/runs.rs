@@ -4,6 +4,7 @@ use crate::case::{Tally, run};
 use crate::inputs;
 use crate::law_runs;
 use crate::lent::Room;
+use crate::mask_runs;
 use crate::pentachora::FromPentachora;
 use crate::place_runs;
 use crate::random::Random;
@@ -20,7 +21,7 @@ type Part = (&'static str, fn(&mut Tally));
 pub fn quick() -> Tally {
     let mut tally = Tally::default();
     println!("quick run, seed {QUICK_SEED}");
-    let parts: [Part; 14] = [
+    let parts: [Part; 18] = [
         ("cases that were written down", written_down),
         ("every short list of pentachora", short_pentachora),
         ("every sheet of a few small numbers", small_sheets),
@@ -40,6 +41,10 @@ pub fn quick() -> Tally {
         ("long lists", place_runs::long_lists),
         ("every triangle of every state of small graphs", place_runs::small_graphs),
         ("random places and shifts", place_runs::random_rounds),
+        ("masks that were written down", mask_runs::written_down),
+        ("masks of every graph on up to five vertices", mask_runs::small_graphs),
+        ("masks of every number of free edges", mask_runs::limits),
+        ("random masks", mask_runs::random_rounds),
     ];
     for (name, part) in parts {
         let start = Instant::now();
@@ -59,6 +64,7 @@ pub fn long(seed: u64, minutes: f64) -> Tally {
             random_round(&mut random, &mut tally);
             law_runs::random_round(&mut random, if round == 0 { reference::MOST_CANDIDATES } else { 3_000 }, &mut tally);
             place_runs::random_round(&mut random, if round == 0 { 100_000 } else { 1_000 }, &mut tally);
+            mask_runs::random_round(&mut random, if round == 0 { mask_runs::MOST_FREE } else { 11 }, &mut tally);
         }
     }
     tally
@@ -305,6 +311,7 @@ fn one_byte_changed(tally: &mut Tally) {
                 run(&TriangleEdges { sheet: changed.clone() }, tally);
                 law_runs::any_bytes(&changed, tally);
                 place_runs::any_bytes(&changed, tally);
+                mask_runs::any_bytes(&changed, tally);
                 run(&ReadSheet { bytes: changed }, tally);
             }
         }
@@ -319,6 +326,7 @@ fn lengths(tally: &mut Tally) {
             run(&ReadSheet { bytes: other.clone() }, tally);
             law_runs::any_bytes(&other, tally);
             place_runs::any_bytes(&other, tally);
+            mask_runs::any_bytes(&other, tally);
             run(&TriangleEdges { sheet: other }, tally);
         }
         // each byte taken out, and each put in twice

@@ -4,6 +4,7 @@ use crate::reference::Complex;
 use phyz_quantum::gauss_law;
 use phyz_quantum::hamiltonian::open_triangle_shift;
 use phyz_quantum::hilbert::U1HilbertSpace;
+use phyz_quantum::su2_quantum::Su2HilbertSpace;
 use phyz_regge::SimplicialComplex;
 
 /// The Rust adds in 32 bits: it is asked about values up to this only, of which no sum wraps.
@@ -52,6 +53,11 @@ pub fn check_gauss_law(complex: &Complex, configuration: &[i32]) -> Option<bool>
 
 pub fn enumerate_gauge_invariant(complex: &Complex, lambda: u64) -> Vec<Vec<i32>> {
     gauss_law::enumerate_gauge_invariant(&filled(complex), lambda as u32)
+}
+
+/// The masks of the two-valued truncation, in the Rust's own order.
+pub fn su2_basis(complex: &Complex) -> Vec<u64> {
+    Su2HilbertSpace::new(&filled(complex)).basis
 }
 
 /// The Rust's basis, with the record that it was made of.
