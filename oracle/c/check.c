@@ -296,10 +296,56 @@ static int triangle_shifts(void)
     return 0;
 }
 
+/* whether masks stand at the front of a list and the eight entries behind them are as they were */
+static int holds_masks(const uint64_t *list, const uint64_t *masks, size_t len)
+{
+    return memcmp(list, masks, len * sizeof *masks) == 0 && all_are((const uint8_t *)(list + len), 8 * sizeof *list, 0xEE);
+}
+
+static int masks(void)
+{
+    const uint64_t on_three[] = {0, 7}, on_six[] = {0, 11, 21, 30, 38, 45, 51, 56}, on_none[] = {0};
+    const uint8_t tetrahedron[] = {'G', 'L', 'S', 1, 0, 4, 6, 0, 0, 1, 0, 0, 1, 0, 2, 0, 3, 1, 2, 1, 3, 2, 3};
+    /* all 28 edges on eight vertices, 21 of them free, and then one vertex more, alone */
+    uint8_t over[11 + 56] = {'G', 'L', 'S', 1, 0, 8, 28, 0, 0, 1, 0};
+    uint8_t damaged[20];
+    uint64_t states[16];
+    size_t at = 11;
+
+    for (uint8_t a = 0; a < 8; a++)
+        for (uint8_t b = (uint8_t)(a + 1); b < 8; b++) {
+            over[at++] = a;
+            over[at++] = b;
+        }
+    memset(states, 0xEE, sizeof states);
+    CHECK(zibrotka_su2_basis(NULL, 0, states, 16) == -ZIBROTKA_SHEET_SHORT);
+    CHECK(zibrotka_su2_basis(triangle_sheet, 19, states, 16) == -ZIBROTKA_SHEET_LENGTH);
+    memcpy(damaged, triangle_sheet, 20);
+    damaged[10] = 4;
+    CHECK(zibrotka_su2_basis(damaged, 20, states, 16) == -ZIBROTKA_LAMBDA);
+    CHECK(zibrotka_su2_basis(apart_sheet, 11, NULL, 0) == -ZIBROTKA_UNREACHED);
+    CHECK(zibrotka_su2_basis(over, sizeof over, states, 16) == -ZIBROTKA_CANDIDATES);
+    CHECK(zibrotka_su2_basis(over, sizeof over, NULL, 0) == -ZIBROTKA_CANDIDATES);
+    over[5] = 9;
+    CHECK(zibrotka_su2_basis(over, sizeof over, states, 16) == -ZIBROTKA_UNREACHED);
+    CHECK(zibrotka_su2_basis(triangle_sheet, 20, states, 1) == -ZIBROTKA_ROOM);
+    CHECK(zibrotka_su2_basis(tetrahedron, sizeof tetrahedron, states, 7) == -ZIBROTKA_ROOM);
+    CHECK(zibrotka_su2_basis(point_sheet, 11, NULL, 0) == -ZIBROTKA_ROOM);
+    CHECK(all_are((const uint8_t *)states, sizeof states, 0xEE));
+
+    CHECK(zibrotka_su2_basis(point_sheet, 11, states, 16) == 1);
+    CHECK(holds_masks(states, on_none, 1));
+    CHECK(zibrotka_su2_basis(triangle_sheet, 20, states, 2) == 2);
+    CHECK(holds_masks(states, on_three, 2));
+    CHECK(zibrotka_su2_basis(tetrahedron, sizeof tetrahedron, states, 16) == 8);
+    CHECK(holds_masks(states, on_six, 8));
+    return 0;
+}
+
 int main(void)
 {
     if (making() || reading() || triangle_edges() || pentachora() || trees() || laws() || listings() || places() || shifts() ||
-        triangle_shifts())
+        triangle_shifts() || masks())
         return 1;
     printf("C: %d checks passed\n", passed);
     return 0;
