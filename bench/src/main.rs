@@ -1,5 +1,6 @@
 //! Times the port against the Rust on the same inputs, the best of a few rounds.
 
+mod masks;
 mod places;
 
 use phyz_quantum::gauss_law;
@@ -9,11 +10,12 @@ use std::process::ExitCode;
 use std::time::Instant;
 
 type Table = (&'static str, fn());
-const TABLES: [Table; 4] = [
+const TABLES: [Table; 5] = [
     ("pentachora", from_pentachorons),
     ("triangles", tri_edge_indices),
     ("states", enumerate_gauge_invariant),
     ("places", places::table),
+    ("masks", masks::table),
 ];
 
 fn main() -> ExitCode {
