@@ -108,3 +108,11 @@ module _ (c : SimplicialComplex) (old : List ℕ) where
             complete = λ z. even-complete (complexOf c) right;
             few = λ z. rw states-number (pow-mono few);
           }
+
+-- an accepted complex within the limit is never refused where the list is long enough
+pub never-refused : (c : SimplicialComplex) (room : ℕ) → Accepted (complexOf c) → 2 ^ length (free-edges (complexOf c)) ≤ 1048576 → 2 ^ length (free-edges (complexOf c)) ≤ room
+    → su2-refusal (complexOf c) room ≡ 0
+unfolding su2-refusal first
+never-refused c room right within enough =
+    accepted-next (complexOf c) ((10, ltb 1048576 (2 ^ length (free-edges (complexOf c)))) ∷ (15, ltb room (length (su2-states (complexOf c)))) ∷ []) (accepted c .1 right)
+    ∙ rw (le-ltb 1048576 (2 ^ length (free-edges (complexOf c))) within, even-count (complexOf c) right, le-ltb room (2 ^ length (free-edges (complexOf c))) enough)
