@@ -1,3 +1,5 @@
 pub mod TriangleRows
 pub mod TriangleTelling
 pub mod Demands
+pub mod Literals
+pub mod Couplings

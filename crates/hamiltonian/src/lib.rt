@@ -1,3 +1,4 @@
-// The Kogut-Susskind Hamiltonian: the shift of a triangle.
+// The Kogut-Susskind Hamiltonian: the coupling, and the shift of a triangle.
 
+pub mod coupling;
 pub mod triangle;
