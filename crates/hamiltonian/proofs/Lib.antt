@@ -3,3 +3,5 @@ pub mod TriangleTelling
 pub mod Demands
 pub mod Literals
 pub mod Couplings
+pub mod Examples
+pub mod Rising

@@ -1,3 +1,4 @@
 pub mod Triangle
 pub mod Demand
 pub mod Coupling
+pub mod Dense
