@@ -2,7 +2,8 @@
  * Gauge-invariant states on a triangle complex: the calls of libzibrotka.a.
  *
  * Every call answers one signed number: its value, or minus one of the refusals below. A call that refuses leaves every lent list and
- * number as it was; one that succeeds changes no entry beyond its result. Each call judges its whole input itself.
+ * number as it was; one that succeeds changes no entry of a list beyond its result, and fills an array of a fixed size whole. Each call
+ * judges its whole input itself.
  *
  * A list is a pointer and a length. An empty one may be NULL with length 0. What a call writes to must not overlap anything else that
  * it is given; what it only reads may.

@@ -14,13 +14,13 @@ use Rattle.complex.specs.Complex.{Simplex, Complex, start, end}
 unfoldable pub flow : Simplex → ℤ → ℕ → ℤ
 flow e x v = cond (eqb (end e) v) x (pos 0) -ℤ cond (eqb (start e) v) x (pos 0)
 
--- the Gauss sum at vertex v of the values on the edges
+-- the Gauss sum at vertex v of the values on the edges; a value that is missing counts 0
 unfoldable pub gauss : List Simplex → List ℤ → ℕ → ℤ
 gauss [] s v = pos 0
 gauss (e ∷ es) [] v = pos 0
 gauss (e ∷ es) (x ∷ s) v = flow e x v +ℤ gauss es s v
 
--- the law: the Gauss sum at every vertex is its charge
+-- the law: the Gauss sum at every vertex, what ends there less what starts there, is its charge in this sign
 abbrev pub Lawful : Complex → (ℕ → ℤ) → List ℤ → Type 0
 Lawful c q s = (v : ℕ) → v < c .vertices → gauss (c .edges) s v ≡ q v
 

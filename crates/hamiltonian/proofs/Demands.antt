@@ -108,6 +108,7 @@ module _ (c : Complex) (right : Accepted c) (L : ℕ) (none : first (basis-tests
     unfolding outcome shifted-state triangleOutcome
     shift-told old new r h long =
         record {
+          sides = triangle-sides c right t number;
           s = shifted-state c L t k;
           shifted = triangle-shifted c right t number (getD (states c L) k []) (state-there c right L k state .sized);
           refused-only = λ e. leaves c right L t number (shifted-state c L t k) (only (sides-within c L t (shifted-state c L t k)) (sym (by-band) ∙ e));

@@ -15,15 +15,15 @@ whole n = ofInt binary64 (pos n)
 
 -- g² is from 2^-32 to 2^32; nothing that is not a number passes
 unfoldable pub coupling-right : Float → Bool
-coupling-right g = le (div binary64 (whole 1) (whole (2 ^ 32))) g && le g (whole (2 ^ 32))
+coupling-right g² = le (div binary64 (whole 1) (whole (2 ^ 32))) g² && le g² (whole (2 ^ 32))
 
 -- U(1): g²/2 and -1/g²
 unfoldable pub u1-params : Float → KSParams
-u1-params g = record { «g_squared» = g; electric = div binary64 g (whole 2); magnetic = div binary64 (neg (whole 1)) g }
+u1-params g² = record { «g_squared» = g²; electric = div binary64 g² (whole 2); magnetic = div binary64 (neg (whole 1)) g² }
 
 -- Z2: (3 g²)/8 and -0.5/g²
 unfoldable pub su2-params : Float → KSParams
-su2-params g = record { «g_squared» = g; electric = div binary64 (mul binary64 (whole 3) g) (whole 8); magnetic = div binary64 (neg (div binary64 (whole 1) (whole 2))) g }
+su2-params g² = record { «g_squared» = g²; electric = div binary64 (mul binary64 (whole 3) g²) (whole 8); magnetic = div binary64 (neg (div binary64 (whole 1) (whole 2))) g² }
 
 -- what an answer says
 unfoldable pub couplingAnswer : Coupling → Outcome KSParams
@@ -32,7 +32,7 @@ couplingAnswer (Refused n) = refused n
 
 -- the record, or 14 for a g² out of its range
 unfoldable pub couplingOutcome : Float → KSParams → Outcome KSParams
-couplingOutcome g p = outcome (first ((14, not (coupling-right g)) ∷ [])) p
+couplingOutcome g² p = outcome (first ((14, not (coupling-right g²)) ∷ [])) p
 
 -- a record whose g² is in its range and whose factors are those of its g²
 unfoldable pub params-right : KSParams → KSParams → Bool

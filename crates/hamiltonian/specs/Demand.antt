@@ -8,6 +8,7 @@ use Rattle.mathematics.specs.Refusals.{value, refused}
 use Rattle.complex.specs.declared.SimplicialComplex.{SimplicialComplex}
 use Rattle.complex.specs.Complex.{Complex, complexOf}
 use Rattle.complex.specs.Judge.{Accepted}
+use Rattle.complex.specs.Sides.{TriangleSides}
 use Rattle.gauss_law.specs.Listing.{free-edges, Complete}
 use Rattle.gauss_law.specs.Shifts.{side, TriangleShifted}
 use Rattle.walker.specs.declared.enumerate.Enumerated.{Enumerated}
@@ -21,23 +22,25 @@ pub record Leaves (c : Complex) (L t : ℕ) (s : List ℤ) : Type 0 where
   pub one-of-three : edge < 3
   pub out : L < natAbs (getD s (side c t edge) (pos 0))
 
--- The listing, for any list that is long enough for the states ss: their number is told, the list begins with them, state after state,
--- and keeps what stood after them.
+-- The listing: `Listed` is what enumerate_gauge_invariant ensures, so this holds of each of its runs with a list that is long enough for
+-- the states ss. Their number is told, and the list begins with them, state after state, and keeps what stood after them.
 abbrev pub Lists : Complex → ℕ → List (List ℤ) → Type 0
 Lists c L ss =
     (old new : List ℤ) (r : Enumerated) → Listed c L old new r → length ss * length (c .edges) ≤ length old
     → (enumeratedAnswer r ≡ value (length ss)) × (new ≡ flatten ss ++ drop (length ss * length (c .edges)) old)
 
--- The shift of triangle t on the state at place k, for any list that is long enough: s is that state after the shift; the call is refused
--- with 16 exactly when one of the three edges has left -L to L, and otherwise answers the place of s.
+-- The shift of triangle t on the state at place k: s is that state after the shift; the call is refused with 16 exactly when one of the
+-- three edges has left -L to L, and otherwise answers the place of s.
 pub record ShiftTold (c : Complex) (L : ℕ) (ss : List (List ℤ)) (t k : ℕ) (r : TriangleShift) : Type 0 where
+  pub sides : TriangleSides c t
   pub s : List ℤ
   pub shifted : TriangleShifted c t (getD ss k []) s
   pub refused-only : triangleAnswer r ≡ refused 16 → Leaves c L t s
   pub refused-then : Leaves c L t s → triangleAnswer r ≡ refused 16
   pub placed : (Leaves c L t s → ⊥) → (p : ℕ) × (triangleAnswer r ≡ value p) × (p < length ss) × (getD ss p [] ≡ s)
 
--- that for every triangle and every place below the number of states
+-- `TriangleTold` is what apply_triangle_shift ensures, so this holds of each of its runs with a list that is long enough, for every triangle
+-- and every place below the number of states.
 abbrev pub Shifts : Complex → ℕ → List (List ℤ) → Type 0
 Shifts c L ss =
     (t k : ℕ) → t < length (c .triangles) → k < length ss → (old new : List ℤ) (r : TriangleShift) → TriangleTold c L t k old new r

@@ -23,9 +23,9 @@ squares (x ∷ s) = natAbs x * natAbs x + squares s
 unfoldable pub weight : Bool → List Float → ℕ → Float
 weight given weights t = cond given (getD weights t nan) (whole 1)
 
--- what a hit of triangle t adds: (magnetic factor × weight) × 0.5
-unfoldable pub plaquette : KSParams → Float → Float
-plaquette p w = mul binary64 (mul binary64 (p .magnetic) w) (div binary64 (whole 1) (whole 2))
+-- what the plaquette of a triangle with a weight adds: (magnetic factor × weight) × 0.5
+unfoldable pub plaquette-term : KSParams → Float → Float
+plaquette-term p w = mul binary64 (mul binary64 (p .magnetic) w) (div binary64 (whole 1) (whole 2))
 
 -- the shift of triangle t takes state i to state j
 unfoldable pub hits : Complex → ℕ → ℕ → ℕ → ℕ → Bool
@@ -35,10 +35,11 @@ hits c L t i j = sides-within c L t (shifted-state c L t i) && eqb (place c L (s
 unfoldable pub electric-entry : Complex → ℕ → KSParams → ℕ → ℕ → Float
 electric-entry c L p i j = cond (eqb i j) (add binary64 (whole 0) (mul binary64 (p .electric) (whole (squares (getD (states c L) i []))))) (whole 0)
 
--- then each of the first n triangles, rising, adds to (i, j) and (j, i) where it takes i to j
+-- Then each of the first n triangles, rising, adds to (i, j) and to (j, i) where it takes state i to j. It adds once, since no triangle takes
+-- a state to itself, or to another and back (proofs/Rising: never-itself, never-back).
 unfoldable pub entry : Complex → ℕ → KSParams → (ℕ → Float) → ℕ → ℕ → ℕ → Float
 entry c L p w zero i j = electric-entry c L p i j
-entry c L p w (suc t) i j = cond (hits c L t i j || hits c L t j i) (add binary64 (entry c L p w t i j) (plaquette p (w t))) (entry c L p w t i j)
+entry c L p w (suc t) i j = cond (hits c L t i j || hits c L t j i) (add binary64 (entry c L p w t i j) (plaquette-term p (w t))) (entry c L p w t i j)
 
 -- all entries, row by row
 unfoldable pub dense : Complex → ℕ → KSParams → (ℕ → Float) → List Float

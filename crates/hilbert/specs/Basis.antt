@@ -18,11 +18,12 @@ use Rattle.walker.specs.Enumeration.{states}
 unfoldable pub within : ℕ → ℤ → Bool
 within L x = leb (natAbs x) L
 
--- a configuration of all edges is in the basis: every value within -L to L, and every Gauss sum zero
+-- a configuration, which has one value for each edge (its length is not looked at here), is in the basis: every value within -L to L, and
+-- every Gauss sum zero
 unfoldable pub in-basis : Complex → ℕ → List ℤ → Bool
 in-basis c L s = all (within L) s && lawful c (λ v. pos 0) s
 
--- x or y is the smaller; where they are equal, it is decided already
+-- true where x is the smaller, false where y is, and b where they are equal
 unfoldable pub decided : Bool → ℤ → ℤ → Bool
 decided b x y = cond (ltZ x y) true (cond (ltZ y x) false b)
 

@@ -17,7 +17,7 @@ unfoldable pub su2Answer : Su2Basis → Outcome ℕ
 su2Answer (States n) = value n
 su2Answer (Refused n) = refused n
 
--- 4, 7 to 9, then 10 where 2 ^ F is over the limit, and 15 where the list has too few entries
+-- 4, 7 to 9, then 10 where 2 to the number of free edges is over the limit, and 15 where the list has too few entries
 unfoldable pub su2-refusal : Complex → ℕ → ℕ
 su2-refusal c room =
     first ((counts-test c ∷ shape-tests c) ++ ((10, ltb 1048576 (2 ^ length (free-edges c))) ∷ (15, ltb room (length (su2-states c))) ∷ []))

@@ -36,7 +36,7 @@ mask-place c x = length (keep (λ y. ltb y x) (su2-states c))
 abbrev pub In : ℕ → List ℕ → Type 0
 In x l = (i : ℕ) × (i < length l) × (getD l i 0 ≡ x)
 
--- every even set is in the list, nothing else is, it is ascending (so each is there once), and they are 2 ^ F
+-- every even set is in the list, nothing else is, it is ascending (so each is there once), and they are 2 to the number of free edges
 pub record EvenComplete (c : Complex) (l : List ℕ) : Type 0 where
   pub every : (x : ℕ) → x < 2 ^ length (c .edges) → even c x ≡ true → In x l
   pub only : (x : ℕ) → In x l → (x < 2 ^ length (c .edges)) × (even c x ≡ true)

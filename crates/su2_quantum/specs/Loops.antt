@@ -11,7 +11,7 @@ use lib.ListN.{getD}
 use Rattle.mathematics.specs.Bits.{bit}
 use Rattle.complex.specs.Complex.{Simplex, start, end}
 
--- the part of each vertex, a set of edges that joins it to the others of its part, the closing edges so far and the loop of each
+-- the part of each vertex, named after one vertex of it; the edges on the way there; the closing edges so far and the loop of each
 pub record Growth : Type 0 where
   pub part : ℕ → ℕ
   pub path : ℕ → ℕ
@@ -22,7 +22,7 @@ pub record Growth : Type 0 where
 unfoldable pub separate : Growth
 separate = record { part = λ v. v; path = λ v. 0; closing = []; loops = [] }
 
--- edge number e, and the paths to its two ends
+-- edge number e with the paths of its two ends: a loop where both are of one part, else the way between the vertices that name two parts
 unfoldable pub loop : Growth → Simplex → ℕ → ℕ
 loop g s e = bitXor (bitXor (g .path (start s)) (g .path (end s))) (2 ^ e)
 

@@ -13,7 +13,7 @@ ghost use Rattle.complex.specs.Judge.{refusal};
 ghost use Rattle.su2_quantum.specs.Loops.{separate, grown};
 ghost use Rattle.su2_quantum.specs.Forest.{Mapped, Keeps, Sized, JoinedTables, Grows};
 
-// The part of each vertex, a set of edges that joins it to the others of its part, and the first count closing edges and loops.
+// The part of each vertex, named after one vertex of it, the edges on the way there, and the first count closing edges and loops.
 pub struct Forest {
     pub part: [u8; 64],
     pub path: [u64; 64],

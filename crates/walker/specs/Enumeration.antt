@@ -16,12 +16,6 @@ use Rattle.walker.specs.declared.enumerate.Enumerated.{Enumerated}
 use Rattle.walker.specs.declared.enumerate.Enumerated.the-variants.{States, Refused}
 use Rattle.walker.specs.Tables.{Walks, states-of, Fit}
 
--- a number as far as the limit, and only that it is above the limit where it is
-pub record Limited (number r : ℕ) : Type 0 where
-  pub exact : number ≤ 1048576 → r ≡ number
-  pub above : 1048576 < number → 1048576 < r
-  pub bound : r ≤ 1048576 * 2001
-
 -- the states without charges
 unfoldable pub states : Complex → ℕ → List (List ℤ)
 states c L = listing c (λ v. pos 0) L
@@ -47,7 +41,7 @@ short c L room = ltb room (length (states c L) * length (c .edges))
 unfoldable pub basis-first : Complex → ℕ → List ℤ → List ℤ
 basis-first c L old = flatten (states c L) ++ drop (length (states c L) * length (c .edges)) old
 
--- these, and 15 for a list that has too few entries
+-- 4, 5, 7 to 10, then 15 for a list that has too few entries
 unfoldable pub enumerated-refusal : Complex → ℕ → ℕ → ℕ
 enumerated-refusal c L room = first (basis-tests c L ++ ((15, short c L room) ∷ []))
 
@@ -59,6 +53,12 @@ pub record Listed (c : Complex) (L : ℕ) (old new : List ℤ) (r : Enumerated) 
   pub few : enumerated-refusal c L (length old) ≡ 0 → length (states c L) ≤ 1048576
 
 -- ---- as the code keeps it
+-- r is the number where that is within the limit, and above the limit where the number is
+pub record Limited (number r : ℕ) : Type 0 where
+  pub exact : number ≤ 1048576 → r ≡ number
+  pub above : 1048576 < number → 1048576 < r
+  pub bound : r ≤ 1048576 * 2001
+
 -- tables and a number of blocks by which the basis of a complex is walked
 pub record BasisWalks (c : Complex) (L : ℕ) (w : Walker) (blocks : ℕ) : Type 0 where
   pub truncation : L ≤ 1000

@@ -35,6 +35,7 @@ use Rattle.pentachora.specs.Pentachora.{faces, refusal-from}
 use Rattle.sheet.specs.Sheet.{sheetIn, reading-refusal, sheetBytes}
 use Rattle.sheet.specs.Making.{flatComplex, making-refusal}
 
+-- the value, or minus the refusal
 unfoldable pub signed : Outcome ℕ → ℤ
 signed (value n) = pos n
 signed (refused n) = negℤ (pos n)
