@@ -5,3 +5,4 @@ pub mod Literals
 pub mod Couplings
 pub mod Examples
 pub mod Rising
+pub mod PartWay

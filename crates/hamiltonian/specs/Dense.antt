@@ -2,7 +2,7 @@
 use Prim.Native.Nat.{ℕ, zero, suc, _+_, _*_}
 use mathlib.Core.List.{List, [], _∷_, map, flatMap}
 use mathlib.Core.Bool.{Bool, _&&_, _||_, cond}
-use lib.Dec.{eqb}
+use lib.Dec.{eqb, ltb}
 use lib.IntN.{ℤ, natAbs}
 use lib.Ieee.{Float, binary64, nan, add, mul, div}
 use lib.ListN.{getD, length}
@@ -46,3 +46,11 @@ unfoldable pub dense : Complex → ℕ → KSParams → (ℕ → Float) → List
 dense c L p w =
     let n = length (states c L) in
     flatMap (λ i. map (λ j. entry c L p w (length (c .triangles)) i j) (below n)) (below n)
+
+-- ---- as the code keeps it
+-- entry (i, j) while triangle t is under way: the states below k have been shifted
+unfoldable pub under-way : Complex → ℕ → ℕ → ℕ → ℕ → ℕ → Bool
+under-way c L t k i j = (hits c L t i j && ltb i k) || (hits c L t j i && ltb j k)
+
+unfoldable pub part-entry : Complex → ℕ → KSParams → (ℕ → Float) → ℕ → ℕ → ℕ → ℕ → Float
+part-entry c L p w t k i j = cond (under-way c L t k i j) (add binary64 (entry c L p w t i j) (plaquette-term p (w t))) (entry c L p w t i j)

@@ -7,3 +7,4 @@ pub mod EvenLists
 pub mod Doubling
 pub mod Telling
 pub mod Placing
+pub mod Examples

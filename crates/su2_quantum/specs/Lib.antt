@@ -3,3 +3,4 @@ pub mod Loops
 pub mod Forest
 pub mod Basis
 pub mod Place
+pub mod Dense
