@@ -1,6 +1,6 @@
 -- The dense matrix of the triangle with g² 1, and the least weight at which the grouping shows.
 use Prim.Native.Nat.{ℕ, suc, _^_}
-use mathlib.Core.List.{List, [], _∷_, _++_, map, flatMap}
+use mathlib.Core.List.{List, [], _∷_, _++_, map, flatMap, flatten}
 use mathlib.Core.Bool.{false}
 use mathlib.Core.Path.{_≡_, refl}
 use lib.Ieee.{Float, binary64, ofInt, ofBits, add, mul, div, neg}
@@ -17,6 +17,7 @@ use Rattle.gauss_law.specs.Shifts.{raised, shifted, side, triangle-shift}
 use Rattle.walker.specs.Enumeration.{states}
 use Rattle.hilbert.specs.Basis.{within, decided, smaller, comes-before, place as place-of}
 use Rattle.hamiltonian.specs.Coupling.{whole, u1-params}
+use Rattle.hamiltonian.specs.Matrix.{rows}
 use Rattle.hamiltonian.specs.Triangle.{shifted-state, sides-within}
 use Rattle.hamiltonian.specs.Dense.{squares, weight, plaquette-term, hits, electric-entry, entry, dense}
 
@@ -27,7 +28,7 @@ triangle =
 -- 1.5 -0.5 0 / -0.5 0 -0.5 / 0 -0.5 1.5, as bits
 triangle-dense : dense triangle 1 (u1-params (whole 1)) (weight false [])
     ≡ map (ofBits binary64) (4609434218613702656 ∷ 13826050856027422720 ∷ 0 ∷ 13826050856027422720 ∷ 0 ∷ 13826050856027422720 ∷ 0 ∷ 13826050856027422720 ∷ 4609434218613702656 ∷ [])
-unfolding triangle dense entry electric-entry hits plaquette-term weight squares u1-params whole add mul div neg ofInt ofBits shifted-state sides-within place-of comes-before smaller decided within triangle-shift shifted raised side sides states listing lawful gauss flow equal tree-edges free-edges below keep counted values placed place same listed choose all every search served serve scan look touches across flatMap
+unfolding triangle dense rows flatten entry electric-entry hits plaquette-term weight squares u1-params whole add mul div neg ofInt ofBits shifted-state sides-within place-of comes-before smaller decided within triangle-shift shifted raised side sides states listing lawful gauss flow equal tree-edges free-edges below keep counted values placed place same listed choose all every search served serve scan look touches across flatMap
 triangle-dense = refl
 
 -- g² 3 and the weight 2^-1071 give -2^-1073

@@ -6,3 +6,4 @@ pub mod Couplings
 pub mod Examples
 pub mod Rising
 pub mod PartWay
+pub mod Matrices

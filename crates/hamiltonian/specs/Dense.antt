@@ -1,17 +1,17 @@
 -- The U(1) Hamiltonian as a dense matrix: each entry is a sum of floats in a fixed order, with one rounding an operation.
 use Prim.Native.Nat.{ℕ, zero, suc, _+_, _*_}
-use mathlib.Core.List.{List, [], _∷_, map, flatMap}
+use mathlib.Core.List.{List, [], _∷_}
 use mathlib.Core.Bool.{Bool, _&&_, _||_, cond}
 use lib.Dec.{eqb, ltb}
 use lib.IntN.{ℤ, natAbs}
 use lib.Ieee.{Float, binary64, nan, add, mul, div}
 use lib.ListN.{getD, length}
-use Rattle.mathematics.specs.Counting.{below}
 use Rattle.complex.specs.Complex.{Complex}
 use Rattle.walker.specs.Enumeration.{states}
 use Rattle.hilbert.specs.Basis.{place}
 use Rattle.hamiltonian.specs.declared.coupling.KSParams.{KSParams}
 use Rattle.hamiltonian.specs.Coupling.{whole}
+use Rattle.hamiltonian.specs.Matrix.{rows}
 use Rattle.hamiltonian.specs.Triangle.{shifted-state, sides-within}
 
 -- the sum of the squares of a state's values, a whole number
@@ -43,9 +43,7 @@ entry c L p w (suc t) i j = cond (hits c L t i j || hits c L t j i) (add binary6
 
 -- all entries, row by row
 unfoldable pub dense : Complex → ℕ → KSParams → (ℕ → Float) → List Float
-dense c L p w =
-    let n = length (states c L) in
-    flatMap (λ i. map (λ j. entry c L p w (length (c .triangles)) i j) (below n)) (below n)
+dense c L p w = rows (entry c L p w (length (c .triangles))) (length (states c L))
 
 -- ---- as the code keeps it
 -- entry (i, j) while triangle t is under way: the states below k have been shifted

@@ -1,4 +1,5 @@
 pub mod Triangle
 pub mod Demand
 pub mod Coupling
+pub mod Matrix
 pub mod Dense

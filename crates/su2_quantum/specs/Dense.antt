@@ -1,17 +1,17 @@
 -- The two-valued Hamiltonian as a dense matrix: each entry is a sum of floats in a fixed order, with one rounding an operation.
 use Prim.Native.Nat.{ℕ, zero, suc, _^_}
-use mathlib.Core.List.{List, [], _∷_, map, flatMap}
+use mathlib.Core.List.{List}
 use mathlib.Core.Bool.{Bool, cond}
 use lib.Bits.{bitXor}
 use lib.Count.{ones}
 use lib.Dec.{eqb}
 use lib.Ieee.{Float, binary64, add, mul}
 use lib.ListN.{getD, length}
-use Rattle.mathematics.specs.Counting.{below}
 use Rattle.complex.specs.Complex.{Complex}
 use Rattle.gauss_law.specs.Shifts.{side}
 use Rattle.hamiltonian.specs.declared.coupling.KSParams.{KSParams}
 use Rattle.hamiltonian.specs.Coupling.{whole}
+use Rattle.hamiltonian.specs.Matrix.{rows}
 use Rattle.su2_quantum.specs.EvenSets.{su2-states, mask-place}
 
 -- the three edges of triangle t as a mask
@@ -33,6 +33,4 @@ su2-entry c p w (suc t) i j = cond (flips c t i j) (add binary64 (su2-entry c p 
 
 -- all entries, row by row
 unfoldable pub su2-dense : Complex → KSParams → (ℕ → Float) → List Float
-su2-dense c p w =
-    let n = length (su2-states c) in
-    flatMap (λ i. map (λ j. su2-entry c p w (length (c .triangles)) i j) (below n)) (below n)
+su2-dense c p w = rows (su2-entry c p w (length (c .triangles))) (length (su2-states c))

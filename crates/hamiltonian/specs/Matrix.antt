@@ -1,0 +1,17 @@
+-- A matrix at the beginning of a list, row by row.
+use Prim.Native.Nat.{ℕ, _+_, _*_, _≤_, _<_}
+use mathlib.Core.List.{List, map, flatten}
+use mathlib.Core.Path.{_≡_}
+use lib.Ieee.{Float, nan}
+use lib.ListN.{getD, length}
+use Rattle.mathematics.specs.Counting.{below}
+
+-- all entries f i j of n rows and columns
+unfoldable pub rows : (ℕ → ℕ → Float) → ℕ → List Float
+rows f n = flatten (map (λ i. map (λ j. f i j) (below n)) (below n))
+
+-- the list begins with them, and keeps what stood after them
+pub record Matrix (f : ℕ → ℕ → Float) (n : ℕ) (old new : List Float) : Type 0 where
+  pub long : length new ≡ length old
+  pub entries : (i j : ℕ) → i < n → j < n → getD new (i * n + j) nan ≡ f i j
+  pub beyond : (k : ℕ) → n * n ≤ k → getD new k nan ≡ getD old k nan
