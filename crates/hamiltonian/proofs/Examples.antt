@@ -17,9 +17,10 @@ use Rattle.gauss_law.specs.Shifts.{raised, shifted, side, triangle-shift}
 use Rattle.walker.specs.Enumeration.{states}
 use Rattle.hilbert.specs.Basis.{within, decided, smaller, comes-before, place as place-of}
 use Rattle.hamiltonian.specs.Coupling.{whole, u1-params}
+use Rattle.hamiltonian.specs.Weights.{weight}
 use Rattle.hamiltonian.specs.Matrix.{rows}
 use Rattle.hamiltonian.specs.Triangle.{shifted-state, sides-within}
-use Rattle.hamiltonian.specs.Dense.{squares, weight, plaquette-term, hits, electric-entry, entry, dense}
+use Rattle.hamiltonian.specs.Dense.{squares, plaquette-term, hits, electric-entry, entry, dense}
 
 triangle : Complex
 triangle =

@@ -3,6 +3,8 @@ pub mod TriangleTelling
 pub mod Demands
 pub mod Literals
 pub mod Couplings
+pub mod Squares
+pub mod Weighing
 pub mod Examples
 pub mod Rising
 pub mod PartWay

@@ -4,6 +4,10 @@ use mathlib.Core.Path.{_≡_, refl}
 use lib.Ieee.{binary64, ofInt, ofBits, div}
 use Rattle.hamiltonian.specs.Coupling.{whole}
 
+pub zero : ofBits binary64 0 ≡ whole 0
+unfolding whole ofInt ofBits
+zero = refl
+
 pub one : ofBits binary64 4607182418800017408 ≡ whole 1
 unfolding whole ofInt ofBits
 one = refl

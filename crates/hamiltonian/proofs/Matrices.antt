@@ -7,21 +7,22 @@ use mathlib.Core.Logic.{_≢_}
 use native.Mathlib.Nat.{mul-le-mul, mul-comm, suc-mul, le-refl, mod-lt, div-add-mod', div-lt-iff-lt-mul}
 use native.Mathlib.Omega.{arith}
 use native.Mathlib.Decide.{ℕ-discrete, decLt}
-use borrow.Author.Tests.{eq-eqb, ne-eqb}
-use lib.Dec.{eqb}
+use borrow.Author.Tests.{eq-eqb, ne-eqb, lt-ltb, le-ltb}
+use lib.Dec.{eqb, ltb}
 use lib.Ieee.{Float, nan, binary64, add}
 use lib.ListN.{getD, length, drop, set, length-set, length-map, length-append, length-drop}
 use lib.Seq.{getD-set-same, getD-set-other, getD-append-add, getD-drop, ext-getD}
 use Rattle.mathematics.specs.Counting.{below}
 use Rattle.mathematics.proofs.Below.{length-below, map-below-at}
 use Rattle.mathematics.proofs.Flat.{flatten-length, flatten-at}
-use Rattle.hamiltonian.specs.Matrix.{rows, Matrix}
+use Rattle.hamiltonian.specs.Coupling.{whole}
+use Rattle.hamiltonian.specs.Matrix.{rows, Matrix, passed}
 
 -- a place in row i is below the next row
 row-end : (n i j : ℕ) → j < n → i * n + j < suc i * n
 row-end n i j h = omega (arith, suc-mul i n)
 
-in-matrix : (n i j : ℕ) → i < n → j < n → i * n + j < n * n
+pub in-matrix : (n i j : ℕ) → i < n → j < n → i * n + j < n * n
 in-matrix n i j h k = omega (arith, row-end n i j k, mul-le-mul h (le-refl n))
 
 -- rows and columns are read off a place
@@ -107,3 +108,69 @@ module _ (f : ℕ → ℕ → Float) (n : ℕ) where
           m .beyond k (omega arith)
           ∙ sym (ap (λ (i : ℕ). getD (rows f n ++ drop (n * n) old) i nan) (sym e)
           ∙ (rw rows-length at (getD-append-add (rows f n) (drop (n * n) old) (k - n * n) nan)) ∙ getD-drop (n * n) old (k - n * n) nan ∙ ap (λ (i : ℕ). getD old i nan) e)
+
+-- ---- entries that are said in another way
+pub matrix-same : (f g : ℕ → ℕ → Float) (n : ℕ) (old new : List Float) → ((i j : ℕ) → i < n → j < n → f i j ≡ g i j) → Matrix f n old new → Matrix g n old new
+matrix-same f g n old new same m = record { long = m .long; entries = λ i j h k. m .entries i j h k ∙ same i j h k; beyond = m .beyond }
+
+-- ---- zeros
+-- the first k entries are zeros
+pub record Cleared (k : ℕ) (old new : List Float) : Type 0 where
+  pub long : length new ≡ length old
+  pub zeros : (i : ℕ) → i < k → getD new i nan ≡ whole 0
+  pub beyond : (i : ℕ) → k ≤ i → getD new i nan ≡ getD old i nan
+
+pub cleared-none : (old : List Float) → Cleared 0 old old
+cleared-none old = record { long = refl; zeros = λ i h. absurd (omega arith); beyond = λ i h. refl }
+
+pub cleared-more : (k : ℕ) (old new : List Float) → Cleared k old new → k < length old → Cleared (k + 1) old (set new k (whole 0))
+cleared-more k old new m room =
+    record {
+      long = length-set new k (whole 0) ∙ m .long;
+      zeros = λ i h. go i h (ℕ-discrete i k);
+      beyond = λ i h. getD-set-other new k i (whole 0) nan (λ e. absurd (omega (arith, e))) ∙ m .beyond i (omega arith);
+    }
+  where
+    go : (i : ℕ) → i < k + 1 → Dec (i ≡ k) → getD (set new k (whole 0)) i nan ≡ whole 0
+    go i h (yes e) = rw e (getD-set-same new k (whole 0) nan (omega (arith, m .long)))
+    go i h (no e) = getD-set-other new k i (whole 0) nan e ∙ m .zeros i (omega arith)
+
+pub cleared-matrix : (n : ℕ) (old new : List Float) → Cleared (n * n) old new → Matrix (λ i j. whole 0) n old new
+cleared-matrix n old new m = record { long = m .long; entries = λ i j h k. m .zeros (i * n + j) (in-matrix n i j h k); beyond = m .beyond }
+
+-- ---- one entry of each row
+-- a bound one higher matters to the number itself alone
+pub one-higher : (i k : ℕ) → i ≢ k → ltb i (k + 1) ≡ ltb i k
+one-higher i k d = go (decLt i k)
+  where
+    go : Dec (i < k) → ltb i (k + 1) ≡ ltb i k
+    go (yes h) = lt-ltb i (k + 1) (omega arith) ∙ sym (lt-ltb i k h)
+    go (no h) = le-ltb i (k + 1) (omega arith) ∙ sym (le-ltb i k (omega arith))
+
+same-turned : (i j : ℕ) → eqb i j ≡ eqb j i
+same-turned i j = go (ℕ-discrete i j)
+  where
+    go : Dec (i ≡ j) → eqb i j ≡ eqb j i
+    go (yes e) = eq-eqb i j e ∙ sym (eq-eqb j i (sym e))
+    go (no e) = ne-eqb i j e ∙ sym (ne-eqb j i (λ h. e (sym h)))
+
+module _ (f : ℕ → ℕ → Float) (g : ℕ → ℕ) (x : ℕ → Float) where
+  pub passed-none : (i j : ℕ) → f i j ≡ passed f g x 0 i j
+  unfolding passed
+  passed-none i j = rw (le-ltb i 0 (omega arith))
+
+  pub passed-all : (n i j : ℕ) → i < n → passed f g x n i j ≡ cond (eqb (g i) j) (add binary64 (f i j) (x i)) (f i j)
+  unfolding passed
+  passed-all n i j h = rw (lt-ltb i n h)
+
+  pub passed-more : (n : ℕ) (old new : List Float) (k : ℕ) → Matrix (passed f g x k) n old new → n * n ≤ length old → k < n → g k < n
+      → Matrix (passed f g x (k + 1)) n old (set new (k * n + g k) (add binary64 (getD new (k * n + g k) nan) (x k)))
+  unfolding passed
+  passed-more n old new k m room h there =
+      matrix-same (λ i j. cond (eqb i k && eqb j (g k)) (add binary64 (passed f g x k i j) (x k)) (passed f g x k i j)) (passed f g x (k + 1)) n old
+      (set new (k * n + g k) (add binary64 (getD new (k * n + g k) nan) (x k))) (λ i j a b. go i j (ℕ-discrete i k))
+      (matrix-add (passed f g x k) n old new m room k (g k) h there (x k))
+    where
+      go : (i j : ℕ) → Dec (i ≡ k) → cond (eqb i k && eqb j (g k)) (add binary64 (passed f g x k i j) (x k)) (passed f g x k i j) ≡ passed f g x (k + 1) i j
+      go i j (yes e) = rw (e, eq-eqb k k refl, le-ltb k k (omega arith), lt-ltb k (k + 1) (omega arith), same-turned j (g k))
+      go i j (no e) = rw (ne-eqb i k e, one-higher i k e)

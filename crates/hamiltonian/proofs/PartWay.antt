@@ -6,7 +6,7 @@ use mathlib.Core.Path.{_≡_, refl, sym, ap, ap₂, _∙_}
 use mathlib.Core.Logic.{_≢_}
 use native.Mathlib.Omega.{arith}
 use native.Mathlib.Numerals.{add-one}
-use native.Mathlib.Decide.{ℕ-discrete, decLt}
+use native.Mathlib.Decide.{ℕ-discrete}
 use borrow.Author.Tests.{eq-eqb, ne-eqb, eqb-true, lt-ltb, le-ltb}
 use lib.Dec.{eqb, ltb}
 use lib.Ieee.{Float, binary64, add}
@@ -24,19 +24,12 @@ use Rattle.hamiltonian.specs.Dense.{plaquette-term, hits, entry, under-w
 use Rattle.hamiltonian.proofs.TriangleRows.{shifted-state-in-basis}
 use Rattle.hamiltonian.proofs.TriangleTelling.{state-there}
 use Rattle.hamiltonian.proofs.Rising.{never-itself, never-back}
+use Rattle.hamiltonian.proofs.Matrices.{one-higher}
 
 -- ---- tests
 and-none : (a : Bool) → (a && false) ≡ false
 and-none true = refl
 and-none false = refl
-
--- a bound one higher matters to the number itself alone
-one-higher : (i k : ℕ) → i ≢ k → ltb i (k + 1) ≡ ltb i k
-one-higher i k d = go (decLt i k)
-  where
-    go : Dec (i < k) → ltb i (k + 1) ≡ ltb i k
-    go (yes h) = lt-ltb i (k + 1) (omega arith) ∙ sym (lt-ltb i k h)
-    go (no h) = le-ltb i (k + 1) (omega arith) ∙ sym (le-ltb i k (omega arith))
 
 module _ (c : Complex) (accepted : Accepted c) (L t : ℕ) (number : t < length (c .triangles)) where
   -- a hit stands at its place

@@ -4,7 +4,7 @@ use mathlib.Core.List.{List, [], _∷_}
 use mathlib.Core.Bool.{Bool, _&&_, _||_, cond}
 use lib.Dec.{eqb, ltb}
 use lib.IntN.{ℤ, natAbs}
-use lib.Ieee.{Float, binary64, nan, add, mul, div}
+use lib.Ieee.{Float, binary64, add, mul, div}
 use lib.ListN.{getD, length}
 use Rattle.complex.specs.Complex.{Complex}
 use Rattle.walker.specs.Enumeration.{states}
@@ -18,10 +18,6 @@ use Rattle.hamiltonian.specs.Triangle.{shifted-state, sides-within}
 unfoldable pub squares : List ℤ → ℕ
 squares [] = 0
 squares (x ∷ s) = natAbs x * natAbs x + squares s
-
--- the weight of triangle t, 1 where no weights are given
-unfoldable pub weight : Bool → List Float → ℕ → Float
-weight given weights t = cond given (getD weights t nan) (whole 1)
 
 -- what the plaquette of a triangle with a weight adds: (magnetic factor × weight) × 0.5
 unfoldable pub plaquette-term : KSParams → Float → Float

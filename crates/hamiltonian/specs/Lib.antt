@@ -1,5 +1,6 @@
 pub mod Triangle
 pub mod Demand
 pub mod Coupling
+pub mod Weights
 pub mod Matrix
 pub mod Dense

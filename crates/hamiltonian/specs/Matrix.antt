@@ -2,7 +2,9 @@
 use Prim.Native.Nat.{ℕ, _+_, _*_, _≤_, _<_}
 use mathlib.Core.List.{List, map, flatten}
 use mathlib.Core.Path.{_≡_}
-use lib.Ieee.{Float, nan}
+use mathlib.Core.Bool.{_&&_, cond}
+use lib.Dec.{eqb, ltb}
+use lib.Ieee.{Float, binary64, nan, add}
 use lib.ListN.{getD, length}
 use Rattle.mathematics.specs.Counting.{below}
 
@@ -15,3 +17,8 @@ pub record Matrix (f : ℕ → ℕ → Float) (n : ℕ) (old new : List Float) :
   pub long : length new ≡ length old
   pub entries : (i j : ℕ) → i < n → j < n → getD new (i * n + j) nan ≡ f i j
   pub beyond : (k : ℕ) → n * n ≤ k → getD new k nan ≡ getD old k nan
+
+-- ---- as the code keeps it
+-- x i has been added to entry (i, g i) of the first k rows
+unfoldable pub passed : (ℕ → ℕ → Float) → (ℕ → ℕ) → (ℕ → Float) → ℕ → ℕ → ℕ → Float
+passed f g x k i j = cond (ltb i k && eqb (g i) j) (add binary64 (f i j) (x i)) (f i j)

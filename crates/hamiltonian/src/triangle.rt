@@ -29,7 +29,7 @@ fn moved_row(row: [i32; 63], edge: usize, by: i32) -> [i32; 63]
 }
 
 // A row with 1, -1 and 1 added on three edges.
-fn shifted_row(row: [i32; 63], sides: Sides) -> [i32; 63]
+pub fn shifted_row(row: [i32; 63], sides: Sides) -> [i32; 63]
     requires { ⌜ Shiftable row sides ⌝ }
     ensures { λ r. ⌜ r ≡ shifted (shifted (shifted row (sides .first) (pos 1)) (sides .second) (negsuc 0)) (sides .third) (pos 1) ⌝ }
 {
@@ -39,7 +39,7 @@ fn shifted_row(row: [i32; 63], sides: Sides) -> [i32; 63]
 }
 
 // Whether the values on three edges are within -lambda to lambda.
-fn three_within(row: [i32; 63], sides: Sides, lambda: usize) -> bool
+pub fn three_within(row: [i32; 63], sides: Sides, lambda: usize) -> bool
     requires { ⌜ (length row ≡ 63) × (lambda ≤ 1000) × (sides .first < 63) × (sides .second < 63) × (sides .third < 63) ⌝ }
     ensures { λ r. ⌜ r ≡ (within lambda (getD row (sides .first) (pos 0)) && (within lambda (getD row (sides .second) (pos 0)) && within lambda (getD row (sides .third) (pos 0)))) ⌝ }
 {

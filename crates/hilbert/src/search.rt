@@ -49,3 +49,27 @@ pub fn find_place(states: &[i32], n: usize, config: &[i32], free: &[u8; 63], n_f
     }
     low
 }
+
+// The same from a row on that none of the rows before it comes after: one row after the other.
+pub fn advance(
+    states: &[i32],
+    n: usize,
+    from: usize,
+    config: &[i32],
+    free: &[u8; 63],
+    n_free: usize,
+) -> usize
+    requires { ⌜ Rows (now states) n (now config) (now free) «n_free» × (from ≤ n) ⌝ }
+    ensures { λ r. ⌜ ((p : ℕ) → Ranked (now (states .entry)) n (now (config .entry)) (now (free .entry)) «n_free» p → from ≤ p → r ≡ p) ⌝ }
+{
+    let m = config.len();
+    let mut place = from;
+    while place < n {
+        let at = place * m;
+        if !row_before(&states[at..at + m], config, free, n_free) {
+            return place;
+        }
+        place += 1;
+    }
+    place
+}

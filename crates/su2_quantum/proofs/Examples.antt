@@ -15,7 +15,7 @@ use Rattle.complex.specs.Sides.{sides}
 use Rattle.gauss_law.specs.Shifts.{side}
 use Rattle.hamiltonian.specs.Coupling.{whole, su2-params}
 use Rattle.hamiltonian.specs.Matrix.{rows}
-use Rattle.hamiltonian.specs.Dense.{weight}
+use Rattle.hamiltonian.specs.Weights.{weight}
 use Rattle.su2_quantum.specs.EvenSets.{chosen, meeting, even, su2-states, mask-place}
 use Rattle.su2_quantum.specs.Dense.{triangle-mask, flips, su2-electric-entry, su2-entry, su2-dense}
 

@@ -1,0 +1,26 @@
+// A matrix at the beginning of a list, row by row.
+ghost use mathlib.Core.Path.{_≡_};
+ghost use Prim.Native.Nat.{_+_, _*_, _^_, _<_, _≤_};
+ghost use lib.Ieee.{binary64, nan, add};
+ghost use lib.ListN.{getD, length, set};
+ghost use Rattle.hamiltonian.specs.Coupling.{whole};
+ghost use Rattle.hamiltonian.specs.Matrix.{Matrix};
+
+// The list begins with a matrix of zeros.
+pub fn clear_matrix(h: &mut [f64], n: usize)
+    requires { ⌜ (n ≤ 2 ^ 20) × (n * n ≤ length (now h)) ⌝ }
+    ensures { λ _. ⌜ Matrix (λ i j. whole 0) n (now (h .entry)) (now (h .exit)) ⌝ }
+{
+    for k in 0..n * n {
+        h[k] = 0.0;
+    }
+}
+
+// x is added to entry (i, j).
+pub fn add_entry(h: &mut [f64], n: usize, i: usize, j: usize, x: f64)
+    requires { ⌜ (n ≤ 2 ^ 20) × (n * n ≤ length (now h)) × (i < n) × (j < n) ⌝ }
+    ensures { λ _. ⌜ now (h .exit) ≡ set (now (h .entry)) (i * n + j) (add binary64 (getD (now (h .entry)) (i * n + j) nan) x) ⌝ }
+{
+    let at = i * n + j;
+    h[at] = h[at] + x;
+}
