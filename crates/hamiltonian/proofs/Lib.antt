@@ -8,4 +8,8 @@ pub mod Weighing
 pub mod Examples
 pub mod Rising
 pub mod PartWay
+pub mod Targets
+pub mod Plaquettes
+pub mod DenseWritten
+pub mod DenseTelling
 pub mod Matrices

@@ -1,16 +1,20 @@
 -- The U(1) Hamiltonian as a dense matrix: each entry is a sum of floats in a fixed order, with one rounding an operation.
-use Prim.Native.Nat.{ℕ, zero, suc, _+_, _*_}
-use mathlib.Core.List.{List, [], _∷_}
+use Prim.Native.Nat.{ℕ, zero, suc, _+_, _*_, _≤_}
+use mathlib.Core.List.{List, [], _∷_, _++_}
 use mathlib.Core.Bool.{Bool, _&&_, _||_, cond}
+use mathlib.Core.Path.{_≡_}
 use lib.Dec.{eqb, ltb}
 use lib.IntN.{ℤ, natAbs}
 use lib.Ieee.{Float, binary64, add, mul, div}
-use lib.ListN.{getD, length}
+use lib.ListN.{getD, length, drop}
+use Rattle.mathematics.specs.Refusals.{first, outcome, written}
 use Rattle.complex.specs.Complex.{Complex}
-use Rattle.walker.specs.Enumeration.{states}
+use Rattle.walker.specs.declared.enumerate.Enumerated.{Enumerated}
+use Rattle.walker.specs.Enumeration.{states, enumeratedAnswer, basis-tests, short, basis-first}
 use Rattle.hilbert.specs.Basis.{place}
 use Rattle.hamiltonian.specs.declared.coupling.KSParams.{KSParams}
-use Rattle.hamiltonian.specs.Coupling.{whole}
+use Rattle.hamiltonian.specs.Coupling.{whole, u1-right}
+use Rattle.hamiltonian.specs.Weights.{weight, weights-tests}
 use Rattle.hamiltonian.specs.Matrix.{rows}
 use Rattle.hamiltonian.specs.Triangle.{shifted-state, sides-within}
 
@@ -41,10 +45,19 @@ entry c L p w (suc t) i j = cond (hits c L t i j || hits c L t j i) (add binary6
 unfoldable pub dense : Complex → ℕ → KSParams → (ℕ → Float) → List Float
 dense c L p w = rows (entry c L p w (length (c .triangles))) (length (states c L))
 
--- ---- as the code keeps it
--- entry (i, j) while triangle t is under way: the states below k have been shifted
-unfoldable pub under-way : Complex → ℕ → ℕ → ℕ → ℕ → ℕ → Bool
-under-way c L t k i j = (hits c L t i j && ltb i k) || (hits c L t j i && ltb j k)
+-- ---- the call
+-- 4, 5, 7 to 10, then 12 and 14 for the weights and the coupling, and 15 for a list that has too few entries for the basis or for the matrix
+unfoldable pub dense-refusal : Complex → ℕ → KSParams → Bool → List Float → ℕ → ℕ → ℕ
+dense-refusal c L p given weights work-room result-room =
+    first (
+    basis-tests c L
+    ++ (weights-tests (length (c .triangles)) (u1-right p) given weights
+    ++ ((15, short c L work-room || ltb result-room (length (states c L) * length (states c L))) ∷ []))
+    )
 
-unfoldable pub part-entry : Complex → ℕ → KSParams → (ℕ → Float) → ℕ → ℕ → ℕ → ℕ → Float
-part-entry c L p w t k i j = cond (under-way c L t k i j) (add binary64 (entry c L p w t i j) (plaquette-term p (w t))) (entry c L p w t i j)
+-- the number of states is told, and the two lists begin with the basis, which is no longer than the limit, and with the matrix
+pub record Built (c : Complex) (L : ℕ) (p : KSParams) (given : Bool) (weights : List Float) (work : List ℤ) (result : List Float) (r : Enumerated) (work′ : List ℤ) (result′ : List Float) : Type 0 where
+  pub answer : enumeratedAnswer r ≡ outcome (dense-refusal c L p given weights (length work) (length result)) (length (states c L))
+  pub work-list : work′ ≡ written (dense-refusal c L p given weights (length work) (length result)) (basis-first c L work) work
+  pub result-list : result′ ≡ written (dense-refusal c L p given weights (length work) (length result)) (dense c L p (weight given weights) ++ drop (length (states c L) * length (states c L)) result) result
+  pub few : dense-refusal c L p given weights (length work) (length result) ≡ 0 → length (states c L) ≤ 1048576

@@ -4,3 +4,4 @@ pub mod Coupling
 pub mod Weights
 pub mod Matrix
 pub mod Dense
+pub mod Walk

@@ -5,7 +5,7 @@ use mathlib.Core.Path.{_≡_}
 use mathlib.Core.Bool.{_&&_, cond}
 use lib.Dec.{eqb, ltb}
 use lib.Ieee.{Float, binary64, nan, add}
-use lib.ListN.{getD, length}
+use lib.ListN.{getD, length, set}
 use Rattle.mathematics.specs.Counting.{below}
 
 -- all entries f i j of n rows and columns
@@ -19,6 +19,10 @@ pub record Matrix (f : ℕ → ℕ → Float) (n : ℕ) (old new : List Float) :
   pub beyond : (k : ℕ) → n * n ≤ k → getD new k nan ≡ getD old k nan
 
 -- ---- as the code keeps it
+-- a list with x added to entry (i, j) of the matrix of n columns at its beginning
+abbrev pub raised : ℕ → ℕ → ℕ → Float → List Float → List Float
+raised n i j x h = set h (i * n + j) (add binary64 (getD h (i * n + j) nan) x)
+
 -- x i has been added to entry (i, g i) of the first k rows
 unfoldable pub passed : (ℕ → ℕ → Float) → (ℕ → ℕ) → (ℕ → Float) → ℕ → ℕ → ℕ → Float
 passed f g x k i j = cond (ltb i k && eqb (g i) j) (add binary64 (f i j) (x i)) (f i j)

@@ -15,7 +15,7 @@ fn square(x: i32) -> usize
 }
 
 // The sum of the squares of a state's values.
-fn squares(state: &[i32]) -> usize
+pub fn squares(state: &[i32]) -> usize
     requires { ⌜ (length (now state) ≤ 63) × ((e : ℕ) → e < length (now state) → natAbs (getD (now state) e (pos 0)) ≤ 1000) ⌝ }
     ensures { λ r. ⌜ (r ≡ squares (now (state .entry))) × (r ≤ 63000000) ⌝ }
 {

@@ -12,14 +12,12 @@ use Rattle.mathematics.specs.Refusals.{first}
 use Rattle.mathematics.proofs.Tests.{or-fell}
 use Rattle.complex.specs.Complex.{complexOf}
 use Rattle.complex.specs.Sides.{sides}
-use Rattle.complex.specs.declared.SimplicialComplex.{SimplicialComplex}
-use Rattle.complex.proofs.Simplices.{simplices-length}
 use Rattle.complex.proofs.Accepting.{accepted}
 use Rattle.gauss_law.proofs.Spanned.{edges-long}
 use Rattle.walker.specs.Enumeration.{states, basis-tests, short, BasisWalks}
 use Rattle.hilbert.specs.Search.{Sought}
 use Rattle.hamiltonian.specs.Triangle.{shifted-state, sides-within, Shiftable}
-use Rattle.hamiltonian.proofs.TriangleRows.{front-shifted, three-told, sides-below, row-shiftable, shifted-row-long}
+use Rattle.hamiltonian.proofs.TriangleRows.{triangles-long, front-shifted, three-told, sides-below, row-shiftable, shifted-row-long}
 use Rattle.hamiltonian.proofs.TriangleTelling.{basis-refused, number-refused, room-refused, band-refused, placed, state-there, listed-sought}
 use borrow.Author.Needs.{needs}
 use Rattle.hamiltonian.proofs.triangle.apply_triangle_shift.Statement.{statement}
@@ -30,10 +28,6 @@ none c = sym (c .before .prepare-basis .ensures .refusal) ∙ c .if1 .left
 
 basis : (c : tie.Else1) → BasisWalks (complexOf (c .before .before .args .c)) (c .before .before .args .lambda) (c .before .prepare-basis .result .walker) (c .before .prepare-basis .result .blocks)
 basis c = c .before .prepare-basis .ensures .basis (c .if1 .left)
-
-triangles-long : (c : SimplicialComplex) → length (complexOf c .triangles) ≡ c .«n_triangles»
-unfolding complexOf
-triangles-long c = simplices-length 3 (c .triangles) (c .«n_triangles»)
 
 edges-few : (c : tie.Else1) → c .before .before .args .c .«n_edges» ≤ 63
 edges-few c = rw (← (edges-long (c .before .before .args .c))) (basis c .walks .accepted .edges)

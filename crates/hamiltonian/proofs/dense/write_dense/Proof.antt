@@ -1,0 +1,47 @@
+use Rattle.hamiltonian.specs.Weights.{weight}
+use Rattle.hamiltonian.proofs.TriangleRows.{triangles-long}
+use Rattle.hamiltonian.proofs.DenseWritten.{small-rows, electric-written, dense-written}
+use borrow.Author.Needs.{needs}
+use Rattle.hamiltonian.proofs.dense.write_dense.Statement.{statement}
+use Rattle.hamiltonian.proofs.dense.write_dense.Tie as tie
+
+clear-matrix-requires : tie.Need-clear-matrix-requires
+clear-matrix-requires c κs = let pre = c .before .before .before .pre in (pre .0 .few, pre .2)
+
+add-electric-requires : tie.Need-add-electric-requires
+add-electric-requires c κs =
+    let cleared = c .before .before .before in
+    let pre = cleared .before .before .before .before .pre in
+    (small-rows _ _ _ _ (pre .0), rw (cleared .clear-matrix .kept .0) (pre .2))
+
+add-magnetic-requires : tie.Need-add-magnetic-requires
+add-magnetic-requires c κs =
+    let charged = c .before .before .before in
+    let cleared = charged .before .before .before .before in
+    let pre = cleared .before .before .before .before .pre in
+    (pre .0, pre .1, rw (charged .add-electric .kept .1 .1 .1 .1 .0, cleared .clear-matrix .kept .0) (pre .2))
+
+same-length : tie.Need-same-length
+same-length c = search needs
+
+returns : tie.Need-returns
+returns c =
+    let made = c .before .before in
+    let charged = made .before .before .before .before in
+    let cleared = charged .before .before .before .before in
+    let s = cleared .before .before .before .before in
+    let p = s .args .p in
+    let w = weight (s .args .given) (s .args .weights .now) in
+    dense-written _ _ _ _ (s .pre .0) p w (s .args .h .now) _ (s .pre .2)
+    (rw (triangles-long (s .args .c))
+    (made .add-magnetic .ensures _ (electric-written _ _ _ _ (s .pre .0) p w (s .args .h .now) _ (charged .add-electric .ensures _ _ (cleared .clear-matrix .ensures)))))
+
+pub write-dense-spec : {M : Type 1} → statement M
+write-dense-spec =
+    tie.close
+    (tie.spec
+    clear-matrix-requires
+    add-electric-requires
+    add-magnetic-requires
+    same-length
+    returns)

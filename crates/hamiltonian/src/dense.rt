@@ -1,0 +1,125 @@
+// The dense Hamiltonian of U(1).
+use crate::coupling::KSParams;
+use crate::coupling::is_u1;
+use crate::electric::energy;
+use crate::electric::squares;
+use crate::matrix::add_entry;
+use crate::matrix::clear_matrix;
+use crate::walk::Sizes;
+use crate::walk::add_plaquette;
+use crate::weights::judge_weights;
+use crate::weights::weight_of;
+use complex::SimplicialComplex;
+use complex::triangle::triangle_sides;
+use walker::enumerate::Enumerated;
+use walker::enumerate::prepare_basis;
+use walker::tables::count_states;
+use walker::tables::write_states;
+ghost use mathlib.Core.Path.{_≡_};
+ghost use mathlib.Core.Bool.{true};
+ghost use mathlib.Core.List.{_++_};
+ghost use Prim.Native.Nat.{ℕ, _*_, _≤_};
+ghost use lib.Ieee.{Float};
+ghost use mathlib.Core.List.{List};
+ghost use lib.ListN.{length, drop};
+ghost use Rattle.complex.specs.Complex.{complexOf};
+ghost use Rattle.hamiltonian.specs.Weights.{weight};
+ghost use Rattle.hamiltonian.specs.Matrix.{Matrix, passed};
+ghost use Rattle.hamiltonian.specs.Dense.{plaquette-term, entry, dense, Built};
+ghost use Rattle.hamiltonian.specs.Walk.{BasisList, SmallRows, electric-term};
+
+// A factor times each row's sum of squares is added on the diagonal.
+fn add_electric(list: &[i32], n: usize, m: usize, factor: f64, h: &mut [f64])
+    requires { ⌜ SmallRows (now list) n m × (n * n ≤ length (now h)) ⌝ }
+    ensures { λ _. ⌜ ((f : ℕ → ℕ → Float) (old : List Float) → Matrix f n old (now (h .entry)) → Matrix (passed f (λ i. i) (electric-term factor m (now (list .entry))) n) n old (now (h .exit))) ⌝ }
+{
+    for i in 0..n {
+        let at = i * m;
+        add_entry(h, n, i, i, energy(factor, squares(&list[at..at + m])));
+    }
+}
+
+// What the plaquette of a triangle with a weight adds.
+fn plaquette_term(p: KSParams, weight: f64) -> f64
+    ensures { λ r. ⌜ r ≡ plaquette-term p weight ⌝ }
+{
+    p.magnetic * weight * 0.5
+}
+
+// The triangles of a record add their plaquettes, one after the other.
+fn add_magnetic(
+    c: SimplicialComplex,
+    p: KSParams,
+    given: bool,
+    weights: &[f64],
+    list: &[i32],
+    s: Sizes,
+    free: &[u8; 63],
+    h: &mut [f64],
+)
+    requires { ⌜ BasisList (complexOf c) (now list) s (now free) × (given ≡ true → length (now weights) ≡ c .«n_triangles») × (s .states * s .states ≤ length (now h)) ⌝ }
+    ensures { λ _. ⌜ ((old : List Float) → Matrix (entry (complexOf c) (s .lambda) p (weight given (now (weights .entry))) 0) (s .states) old (now (h .entry)) → Matrix (entry (complexOf c) (s .lambda) p (weight given (now (weights .entry))) (c .«n_triangles»)) (s .states) old (now (h .exit))) ⌝ }
+{
+    for t in 0..c.n_triangles {
+        let x = plaquette_term(p, weight_of(given, weights, t));
+        add_plaquette(list, s, free, triangle_sides(c, t), x, h);
+    }
+}
+
+// The matrix goes to the beginning of a list: zeros, then the electric term, then the plaquettes.
+fn write_dense(
+    c: SimplicialComplex,
+    p: KSParams,
+    given: bool,
+    weights: &[f64],
+    list: &[i32],
+    s: Sizes,
+    free: &[u8; 63],
+    h: &mut [f64],
+)
+    requires { ⌜ BasisList (complexOf c) (now list) s (now free) × (given ≡ true → length (now weights) ≡ c .«n_triangles») × (s .states * s .states ≤ length (now h)) ⌝ }
+    ensures { λ _. ⌜ now (h .exit) ≡ dense (complexOf c) (s .lambda) p (weight given (now (weights .entry))) ++ drop (s .states * s .states) (now (h .entry)) ⌝ }
+{
+    clear_matrix(h, s.states);
+    add_electric(list, s.states, s.edges, p.electric, h);
+    add_magnetic(c, p, given, weights, list, s, free, h);
+}
+
+// The dense matrix of a record goes to the beginning of the result list, the basis to that of the work list. All is judged first.
+// Weights that are not given are 1.
+pub fn build_hamiltonian(
+    c: SimplicialComplex,
+    lambda: usize,
+    p: KSParams,
+    given: bool,
+    weights: &[f64],
+    states: &mut [i32],
+    result: &mut [f64],
+) -> Enumerated
+    ensures { λ r. ⌜ Built (complexOf c) lambda p given (now (weights .entry)) (now (states .entry)) (now (result .entry)) r (now (states .exit)) (now (result .exit)) ⌝ }
+{
+    let basis = prepare_basis(c, lambda);
+    let number = basis.refusal;
+    if number != 0 {
+        return Enumerated::Refused(number);
+    }
+    let wrong = judge_weights(c.n_triangles, is_u1(p), given, weights);
+    if wrong != 0 {
+        return Enumerated::Refused(wrong);
+    }
+    let w = basis.walker;
+    let blocks = basis.blocks;
+    let n = count_states(w, lambda, blocks);
+    if (states.len() < n * w.n_edges) | (result.len() < n * n) {
+        return Enumerated::Refused(15);
+    }
+    let free = w.free;
+    let s = Sizes {
+        states: write_states(w, lambda, blocks, states),
+        edges: w.n_edges,
+        free: w.n_free,
+        lambda: lambda,
+    };
+    write_dense(c, p, given, weights, states, s, &free, result);
+    Enumerated::States(n)
+}

@@ -1,0 +1,85 @@
+// The plaquettes of a triangle: one walk over the states finds all hits.
+use complex::triangle::Sides;
+use crate::matrix::add_entry;
+use crate::triangle::shifted_row;
+use crate::triangle::three_within;
+use hilbert::search::advance;
+ghost use mathlib.Core.Path.{_≡_};
+ghost use Prim.Native.Nat.{ℕ, _*_, _^_, _<_, _≤_};
+ghost use lib.ListN.{length, take};
+ghost use Rattle.complex.specs.Complex.{Complex};
+ghost use Rattle.hamiltonian.specs.Walk.{BasisList, SidesOf, Ready, Targeted, HitAdded, PlaquetteAdded};
+
+// How many states a list begins with, the edges of each, the free ones of them, and the truncation.
+pub struct Sizes {
+    pub states: usize,
+    pub edges: usize,
+    pub free: usize,
+    pub lambda: usize,
+}
+
+// A state, and zeros after it.
+fn row_of(state: &[i32]) -> [i32; 63]
+    requires { ⌜ length (now state) ≤ 63 ⌝ }
+    ensures { λ r. ⌜ (length r ≡ 63) × (take (length (now (state .entry))) r ≡ now (state .entry)) ⌝ }
+{
+    let mut row = [0i32; 63];
+    for e in 0..state.len() {
+        row[e] = state[e];
+    }
+    row
+}
+
+// Where a triangle takes the state at a place, or the number of states. The target is not before a given place.
+fn find_target(
+    list: &[i32],
+    s: Sizes,
+    free: &[u8; 63],
+    sides: Sides,
+    place: usize,
+    from: usize,
+) -> usize
+    requires { ⌜ Ready (now list) s (now free) sides × (place < s .states) × (from ≤ s .states) ⌝ }
+    ensures { λ r. ⌜ ((c : Complex) (t : ℕ) → BasisList c (now (list .entry)) s (now (free .entry)) → SidesOf c t sides → Targeted c (s .lambda) t place from r) ⌝ }
+{
+    let m = s.edges;
+    let at = place * m;
+    let row = shifted_row(row_of(&list[at..at + m]), sides);
+    if !three_within(row, sides, s.lambda) {
+        return s.states;
+    }
+    advance(list, s.states, from, &row[0..m], free, s.free)
+}
+
+// x is added to both entries of a hit, where the target of state i is one. The place that no later target is before.
+fn add_hit(h: &mut [f64], n: usize, i: usize, j: usize, from: usize, x: f64) -> usize
+    requires { ⌜ (n ≤ 2 ^ 20) × (n * n ≤ length (now h)) × (i < n) ⌝ }
+    ensures { λ r. ⌜ HitAdded n i j from x (now (h .entry)) (now (h .exit)) r ⌝ }
+{
+    if n <= j {
+        return from;
+    }
+    add_entry(h, n, i, j, x);
+    add_entry(h, n, j, i, x);
+    j
+}
+
+// What the plaquette of a triangle adds is added to both entries of each hit.
+pub fn add_plaquette(
+    list: &[i32],
+    s: Sizes,
+    free: &[u8; 63],
+    sides: Sides,
+    x: f64,
+    h: &mut [f64],
+)
+    requires { ⌜ Ready (now list) s (now free) sides × (s .states * s .states ≤ length (now h)) ⌝ }
+    ensures { λ _. ⌜ ((c : Complex) (t : ℕ) → BasisList c (now (list .entry)) s (now (free .entry)) → SidesOf c t sides → PlaquetteAdded c (s .lambda) t (s .states) x (now (h .entry)) (now (h .exit))) ⌝ }
+{
+    let n = s.states;
+    let mut from = 0;
+    for i in 0..n {
+        let j = find_target(list, s, free, sides, i, from);
+        from = add_hit(h, n, i, j, from, x);
+    }
+}
