@@ -4,13 +4,13 @@ use mathlib.Core.Path.{_≡_}
 use lib.Ieee.{Float}
 use Rattle.mathematics.specs.Refusals.{first, value, refused, outcome}
 use Rattle.hamiltonian.specs.declared.coupling.KSParams.{KSParams}
-use Rattle.hamiltonian.specs.Coupling.{coupling-right, couplingOutcome}
+use Rattle.hamiltonian.specs.Coupling.{coupling-right, coupling-refusal, couplingOutcome}
 
 module _ (g : Float) (p : KSParams) where
   pub right-told : coupling-right g ≡ true → value p ≡ couplingOutcome g p
-  unfolding couplingOutcome first outcome
+  unfolding couplingOutcome coupling-refusal first outcome
   right-told h = rw h
 
   pub wrong-told : coupling-right g ≡ false → refused 14 ≡ couplingOutcome g p
-  unfolding couplingOutcome first outcome
+  unfolding couplingOutcome coupling-refusal first outcome
   wrong-told h = rw h

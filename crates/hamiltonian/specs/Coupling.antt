@@ -30,9 +30,13 @@ unfoldable pub couplingAnswer : Coupling → Outcome KSParams
 couplingAnswer (Params p) = value p
 couplingAnswer (Refused n) = refused n
 
--- the record, or 14 for a g² out of its range
+-- 14 for a g² out of its range
+unfoldable pub coupling-refusal : Float → ℕ
+coupling-refusal g² = first ((14, not (coupling-right g²)) ∷ [])
+
+-- the record, or the refusal
 unfoldable pub couplingOutcome : Float → KSParams → Outcome KSParams
-couplingOutcome g² p = outcome (first ((14, not (coupling-right g²)) ∷ [])) p
+couplingOutcome g² p = outcome (coupling-refusal g²) p
 
 -- a record whose g² is in its range and whose factors are those of its g²
 unfoldable pub params-right : KSParams → KSParams → Bool

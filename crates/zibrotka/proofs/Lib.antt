@@ -3,3 +3,4 @@ pub mod OnSheets
 pub mod Answers
 pub mod Places
 pub mod Masks
+pub mod Dense

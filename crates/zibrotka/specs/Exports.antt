@@ -1,9 +1,10 @@
 -- What the exported functions answer: one signed number, the value or minus the refusal.
 use Prim.Native.Nat.{ℕ, _*_}
-use mathlib.Core.List.{List, _++_, flatten}
+use mathlib.Core.List.{List, [], _∷_, _++_, flatten}
 use mathlib.Core.Bool.{Bool, cond}
 use mathlib.Core.Path.{_≡_}
 use lib.IntN.{ℤ, pos, negℤ}
+use lib.Ieee.{Float}
 use lib.ListN.{length, drop}
 use lib.Dec.{eqb}
 use Rattle.mathematics.specs.Refusals.{Outcome, value, refused, outcome, written}
@@ -22,6 +23,10 @@ use Rattle.walker.specs.Enumeration.{states, basis-first, enumerated-refusal}
 use Rattle.hilbert.specs.Basis.{place, At}
 use Rattle.hilbert.specs.Index.{index-refusal}
 use Rattle.hilbert.specs.Shift.{shift-refusal}
+use Rattle.hamiltonian.specs.declared.coupling.KSParams.{KSParams}
+use Rattle.hamiltonian.specs.Coupling.{coupling-refusal}
+use Rattle.hamiltonian.specs.Weights.{weight}
+use Rattle.hamiltonian.specs.Dense.{dense, dense-refusal}
 use Rattle.hamiltonian.specs.Triangle.{shifted-state, triangle-refusal}
 use Rattle.su2_quantum.specs.EvenSets.{su2-states, EvenComplete}
 use Rattle.su2_quantum.specs.Basis.{su2-refusal}
@@ -148,3 +153,28 @@ pub record Masks (b old : List ℕ) (r : ℤ) (new : List ℕ) : Type 0 where
   pub answer : r ≡ signed (outcome (after-sheet b (su2-refusal (complexIn b) (length old))) (length (su2-states (complexIn b))))
   pub list : new ≡ written (after-sheet b (su2-refusal (complexIn b) (length old))) (su2-states (complexIn b) ++ drop (length (su2-states (complexIn b))) old) old
   pub complete : after-sheet b (su2-refusal (complexIn b) (length old)) ≡ 0 → EvenComplete (complexIn b) (su2-states (complexIn b))
+
+-- 0 for a record
+unfoldable pub zeroOf : Outcome KSParams → Outcome ℕ
+zeroOf (value p) = value 0
+zeroOf (refused n) = refused n
+
+-- g², the electric and the magnetic factor, or on a refusal what was there
+unfoldable pub threeOf : Outcome KSParams → List Float → List Float
+threeOf (value p) before = p .«g_squared» ∷ p .electric ∷ p .magnetic ∷ []
+threeOf (refused n) before = before
+
+pub record Stored (a : Outcome KSParams) (before : List Float) (r : ℤ) (after : List Float) : Type 0 where
+  pub answer : r ≡ signed (zeroOf a)
+  pub three : after ≡ threeOf a before
+
+-- zibrotka_u1_params and zibrotka_su2_params: g², the electric and the magnetic factor
+pub record Params (g² : Float) (own : KSParams) (before : List Float) (r : ℤ) (after : List Float) : Type 0 where
+  pub answer : r ≡ signed (outcome (coupling-refusal g²) 0)
+  pub three : after ≡ written (coupling-refusal g²) (own .«g_squared» ∷ own .electric ∷ own .magnetic ∷ []) before
+
+-- zibrotka_build_hamiltonian: the number of states, and the lists begin with all states and with the matrix
+pub record Matrices (b : List ℕ) (p : KSParams) (given : Bool) (weights : List Float) (work : List ℤ) (result : List Float) (r : ℤ) (work′ : List ℤ) (result′ : List Float) : Type 0 where
+  pub answer : r ≡ signed (outcome (after-sheet b (dense-refusal (complexIn b) (sheetIn b .lambda) p given weights (length work) (length result))) (length (states (complexIn b) (sheetIn b .lambda))))
+  pub work-list : work′ ≡ written (after-sheet b (dense-refusal (complexIn b) (sheetIn b .lambda) p given weights (length work) (length result))) (basis-first (complexIn b) (sheetIn b .lambda) work) work
+  pub result-list : result′ ≡ written (after-sheet b (dense-refusal (complexIn b) (sheetIn b .lambda) p given weights (length work) (length result))) (dense (complexIn b) (sheetIn b .lambda) p (weight given weights) ++ drop (length (states (complexIn b) (sheetIn b .lambda)) * length (states (complexIn b) (sheetIn b .lambda))) result) result

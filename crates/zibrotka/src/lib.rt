@@ -5,6 +5,9 @@ use gauss_law::law::GaussCheck;
 use gauss_law::law::check_gauss_law;
 use gauss_law::spanning::SpanningTreeAnswer;
 use gauss_law::spanning::spanning_tree;
+use hamiltonian::coupling::Coupling;
+use hamiltonian::coupling::KSParams;
+use hamiltonian::dense::build_hamiltonian;
 use hamiltonian::triangle::TriangleShift;
 use hamiltonian::triangle::apply_triangle_shift;
 use hilbert::index::Index;
@@ -29,9 +32,10 @@ ghost use Rattle.gauss_law.specs.Spanning.{treeAnswer};
 ghost use Rattle.gauss_law.specs.Law.{lawAnswer};
 ghost use Rattle.walker.specs.Enumeration.{enumeratedAnswer};
 ghost use Rattle.hilbert.specs.Index.{indexAnswer};
+ghost use Rattle.hamiltonian.specs.Coupling.{couplingAnswer, u1-params, su2-params};
 ghost use Rattle.hamiltonian.specs.Triangle.{triangleAnswer};
 ghost use Rattle.su2_quantum.specs.Basis.{su2Answer};
-ghost use Rattle.zibrotka.specs.Exports.{toldOf, signedOf, readingNumber, yesOf, OpenedOf, edgesOf, numbersOf, MakeSheet, ReadSheet, EdgeIndices, Pentachora, SpanningTree, GaussLaw, States, Places, ShiftedPlaces, TrianglePlaces, Masks};
+ghost use Rattle.zibrotka.specs.Exports.{toldOf, signedOf, readingNumber, yesOf, OpenedOf, edgesOf, numbersOf, MakeSheet, ReadSheet, EdgeIndices, Pentachora, SpanningTree, GaussLaw, States, Places, ShiftedPlaces, TrianglePlaces, Masks, Stored, Params, Matrices};
 
 // A value, or the refusal, which is not 0.
 pub struct Told {
@@ -480,4 +484,62 @@ pub extern "C" fn zibrotka_su2_basis(sheet: &[u8], states: &mut [u64]) -> i64
     }
     let s = opened.sheet;
     signed(told_masks(su2_basis(s.complex, states)))
+}
+
+// The coupling of an answer goes to three floats: 0.
+fn store(answer: Coupling, params: &mut [f64; 3]) -> i64
+    ensures { λ r. ⌜ Stored (couplingAnswer answer) (now (params .entry)) r (now (params .exit)) ⌝ }
+{
+    match answer {
+        Coupling::Params(p) => {
+            *params = [p.g_squared, p.electric, p.magnetic];
+            0
+        }
+        Coupling::Refused(number) => refused(number),
+    }
+}
+
+// g² and the factors of U(1): 0.
+#[no_mangle]
+pub extern "C" fn zibrotka_u1_params(g_squared: f64, params: &mut [f64; 3]) -> i64
+    ensures { λ r. ⌜ Params «g_squared» (u1-params «g_squared») (now (params .entry)) r (now (params .exit)) ⌝ }
+{
+    store(KSParams::u1(g_squared), params)
+}
+
+// g² and the factors of the two-valued mode: 0.
+#[no_mangle]
+pub extern "C" fn zibrotka_su2_params(g_squared: f64, params: &mut [f64; 3]) -> i64
+    ensures { λ r. ⌜ Params «g_squared» (su2-params «g_squared») (now (params .entry)) r (now (params .exit)) ⌝ }
+{
+    store(KSParams::su2(g_squared), params)
+}
+
+// The dense matrix of a sheet: the number of its states.
+#[no_mangle]
+pub extern "C" fn zibrotka_build_hamiltonian(
+    sheet: &[u8],
+    g_squared: f64,
+    electric: f64,
+    magnetic: f64,
+    given: bool,
+    weights: &[f64],
+    states: &mut [i32],
+    result: &mut [f64],
+) -> i64
+    ensures { λ r. ⌜ Matrices (now (sheet .entry)) (record { «g_squared» = «g_squared»; electric = electric; magnetic = magnetic }) given (now (weights .entry)) (now (states .entry)) (now (result .entry)) r (now (states .exit)) (now (result .exit)) ⌝ }
+{
+    let opened = open(sheet);
+    let number = opened.refusal;
+    if number != 0 {
+        return refused(number);
+    }
+    let s = opened.sheet;
+    let p = KSParams {
+        g_squared: g_squared,
+        electric: electric,
+        magnetic: magnetic,
+    };
+    let answer = build_hamiltonian(s.complex, s.lambda, p, given, weights, states, result);
+    signed(told_states(answer))
 }
