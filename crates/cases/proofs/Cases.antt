@@ -1,6 +1,8 @@
 -- Every case of the table holds: the definitions compute the expected values.
-use mathlib.Core.List.{[], _∷_, flatMap, map}
+use mathlib.Core.List.{[], _∷_, flatMap, map, flatten}
 use mathlib.Core.Path.{_≡_, refl}
+use lib.Count.{ones}
+use lib.Ieee.{ofInt, add, mul, div, neg}
 use Rattle.mathematics.specs.Integers.{equal}
 use Rattle.mathematics.specs.Lists.{same, listed, place, distinct, choose}
 use Rattle.mathematics.specs.Tests.{all, every}
@@ -16,16 +18,21 @@ use Rattle.gauss_law.specs.Listing.{tree-edges, free-edges, values, placed, lis
 use Rattle.gauss_law.specs.Shifts.{raised, shifted, side, triangle-shift}
 use Rattle.walker.specs.Enumeration.{states, short}
 use Rattle.hilbert.specs.Basis.{within, decided, smaller, comes-before, place as place-of}
+use Rattle.hamiltonian.specs.Coupling.{whole, u1-params, su2-params}
+use Rattle.hamiltonian.specs.Weights.{weight}
+use Rattle.hamiltonian.specs.Matrix.{rows}
+use Rattle.hamiltonian.specs.Dense.{squares, plaquette-term, hits, electric-entry, entry, dense}
 use Rattle.hamiltonian.specs.Triangle.{shifted-state, sides-within, triangle-refusal, triangleOutcome}
-use Rattle.su2_quantum.specs.EvenSets.{chosen, meeting, even, su2-states}
+use Rattle.su2_quantum.specs.EvenSets.{chosen, meeting, even, su2-states, mask-place}
+use Rattle.su2_quantum.specs.Dense.{triangle-mask, flips, su2-electric-entry, su2-entry, su2-dense}
 use Rattle.lines.specs.Lines.{ascii, last-digits, digits, signedText, valueText, valuesText, stateLine, stateLines, named, countsText, firstLine}
 use Rattle.lines.specs.Printed.{printed}
-use Rattle.cases.specs.Cases.{Holds, triangle, one-vertex, tetrahedron, table}
+use Rattle.cases.specs.Cases.{Holds, eighths, triangle, one-vertex, tetrahedron, table}
 
 pub cases : Each Holds table
-unfolding su2-states even meeting chosen bit triangleOutcome triangle-refusal shifted-state sides-within place-of comes-before smaller decided within triangle-shift shifted raised side sides states short outcome table triangle one-vertex tetrahedron refusal first counts-right rising simplices-right sides-listed triangles-right same listed place distinct choose all every search served serve scan look touches across connected tree-edges free-edges below keep counted values placed listing lawful gauss flow equal flatMap printed stateLines firstLine countsText named stateLine valuesText valueText signedText digits last-digits ascii
+unfolding eighths dense rows flatten entry electric-entry hits plaquette-term weight squares u1-params su2-params whole add mul div neg ofInt su2-dense su2-entry su2-electric-entry flips triangle-mask ones mask-place su2-states even meeting chosen bit triangleOutcome triangle-refusal shifted-state sides-within place-of comes-before smaller decided within triangle-shift shifted raised side sides states short outcome table triangle one-vertex tetrahedron refusal first counts-right rising simplices-right sides-listed triangles-right same listed place distinct choose all every search served serve scan look touches across connected tree-edges free-edges below keep counted values placed listing lawful gauss flow equal flatMap printed stateLines firstLine countsText named stateLine valuesText valueText signedText digits last-digits ascii
 cases =
-    also (record { accepted = refl; tree = refl; free = refl; basis = refl; shifts = also refl (also refl none); masks = refl })
-    (also (record { accepted = refl; tree = refl; free = refl; basis = refl; shifts = also refl none; masks = refl })
-    (also (record { accepted = refl; tree = refl; free = refl; basis = refl; shifts = none; masks = refl })
-    (also (record { accepted = refl; tree = refl; free = refl; basis = refl; shifts = also refl (also refl none); masks = refl }) none)))
+    also (record { accepted = refl; tree = refl; free = refl; basis = refl; shifts = also refl (also refl none); masks = refl; matrices = also (refl, refl) none })
+    (also (record { accepted = refl; tree = refl; free = refl; basis = refl; shifts = also refl none; masks = refl; matrices = also (refl, refl) none })
+    (also (record { accepted = refl; tree = refl; free = refl; basis = refl; shifts = none; masks = refl; matrices = also (refl, refl) none })
+    (also (record { accepted = refl; tree = refl; free = refl; basis = refl; shifts = also refl (also refl none); masks = refl; matrices = none }) none)))

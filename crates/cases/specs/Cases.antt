@@ -2,16 +2,22 @@
 use Prim.Native.Nat.{ℕ, zero, suc}
 use Prim.Native.String.{String}
 use mathlib.Core.List.{List, [], _∷_, _++_}
+use mathlib.Core.Bool.{false}
 use mathlib.Core.Path.{_≡_}
 use lib.IntN.{ℤ, pos}
+use lib.Ieee.{Float, binary64, neg, div}
 use lib.ListN.{length}
 use Rattle.mathematics.specs.Refusals.{Outcome, value, refused}
 use Rattle.mathematics.proofs.Ordered.{Each}
 use Rattle.complex.specs.Complex.{Complex}
 use Rattle.complex.specs.Judge.{refusal}
 use Rattle.gauss_law.specs.Listing.{tree-edges, free-edges}
+use Rattle.hamiltonian.specs.Coupling.{whole, u1-params, su2-params}
+use Rattle.hamiltonian.specs.Weights.{weight}
 use Rattle.hamiltonian.specs.Triangle.{triangleOutcome}
+use Rattle.hamiltonian.specs.Dense.{dense}
 use Rattle.su2_quantum.specs.EvenSets.{su2-states}
+use Rattle.su2_quantum.specs.Dense.{su2-dense}
 use Rattle.lines.specs.Lines.{ascii}
 use Rattle.lines.specs.Printed.{printed}
 
@@ -22,6 +28,16 @@ pub record Shift : Type 0 where
   pub room : ℕ
   pub told : Outcome ℕ
 
+-- eighths of one
+unfoldable pub eighths : ℕ → Float
+eighths n = div binary64 (whole n) (whole 8)
+
+-- the two dense matrices for a coupling, without weights
+pub record Matrices : Type 0 where
+  pub coupling : ℕ
+  pub u1 : List Float
+  pub su2 : List Float
+
 -- a complex and a truncation, with the values that are expected of them
 pub record Case : Type 0 where
   pub complex : Complex
@@ -31,8 +47,10 @@ pub record Case : Type 0 where
   pub text : String
   pub shifts : List Shift
   pub masks : List ℕ
+  pub matrices : List Matrices
 
--- what is claimed of a case: it is accepted, and its tree, its free edges, its printed basis, its shifts and its two-valued basis are the expected ones
+-- what is claimed of a case: it is accepted, and its tree, its free edges, its printed basis, its shifts, its two-valued basis and its dense
+-- matrices are the expected ones
 pub record Holds (k : Case) : Type 0 where
   pub accepted : refusal (k .complex) ≡ 0
   pub tree : tree-edges (k .complex) ≡ k .tree
@@ -40,6 +58,7 @@ pub record Holds (k : Case) : Type 0 where
   pub basis : printed (k .complex) (k .truncation) ≡ ascii (k .text)
   pub shifts : Each (λ x. triangleOutcome (k .complex) (k .truncation) (x .triangle) (x .state) (x .room) ≡ x .told) (k .shifts)
   pub masks : su2-states (k .complex) ≡ k .masks
+  pub matrices : Each (λ x. (dense (k .complex) (k .truncation) (u1-params (whole (x .coupling))) (weight false []) ≡ x .u1) × (su2-dense (k .complex) (su2-params (whole (x .coupling))) (weight false []) ≡ x .su2)) (k .matrices)
 
 unfoldable pub triangle : Complex
 triangle =
@@ -67,6 +86,17 @@ table =
       text = "vertices 3 edges 3 triangles 1 lambda 1 dim 3\n0 -1 1 -1\n1 0 0 0\n2 1 -1 1\n";
       shifts = record { triangle = 0; state = 2; room = 9; told = refused 16 } ∷ record { triangle = 0; state = 0; room = 9; told = value 1 } ∷ [];
       masks = 0 ∷ 7 ∷ [];
+      matrices =
+          record {
+            coupling = 1;
+            u1 =
+                eighths 12 ∷ neg (eighths 4) ∷ eighths 0
+                ∷ neg (eighths 4) ∷ eighths 0 ∷ neg (eighths 4)
+                ∷ eighths 0 ∷ neg (eighths 4) ∷ eighths 12
+                ∷ [];
+            su2 = eighths 0 ∷ neg (eighths 4) ∷ neg (eighths 4) ∷ eighths 9 ∷ [];
+          }
+          ∷ [];
     }
     ∷ record {
       complex = triangle;
@@ -76,6 +106,7 @@ table =
       text = "vertices 3 edges 3 triangles 1 lambda 0 dim 1\n0 0 0 0\n";
       shifts = record { triangle = 0; state = 0; room = 3; told = refused 16 } ∷ [];
       masks = 0 ∷ 7 ∷ [];
+      matrices = record { coupling = 1; u1 = eighths 0 ∷ []; su2 = eighths 0 ∷ neg (eighths 4) ∷ neg (eighths 4) ∷ eighths 9 ∷ [] } ∷ [];
     }
     ∷ record {
       complex = one-vertex;
@@ -85,6 +116,7 @@ table =
       text = "vertices 1 edges 0 triangles 0 lambda 1 dim 1\n0\n";
       shifts = [];
       masks = 0 ∷ [];
+      matrices = record { coupling = 1; u1 = eighths 0 ∷ []; su2 = eighths 0 ∷ [] } ∷ [];
     }
     ∷ record {
       complex = tetrahedron;
@@ -94,5 +126,6 @@ table =
       text = "vertices 4 edges 6 triangles 4 lambda 1 dim 15\n0 -1 0 1 -1 0 -1\n1 0 -1 1 0 0 -1\n2 0 0 0 -1 1 -1\n3 1 -1 0 0 1 -1\n4 -1 0 1 0 -1 0\n5 0 -1 1 1 -1 0\n6 -1 1 0 -1 0 0\n7 0 0 0 0 0 0\n8 1 -1 0 1 0 0\n9 0 1 -1 -1 1 0\n10 1 0 -1 0 1 0\n11 -1 1 0 0 -1 1\n12 0 0 0 1 -1 1\n13 0 1 -1 0 0 1\n14 1 0 -1 1 0 1\n";
       shifts = record { triangle = 3; state = 7; room = 90; told = value 12 } ∷ record { triangle = 3; state = 8; room = 90; told = refused 16 } ∷ [];
       masks = 0 ∷ 11 ∷ 21 ∷ 30 ∷ 38 ∷ 45 ∷ 51 ∷ 56 ∷ [];
+      matrices = [];
     }
     ∷ []
