@@ -7,4 +7,5 @@ pub mod EvenLists
 pub mod Doubling
 pub mod Telling
 pub mod Placing
+pub mod DenseEntries
 pub mod Examples

@@ -53,13 +53,17 @@ module _ (c : Complex) (f : Forest) (of : LoopsOf c f) (x : ℕ) where
   sum-is : (k : ℕ) → combined (f .loops) k (f .count) ≡ combined loops k (length closing)
   sum-is k = sums-same (f .loops) loops k (f .count) (front-at loops (f .loops) (f .count) (of .keeps .loops)) ∙ ap (combined loops k) number
 
+  -- the place of a listed mask
+  pub listed-place : even c x ≡ true → x < 2 ^ length (c .edges) → closing-bits (f .closing) x (f .count) ≡ mask-place c x
+  listed-place e b = place-is ∙ sym (mask-place-read c (of .accepted) x e b)
+
   -- the sum of the loops of its closing edges is the mask itself just where it is listed
   pub placed : combined (f .loops) (closing-bits (f .closing) x (f .count)) (f .count) ≡ x → Place (closing-bits (f .closing) x (f .count)) ≡ maskPlaced c x
   unfolding maskPlaced
   placed h =
       let sum : combined loops (closing-bits closing x (length closing)) (length closing) ≡ x = ap (λ (k : ℕ). combined loops k (length closing)) (sym place-is) ∙ sym (sum-is _) ∙ h in
       let here = rw sum at (combined-listed c (of .accepted) (closing-bits closing x (length closing))) in
-      rw (lt-ltb x (2 ^ length (c .edges)) (here .1), here .0) (ap Place (place-is ∙ sym (mask-place-read c (of .accepted) x (here .0) (here .1))))
+      rw (lt-ltb x (2 ^ length (c .edges)) (here .1), here .0) (ap Place (listed-place (here .0) (here .1)))
 
   pub not-listed : combined (f .loops) (closing-bits (f .closing) x (f .count)) (f .count) ≢ x → NotListed ≡ maskPlaced c x
   unfolding maskPlaced
