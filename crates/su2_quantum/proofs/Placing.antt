@@ -1,4 +1,4 @@
--- The place of a mask, by the tables of its complex.
+-- The states and the place of a mask, by the tables of their complex.
 use Prim.Native.Nat.{ℕ, zero, suc, _+_, _*_, _^_, _<_, _≤_}
 use mathlib.Core.List.{List}
 use mathlib.Core.Bool.{Bool, true, false, _&&_, cond, false≢true}
@@ -14,14 +14,16 @@ use lib.Seq.{getD-take}
 use Rattle.mathematics.specs.Bits.{bit}
 use Rattle.mathematics.proofs.Tests.{and-parts, and-both}
 use Rattle.complex.specs.Complex.{Complex}
+use Rattle.gauss_law.specs.Listing.{free-edges}
 use Rattle.su2_quantum.specs.declared.forest.Forest.{Forest}
 use Rattle.su2_quantum.specs.declared.place.MaskPlace.the-variants.{Place, NotListed}
-use Rattle.su2_quantum.specs.EvenSets.{even, mask-place}
-use Rattle.su2_quantum.specs.Loops.{combined, closing-bits}
+use Rattle.su2_quantum.specs.EvenSets.{even, su2-states, mask-place}
+use Rattle.su2_quantum.specs.Loops.{spanned, combined, closing-bits}
 use Rattle.su2_quantum.specs.Forest.{Front}
 use Rattle.su2_quantum.specs.Place.{maskPlaced, LoopsOf, Readable}
 use Rattle.su2_quantum.proofs.Forests.{all-grown, closing-below}
-use Rattle.su2_quantum.proofs.EvenLists.{combined-listed, combined-all, mask-place-read}
+use Rattle.su2_quantum.proofs.ClosingCount.{closing-free}
+use Rattle.su2_quantum.proofs.EvenLists.{combined-listed, combined-all, masks-listed, even-count, mask-place-read}
 
 -- only the first entries matter
 bits-same : (l m : List ℕ) (x n : ℕ) → ((j : ℕ) → j < n → getD l j 0 ≡ getD m j 0) → closing-bits l x n ≡ closing-bits m x n
@@ -34,9 +36,29 @@ unfolding combined
 sums-same l m k zero h = refl
 sums-same l m k (suc n) h = rw (sums-same l m k n (λ j k. h j (omega arith)), h n (omega arith))
 
+spanned-same : (l m : List ℕ) (n : ℕ) → ((j : ℕ) → j < n → getD l j 0 ≡ getD m j 0) → spanned l n ≡ spanned m n
+unfolding spanned
+spanned-same l m zero h = refl
+spanned-same l m (suc n) h = rw (spanned-same l m n (λ j k. h j (omega arith)), h n (omega arith))
+
 front-at : (l list : List ℕ) (n : ℕ) → Front l list n → (j : ℕ) → j < n → getD list j 0 ≡ getD l j 0
 front-at l list n h j k = sym (getD-take n list j 0 k) ∙ ap (λ (m : List ℕ). getD m j 0) (h .stands)
 
+-- ---- the states
+module _ (c : Complex) (f : Forest) (of : LoopsOf c f) where
+  pub closing-number : f .count ≡ length (free-edges c)
+  closing-number = of .keeps .closing .count ∙ closing-free c (of .accepted)
+
+  pub states-number : length (su2-states c) ≡ 2 ^ f .count
+  states-number = even-count c (of .accepted) ∙ ap (λ (k : ℕ). 2 ^ k) (sym closing-number)
+
+  pub masks-are : spanned (f .loops) (f .count) ≡ su2-states c
+  masks-are =
+      let loops = all-grown (c .edges) .loops in
+      spanned-same (f .loops) loops (f .count) (front-at loops (f .loops) (f .count) (of .keeps .loops))
+      ∙ ap (spanned loops) (of .keeps .closing .count) ∙ masks-listed c (of .accepted)
+
+-- ---- the place of a mask
 module _ (c : Complex) (f : Forest) (of : LoopsOf c f) (x : ℕ) where
   abbrev closing : List ℕ
   closing = all-grown (c .edges) .closing

@@ -6,21 +6,23 @@ use complex::triangle::triangle_sides;
 use hamiltonian::coupling::KSParams;
 use hamiltonian::electric::energy;
 use hamiltonian::matrix::add_entry;
+use hamiltonian::matrix::clear_matrix;
 use hamiltonian::weights::weight_of;
 ghost use mathlib.Core.Path.{_≡_};
-ghost use mathlib.Core.List.{List};
+ghost use mathlib.Core.List.{List, _++_};
 ghost use Prim.Native.Nat.{ℕ, _+_, _*_, _^_, _<_, _≤_};
 ghost use lib.Bits.{bitXor};
 ghost use lib.Count.{ones};
 ghost use lib.Ieee.{Float, binary64, mul};
-ghost use lib.ListN.{getD, length};
+ghost use lib.ListN.{getD, length, drop};
 ghost use Rattle.complex.specs.Complex.{complexOf};
+ghost use Rattle.hamiltonian.specs.declared.coupling.KSParams.{KSParams};
 ghost use Rattle.hamiltonian.specs.Coupling.{whole};
 ghost use Rattle.hamiltonian.specs.Weights.{weight};
 ghost use Rattle.hamiltonian.specs.Matrix.{Matrix, passed};
-ghost use Rattle.su2_quantum.specs.EvenSets.{mask-place};
+ghost use Rattle.su2_quantum.specs.EvenSets.{su2-states, mask-place};
 ghost use Rattle.su2_quantum.specs.Place.{LoopsOf};
-ghost use Rattle.su2_quantum.specs.Dense.{triangle-mask, su2-entry, MatrixOf, Weighed};
+ghost use Rattle.su2_quantum.specs.Dense.{triangle-mask, su2-electric-entry, su2-entry, su2-dense, MatrixOf, Weighed};
 
 // A factor times the number of edges in a state.
 fn state_energy(factor: f64, state: u64) -> f64
@@ -62,4 +64,50 @@ fn triangle_place(c: SimplicialComplex, f: Forest, t: usize) -> usize
         n,
         (1 << sides.first) ^ (1 << sides.second) ^ (1 << sides.third),
     )
+}
+
+// A triangle adds x to each entry of two states that it flips to each other.
+fn add_triangle(h: &mut [f64], n: usize, c: SimplicialComplex, f: Forest, t: usize, x: f64)
+    requires { ⌜ MatrixOf (complexOf c) f n (length (now h)) × (t < c .«n_triangles») ⌝ }
+    ensures { λ _. ⌜ ((p : KSParams) (w : ℕ → Float) (old : List Float) → x ≡ mul binary64 (p .magnetic) (w t) → Matrix (su2-entry (complexOf c) p w t) n old (now (h .entry)) → Matrix (su2-entry (complexOf c) p w (t + 1)) n old (now (h .exit))) ⌝ }
+{
+    add_flips(h, n, triangle_place(c, f, t), x);
+}
+
+// Each triangle adds its magnetic factor × weight.
+fn add_triangles(
+    h: &mut [f64],
+    n: usize,
+    c: SimplicialComplex,
+    f: Forest,
+    p: KSParams,
+    given: bool,
+    weights: &[f64],
+)
+    requires { ⌜ MatrixOf (complexOf c) f n (length (now h)) × Weighed (complexOf c) given (now weights) ⌝ }
+    ensures { λ _. ⌜ ((old : List Float) → Matrix (su2-electric-entry (complexOf c) p) n old (now (h .entry)) → Matrix (su2-entry (complexOf c) p (weight given (now (weights .entry))) (length (complexOf c .triangles))) n old (now (h .exit))) ⌝ }
+{
+    for t in 0..c.n_triangles {
+        add_triangle(h, n, c, f, t, p.magnetic * weight_of(given, weights, t));
+    }
+}
+
+// The matrix goes to the beginning of a list. Another list begins with the states.
+fn write_matrix(
+    h: &mut [f64],
+    c: SimplicialComplex,
+    f: Forest,
+    p: KSParams,
+    given: bool,
+    weights: &[f64],
+    states: &[u64],
+)
+    requires { ⌜ MatrixOf (complexOf c) f (2 ^ f .count) (length (now h)) × Weighed (complexOf c) given (now weights) × ((rest : List ℕ) × (now states ≡ su2-states (complexOf c) ++ rest)) ⌝ }
+    ensures { λ _. ⌜ now (h .exit) ≡ su2-dense (complexOf c) p (weight given (now (weights .entry))) ++ drop (2 ^ f .count * 2 ^ f .count) (now (h .entry)) ⌝ }
+{
+    let count = f.count;
+    let n = 1 << count;
+    clear_matrix(h, n);
+    add_energies(h, n, p.electric, states);
+    add_triangles(h, n, c, f, p, given, weights);
 }
