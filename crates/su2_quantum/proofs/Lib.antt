@@ -8,4 +8,5 @@ pub mod Doubling
 pub mod Placing
 pub mod Telling
 pub mod DenseEntries
+pub mod DenseTelling
 pub mod Examples

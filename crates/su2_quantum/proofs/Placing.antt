@@ -13,13 +13,17 @@ use lib.ListN.{getD, length}
 use lib.Seq.{getD-take}
 use Rattle.mathematics.specs.Bits.{bit}
 use Rattle.mathematics.proofs.Tests.{and-parts, and-both}
-use Rattle.complex.specs.Complex.{Complex}
+use Rattle.complex.specs.declared.SimplicialComplex.{SimplicialComplex}
+use Rattle.complex.specs.Complex.{Complex, complexOf}
+use Rattle.complex.specs.Judge.{refusal}
+use Rattle.complex.proofs.Accepting.{accepted}
 use Rattle.gauss_law.specs.Listing.{free-edges}
+use Rattle.gauss_law.proofs.Spanned.{edges-long}
 use Rattle.su2_quantum.specs.declared.forest.Forest.{Forest}
 use Rattle.su2_quantum.specs.declared.place.MaskPlace.the-variants.{Place, NotListed}
 use Rattle.su2_quantum.specs.EvenSets.{even, su2-states, mask-place}
-use Rattle.su2_quantum.specs.Loops.{spanned, combined, closing-bits}
-use Rattle.su2_quantum.specs.Forest.{Front}
+use Rattle.su2_quantum.specs.Loops.{grown, spanned, combined, closing-bits}
+use Rattle.su2_quantum.specs.Forest.{Front, Keeps}
 use Rattle.su2_quantum.specs.Place.{maskPlaced, LoopsOf, Readable}
 use Rattle.su2_quantum.proofs.Forests.{all-grown, closing-below}
 use Rattle.su2_quantum.proofs.ClosingCount.{closing-free}
@@ -43,6 +47,10 @@ spanned-same l m (suc n) h = rw (spanned-same l m n (λ j k. h j (omega arith)),
 
 front-at : (l list : List ℕ) (n : ℕ) → Front l list n → (j : ℕ) → j < n → getD list j 0 ≡ getD l j 0
 front-at l list n h j k = sym (getD-take n list j 0 k) ∙ ap (λ (m : List ℕ). getD m j 0) (h .stands)
+
+-- the tables that are made of an accepted record
+pub loops-of : (c : SimplicialComplex) → refusal (complexOf c) ≡ 0 → (f : Forest) → Keeps (grown (complexOf c .edges) (c .«n_edges»)) f → LoopsOf (complexOf c) f
+loops-of c good f keeps = record { accepted = accepted c .0 good; keeps = rw (edges-long c) keeps }
 
 -- ---- the states
 module _ (c : Complex) (f : Forest) (of : LoopsOf c f) where

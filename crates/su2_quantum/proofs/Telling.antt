@@ -20,7 +20,6 @@ use Rattle.complex.specs.Judge.{Accepted, refusal}
 use Rattle.complex.proofs.Refusing.{refused-first, accepted-next}
 use Rattle.complex.proofs.Accepting.{accepted}
 use Rattle.gauss_law.specs.Listing.{free-edges}
-use Rattle.gauss_law.proofs.Spanned.{edges-long}
 use Rattle.su2_quantum.specs.declared.forest.Forest.{Forest}
 use Rattle.su2_quantum.specs.declared.basis.Su2Basis.the-variants.{States, Refused}
 use Rattle.su2_quantum.specs.EvenSets.{su2-states}
@@ -29,7 +28,7 @@ use Rattle.su2_quantum.specs.Forest.{Keeps}
 use Rattle.su2_quantum.specs.Place.{LoopsOf}
 use Rattle.su2_quantum.specs.Basis.{su2Answer, su2-refusal, Su2Listed}
 use Rattle.su2_quantum.proofs.EvenLists.{even-count, even-complete}
-use Rattle.su2_quantum.proofs.Placing.{closing-number, states-number, masks-are}
+use Rattle.su2_quantum.proofs.Placing.{loops-of, closing-number, states-number, masks-are}
 
 -- the limit is 2 ^ 20
 pub limit-told : (n : ℕ) → ltb 1048576 (2 ^ n) ≡ ltb 20 n
@@ -61,12 +60,12 @@ module _ (c : SimplicialComplex) (old : List ℕ) where
   record-refused k e some = refused-listed k (refused-first (complexOf c) rest k e some) some
 
   module _ (good : refusal (complexOf c) ≡ 0) (f : Forest) (keeps : Keeps (grown (complexOf c .edges) (c .«n_edges»)) f) where
-    pub loops-of : LoopsOf (complexOf c) f
-    loops-of = record { accepted = accepted c .0 good; keeps = rw (edges-long c) keeps }
+    of : LoopsOf (complexOf c) f
+    of = loops-of c good f keeps
 
     by-tests : su2-refusal (complexOf c) (length old) ≡ cond (ltb 20 (f .count)) 10 (cond (ltb (length old) (2 ^ f .count)) 15 0)
     unfolding su2-refusal first rest
-    by-tests = accepted-next (complexOf c) rest good ∙ rw (← (closing-number _ f loops-of), limit-told (f .count), states-number _ f loops-of)
+    by-tests = accepted-next (complexOf c) rest good ∙ rw (← (closing-number _ f of), limit-told (f .count), states-number _ f of)
 
     pub limit-refused : 20 < f .count → Su2Listed (complexOf c) old old (Refused 10)
     limit-refused h = refused-listed 10 (by-tests ∙ rw (lt-ltb 20 (f .count) h)) (λ z. omega arith)
@@ -81,10 +80,10 @@ module _ (c : SimplicialComplex) (old : List ℕ) where
       states-listed h new r number is =
           let none-left : su2-refusal (complexOf c) (length old) ≡ 0 = by-tests ∙ rw (le-ltb 20 (f .count) few, le-ltb (length old) (2 ^ f .count) h) in
           record {
-            answer = rw none-left (ap value (number ∙ sym (states-number _ f loops-of)));
-            list = rw none-left (is ∙ ap₂ (λ (l : List ℕ) (n : ℕ). l ++ drop n old) (masks-are _ f loops-of) (sym (states-number _ f loops-of)));
-            complete = λ z. even-complete (complexOf c) (loops-of .accepted);
-            few = λ z. rw (states-number _ f loops-of) (pow-mono few);
+            answer = rw none-left (ap value (number ∙ sym (states-number _ f of)));
+            list = rw none-left (is ∙ ap₂ (λ (l : List ℕ) (n : ℕ). l ++ drop n old) (masks-are _ f of) (sym (states-number _ f of)));
+            complete = λ z. even-complete (complexOf c) (of .accepted);
+            few = λ z. rw (states-number _ f of) (pow-mono few);
           }
 
 -- an accepted complex within the limit is never refused where the list is long enough

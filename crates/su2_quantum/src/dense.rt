@@ -1,12 +1,18 @@
 // The two-valued Hamiltonian as a dense matrix.
+use crate::basis::Su2Basis;
+use crate::basis::write_masks;
 use crate::forest::Forest;
+use crate::forest::closing_loops;
 use crate::place::closing_bits;
 use complex::SimplicialComplex;
+use complex::judge::judge;
 use complex::triangle::triangle_sides;
 use hamiltonian::coupling::KSParams;
+use hamiltonian::coupling::is_su2;
 use hamiltonian::electric::energy;
 use hamiltonian::matrix::add_entry;
 use hamiltonian::matrix::clear_matrix;
+use hamiltonian::weights::judge_weights;
 use hamiltonian::weights::weight_of;
 ghost use mathlib.Core.Path.{_≡_};
 ghost use mathlib.Core.List.{List, _++_};
@@ -22,7 +28,7 @@ ghost use Rattle.hamiltonian.specs.Weights.{weight};
 ghost use Rattle.hamiltonian.specs.Matrix.{Matrix, passed};
 ghost use Rattle.su2_quantum.specs.EvenSets.{su2-states, mask-place};
 ghost use Rattle.su2_quantum.specs.Place.{LoopsOf};
-ghost use Rattle.su2_quantum.specs.Dense.{triangle-mask, su2-electric-entry, su2-entry, su2-dense, MatrixOf, Weighed};
+ghost use Rattle.su2_quantum.specs.Dense.{triangle-mask, su2-electric-entry, su2-entry, su2-dense, Su2Built, MatrixOf, Weighed};
 
 // A factor times the number of edges in a state.
 fn state_energy(factor: f64, state: u64) -> f64
@@ -110,4 +116,38 @@ fn write_matrix(
     clear_matrix(h, n);
     add_energies(h, n, p.electric, states);
     add_triangles(h, n, c, f, p, given, weights);
+}
+
+// All even edge sets of a record go to the beginning of one list, and the Hamiltonian on them to that of another. All is judged first.
+pub fn build_su2_hamiltonian(
+    c: SimplicialComplex,
+    p: KSParams,
+    given: bool,
+    weights: &[f64],
+    states: &mut [u64],
+    result: &mut [f64],
+) -> Su2Basis
+    ensures { λ r. ⌜ Su2Built (complexOf c) p given (now (weights .entry)) (now (states .entry)) (now (result .entry)) r (now (states .exit)) (now (result .exit)) ⌝ }
+{
+    let number = judge(c);
+    if number != 0 {
+        return Su2Basis::Refused(number);
+    }
+    let f = closing_loops(c);
+    let count = f.count;
+    if 20 < count {
+        return Su2Basis::Refused(10);
+    }
+    let other = judge_weights(c.n_triangles, is_su2(p), given, weights);
+    if other != 0 {
+        return Su2Basis::Refused(other);
+    }
+    let n = 1 << count;
+    if (states.len() < n) | (result.len() < n * n) {
+        return Su2Basis::Refused(15);
+    }
+    let loops = f.loops;
+    write_masks(states, &loops, count);
+    write_matrix(result, c, f, p, given, weights, states);
+    Su2Basis::States(n)
 }

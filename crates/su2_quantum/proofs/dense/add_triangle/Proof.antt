@@ -31,8 +31,8 @@ returns c =
     let start = c .before .before .before .before .before .before in
     let matrix = start .pre .0 in
     λ p w old factor m.
-        let moved = c .before .before .add-flips .ensures (su2-entry (complexOf (start .args .c)) p w (start .args .t)) old m in
-        triangle-matrix _ (matrix .loops .accepted) p (start .args .n) (rows-number _ _ _ _ matrix) old _ w (start .args .t) (there start) (rw (factor, c .before .before .before .triangle-place .ensures) at moved)
+    let moved = c .before .before .add-flips .ensures (su2-entry (complexOf (start .args .c)) p w (start .args .t)) old m in
+    triangle-matrix _ (matrix .loops .accepted) p (start .args .n) (rows-number _ _ _ _ matrix) old _ w (start .args .t) (there start) (rw (factor, c .before .before .before .triangle-place .ensures) at moved)
 
 pub add-triangle-spec : {M : Type 1} → statement M
 add-triangle-spec =
