@@ -26,7 +26,7 @@ number-is : (s : Simplex) (es : List Simplex) → listed same s es ≡ true → 
 unfolding number
 number-is s es h = rw h (omega arith, omega arith)
 
-triangles-long : (c : SimplicialComplex) → length (complexOf c .triangles) ≡ c .«n_triangles»
+pub triangles-long : (c : SimplicialComplex) → length (complexOf c .triangles) ≡ c .«n_triangles»
 unfolding complexOf
 triangles-long c = simplices-length 3 (c .triangles) (c .«n_triangles»)
 

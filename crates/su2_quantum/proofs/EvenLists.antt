@@ -137,22 +137,21 @@ module _ (c : Complex) (accepted : Accepted c) where
               let r : getD (spanned loops n) i 0 ≡ x = ap (λ (j : ℕ). getD (spanned loops n) j 0) q ∙ there in
               le-ltb (getD (spanned loops n) i 0) x (omega arith) ∙ sym (le-ltb i k (omega arith))
 
+  -- state number i stands at place i
+  pub state-place : (i : ℕ) → i < length (su2-states c) → mask-place c (getD (su2-states c) i 0) ≡ i
+  state-place i h =
+      let listed = even-complete .only _ (i, h, refl) in
+      let number : i < 2 ^ n = rw (← (span-length loops n), masks-listed) h in
+      mask-place-read _ (listed .1) (listed .0)
+      ∙ ap (λ (x : ℕ). closing-bits closing x n) (ap (λ (l : List ℕ). getD l i 0) (sym masks-listed) ∙ span-at loops n i number)
+      ∙ combined-reads echelon i number
+
   -- ---- a triangle's three edges flipped
   abbrev three : ℕ → ℕ → ℕ → ℕ
   three i j k = bitXor (bitXor (2 ^ i) (2 ^ j)) (2 ^ k)
 
-  -- the flipped state is a state, and its place is the place xor a number of the triangle
-  pub flipped-place : (t i j k : ℕ) → t < length (c .triangles) → sides c t ≡ i ∷ j ∷ k ∷ [] → (x : ℕ) → even c x ≡ true → x < 2 ^ length (c .edges)
-      → (even c (bitXor x (three i j k)) ≡ true) × (bitXor x (three i j k) < 2 ^ length (c .edges))
-      × (mask-place c (bitXor x (three i j k)) ≡ bitXor (mask-place c x) (mask-place c (three i j k)))
-  flipped-place t i j k number is x e b =
-      let triangle : Listed (three i j k) = (even-triangle c accepted t i j k number is, below-edges) in
-      let flipped : Listed (bitXor x (three i j k)) = (even-xor c accepted x (three i j k) e (triangle .0), xor-lt (length (c .edges)) x (three i j k) b (triangle .1)) in (
-        flipped .0,
-        flipped .1,
-        mask-place-read _ (flipped .0) (flipped .1) ∙ bits-xor closing x (three i j k) n
-            ∙ ap₂ bitXor (sym (mask-place-read x e b)) (sym (mask-place-read (three i j k) (triangle .0) (triangle .1))),
-      )
+  pub three-listed : (t i j k : ℕ) → t < length (c .triangles) → sides c t ≡ i ∷ j ∷ k ∷ [] → (even c (three i j k) ≡ true) × (three i j k < 2 ^ length (c .edges))
+  three-listed t i j k number is = (even-triangle c accepted t i j k number is, below-edges)
     where
       below-edges : three i j k < 2 ^ length (c .edges)
       below-edges =
@@ -162,3 +161,16 @@ module _ (c : Complex) (accepted : Accepted c) where
           let d : j < length (c .edges) = rw (ap (λ (l : List ℕ). getD l 1 0) same) at (s .j-below) in
           let f : k < length (c .edges) = rw (ap (λ (l : List ℕ). getD l 2 0) same) at (s .k-below) in
           xor-lt (length (c .edges)) _ _ (xor-lt (length (c .edges)) _ _ (pow-lt a) (pow-lt d)) (pow-lt f)
+
+  -- the flipped state is a state, and its place is the place xor a number of the triangle
+  pub flipped-place : (t i j k : ℕ) → t < length (c .triangles) → sides c t ≡ i ∷ j ∷ k ∷ [] → (x : ℕ) → even c x ≡ true → x < 2 ^ length (c .edges)
+      → (even c (bitXor x (three i j k)) ≡ true) × (bitXor x (three i j k) < 2 ^ length (c .edges))
+      × (mask-place c (bitXor x (three i j k)) ≡ bitXor (mask-place c x) (mask-place c (three i j k)))
+  flipped-place t i j k number is x e b =
+      let triangle = three-listed t i j k number is in
+      let flipped : Listed (bitXor x (three i j k)) = (even-xor c accepted x (three i j k) e (triangle .0), xor-lt (length (c .edges)) x (three i j k) b (triangle .1)) in (
+        flipped .0,
+        flipped .1,
+        mask-place-read _ (flipped .0) (flipped .1) ∙ bits-xor closing x (three i j k) n
+            ∙ ap₂ bitXor (sym (mask-place-read x e b)) (sym (mask-place-read (three i j k) (triangle .0) (triangle .1))),
+      )

@@ -5,6 +5,8 @@ pub mod Forests
 pub mod ClosingCount
 pub mod EvenLists
 pub mod Doubling
-pub mod Telling
 pub mod Placing
+pub mod Telling
+pub mod DenseEntries
+pub mod DenseTelling
 pub mod Examples

@@ -1,4 +1,4 @@
--- The place of a mask, by the tables of its complex.
+-- The states and the place of a mask, by the tables of their complex.
 use Prim.Native.Nat.{ℕ, zero, suc, _+_, _*_, _^_, _<_, _≤_}
 use mathlib.Core.List.{List}
 use mathlib.Core.Bool.{Bool, true, false, _&&_, cond, false≢true}
@@ -13,15 +13,21 @@ use lib.ListN.{getD, length}
 use lib.Seq.{getD-take}
 use Rattle.mathematics.specs.Bits.{bit}
 use Rattle.mathematics.proofs.Tests.{and-parts, and-both}
-use Rattle.complex.specs.Complex.{Complex}
+use Rattle.complex.specs.declared.SimplicialComplex.{SimplicialComplex}
+use Rattle.complex.specs.Complex.{Complex, complexOf}
+use Rattle.complex.specs.Judge.{refusal}
+use Rattle.complex.proofs.Accepting.{accepted}
+use Rattle.gauss_law.specs.Listing.{free-edges}
+use Rattle.gauss_law.proofs.Spanned.{edges-long}
 use Rattle.su2_quantum.specs.declared.forest.Forest.{Forest}
 use Rattle.su2_quantum.specs.declared.place.MaskPlace.the-variants.{Place, NotListed}
-use Rattle.su2_quantum.specs.EvenSets.{even, mask-place}
-use Rattle.su2_quantum.specs.Loops.{combined, closing-bits}
-use Rattle.su2_quantum.specs.Forest.{Front}
+use Rattle.su2_quantum.specs.EvenSets.{even, su2-states, mask-place}
+use Rattle.su2_quantum.specs.Loops.{grown, spanned, combined, closing-bits}
+use Rattle.su2_quantum.specs.Forest.{Front, Keeps}
 use Rattle.su2_quantum.specs.Place.{maskPlaced, LoopsOf, Readable}
 use Rattle.su2_quantum.proofs.Forests.{all-grown, closing-below}
-use Rattle.su2_quantum.proofs.EvenLists.{combined-listed, combined-all, mask-place-read}
+use Rattle.su2_quantum.proofs.ClosingCount.{closing-free}
+use Rattle.su2_quantum.proofs.EvenLists.{combined-listed, combined-all, masks-listed, even-count, mask-place-read}
 
 -- only the first entries matter
 bits-same : (l m : List ℕ) (x n : ℕ) → ((j : ℕ) → j < n → getD l j 0 ≡ getD m j 0) → closing-bits l x n ≡ closing-bits m x n
@@ -34,9 +40,33 @@ unfolding combined
 sums-same l m k zero h = refl
 sums-same l m k (suc n) h = rw (sums-same l m k n (λ j k. h j (omega arith)), h n (omega arith))
 
+spanned-same : (l m : List ℕ) (n : ℕ) → ((j : ℕ) → j < n → getD l j 0 ≡ getD m j 0) → spanned l n ≡ spanned m n
+unfolding spanned
+spanned-same l m zero h = refl
+spanned-same l m (suc n) h = rw (spanned-same l m n (λ j k. h j (omega arith)), h n (omega arith))
+
 front-at : (l list : List ℕ) (n : ℕ) → Front l list n → (j : ℕ) → j < n → getD list j 0 ≡ getD l j 0
 front-at l list n h j k = sym (getD-take n list j 0 k) ∙ ap (λ (m : List ℕ). getD m j 0) (h .stands)
 
+-- the tables that are made of an accepted record
+pub loops-of : (c : SimplicialComplex) → refusal (complexOf c) ≡ 0 → (f : Forest) → Keeps (grown (complexOf c .edges) (c .«n_edges»)) f → LoopsOf (complexOf c) f
+loops-of c good f keeps = record { accepted = accepted c .0 good; keeps = rw (edges-long c) keeps }
+
+-- ---- the states
+module _ (c : Complex) (f : Forest) (of : LoopsOf c f) where
+  pub closing-number : f .count ≡ length (free-edges c)
+  closing-number = of .keeps .closing .count ∙ closing-free c (of .accepted)
+
+  pub states-number : length (su2-states c) ≡ 2 ^ f .count
+  states-number = even-count c (of .accepted) ∙ ap (λ (k : ℕ). 2 ^ k) (sym closing-number)
+
+  pub masks-are : spanned (f .loops) (f .count) ≡ su2-states c
+  masks-are =
+      let loops = all-grown (c .edges) .loops in
+      spanned-same (f .loops) loops (f .count) (front-at loops (f .loops) (f .count) (of .keeps .loops))
+      ∙ ap (spanned loops) (of .keeps .closing .count) ∙ masks-listed c (of .accepted)
+
+-- ---- the place of a mask
 module _ (c : Complex) (f : Forest) (of : LoopsOf c f) (x : ℕ) where
   abbrev closing : List ℕ
   closing = all-grown (c .edges) .closing
@@ -53,13 +83,17 @@ module _ (c : Complex) (f : Forest) (of : LoopsOf c f) (x : ℕ) where
   sum-is : (k : ℕ) → combined (f .loops) k (f .count) ≡ combined loops k (length closing)
   sum-is k = sums-same (f .loops) loops k (f .count) (front-at loops (f .loops) (f .count) (of .keeps .loops)) ∙ ap (combined loops k) number
 
+  -- the place of a listed mask
+  pub listed-place : even c x ≡ true → x < 2 ^ length (c .edges) → closing-bits (f .closing) x (f .count) ≡ mask-place c x
+  listed-place e b = place-is ∙ sym (mask-place-read c (of .accepted) x e b)
+
   -- the sum of the loops of its closing edges is the mask itself just where it is listed
   pub placed : combined (f .loops) (closing-bits (f .closing) x (f .count)) (f .count) ≡ x → Place (closing-bits (f .closing) x (f .count)) ≡ maskPlaced c x
   unfolding maskPlaced
   placed h =
       let sum : combined loops (closing-bits closing x (length closing)) (length closing) ≡ x = ap (λ (k : ℕ). combined loops k (length closing)) (sym place-is) ∙ sym (sum-is _) ∙ h in
       let here = rw sum at (combined-listed c (of .accepted) (closing-bits closing x (length closing))) in
-      rw (lt-ltb x (2 ^ length (c .edges)) (here .1), here .0) (ap Place (place-is ∙ sym (mask-place-read c (of .accepted) x (here .0) (here .1))))
+      rw (lt-ltb x (2 ^ length (c .edges)) (here .1), here .0) (ap Place (listed-place (here .0) (here .1)))
 
   pub not-listed : combined (f .loops) (closing-bits (f .closing) x (f .count)) (f .count) ≢ x → NotListed ≡ maskPlaced c x
   unfolding maskPlaced

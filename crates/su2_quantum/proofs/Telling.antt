@@ -20,25 +20,18 @@ use Rattle.complex.specs.Judge.{Accepted, refusal}
 use Rattle.complex.proofs.Refusing.{refused-first, accepted-next}
 use Rattle.complex.proofs.Accepting.{accepted}
 use Rattle.gauss_law.specs.Listing.{free-edges}
-use Rattle.gauss_law.proofs.Spanned.{edges-long}
 use Rattle.su2_quantum.specs.declared.forest.Forest.{Forest}
 use Rattle.su2_quantum.specs.declared.basis.Su2Basis.the-variants.{States, Refused}
 use Rattle.su2_quantum.specs.EvenSets.{su2-states}
 use Rattle.su2_quantum.specs.Loops.{grown, spanned}
-use Rattle.su2_quantum.specs.Forest.{Front, Keeps}
+use Rattle.su2_quantum.specs.Forest.{Keeps}
+use Rattle.su2_quantum.specs.Place.{LoopsOf}
 use Rattle.su2_quantum.specs.Basis.{su2Answer, su2-refusal, Su2Listed}
-use Rattle.su2_quantum.proofs.Forests.{all-grown}
-use Rattle.su2_quantum.proofs.ClosingCount.{closing-free}
-use Rattle.su2_quantum.proofs.EvenLists.{masks-listed, even-count, even-complete}
-
--- only the loops that are summed matter
-spanned-same : (l m : List ℕ) (n : ℕ) → ((j : ℕ) → j < n → getD l j 0 ≡ getD m j 0) → spanned l n ≡ spanned m n
-unfolding spanned
-spanned-same l m zero h = refl
-spanned-same l m (suc n) h = rw (spanned-same l m n (λ j k. h j (omega arith)), h n (omega arith))
+use Rattle.su2_quantum.proofs.EvenLists.{even-count, even-complete}
+use Rattle.su2_quantum.proofs.Placing.{loops-of, closing-number, states-number, masks-are}
 
 -- the limit is 2 ^ 20
-limit-told : (n : ℕ) → ltb 1048576 (2 ^ n) ≡ ltb 20 n
+pub limit-told : (n : ℕ) → ltb 1048576 (2 ^ n) ≡ ltb 20 n
 limit-told n = go (decLt 20 n)
   where
     go : Dec (20 < n) → ltb 1048576 (2 ^ n) ≡ ltb 20 n
@@ -67,21 +60,12 @@ module _ (c : SimplicialComplex) (old : List ℕ) where
   record-refused k e some = refused-listed k (refused-first (complexOf c) rest k e some) some
 
   module _ (good : refusal (complexOf c) ≡ 0) (f : Forest) (keeps : Keeps (grown (complexOf c .edges) (c .«n_edges»)) f) where
-    right : Accepted (complexOf c)
-    right = accepted c .0 good
-
-    held : Keeps (all-grown (complexOf c .edges)) f
-    held = rw (edges-long c) keeps
-
-    pub closing-number : f .count ≡ length (free-edges (complexOf c))
-    closing-number = held .closing .count ∙ closing-free (complexOf c) right
-
-    states-number : length (su2-states (complexOf c)) ≡ 2 ^ f .count
-    states-number = even-count (complexOf c) right ∙ ap (λ (k : ℕ). 2 ^ k) (sym closing-number)
+    of : LoopsOf (complexOf c) f
+    of = loops-of c good f keeps
 
     by-tests : su2-refusal (complexOf c) (length old) ≡ cond (ltb 20 (f .count)) 10 (cond (ltb (length old) (2 ^ f .count)) 15 0)
     unfolding su2-refusal first rest
-    by-tests = accepted-next (complexOf c) rest good ∙ rw (← closing-number, limit-told (f .count), states-number)
+    by-tests = accepted-next (complexOf c) rest good ∙ rw (← (closing-number _ f of), limit-told (f .count), states-number _ f of)
 
     pub limit-refused : 20 < f .count → Su2Listed (complexOf c) old old (Refused 10)
     limit-refused h = refused-listed 10 (by-tests ∙ rw (lt-ltb 20 (f .count) h)) (λ z. omega arith)
@@ -90,23 +74,16 @@ module _ (c : SimplicialComplex) (old : List ℕ) where
       pub room-refused : length old < 2 ^ f .count → Su2Listed (complexOf c) old old (Refused 15)
       room-refused h = refused-listed 15 (by-tests ∙ rw (le-ltb 20 (f .count) few, lt-ltb (length old) (2 ^ f .count) h)) (λ z. omega arith)
 
-      masks-are : spanned (f .loops) (f .count) ≡ su2-states (complexOf c)
-      masks-are =
-          let front = held .loops in
-          let same : spanned (f .loops) (f .count) ≡ spanned (all-grown (complexOf c .edges) .loops) (f .count) =
-          spanned-same _ _ (f .count) (λ j h. sym (getD-take (f .count) (f .loops) j 0 h) ∙ ap (λ (l : List ℕ). getD l j 0) (front .stands)) in
-          same ∙ ap (spanned (all-grown (complexOf c .edges) .loops)) (held .closing .count) ∙ masks-listed (complexOf c) right
-
       pub states-listed : 2 ^ f .count ≤ length old → (new : List ℕ) (r : ℕ) → r ≡ 2 ^ f .count → new ≡ spanned (f .loops) (f .count) ++ drop (2 ^ f .count) old
           → Su2Listed (complexOf c) old new (States r)
       unfolding su2Answer outcome written
       states-listed h new r number is =
           let none-left : su2-refusal (complexOf c) (length old) ≡ 0 = by-tests ∙ rw (le-ltb 20 (f .count) few, le-ltb (length old) (2 ^ f .count) h) in
           record {
-            answer = rw none-left (ap value (number ∙ sym states-number));
-            list = rw none-left (is ∙ ap₂ (λ (l : List ℕ) (n : ℕ). l ++ drop n old) masks-are (sym states-number));
-            complete = λ z. even-complete (complexOf c) right;
-            few = λ z. rw states-number (pow-mono few);
+            answer = rw none-left (ap value (number ∙ sym (states-number _ f of)));
+            list = rw none-left (is ∙ ap₂ (λ (l : List ℕ) (n : ℕ). l ++ drop n old) (masks-are _ f of) (sym (states-number _ f of)));
+            complete = λ z. even-complete (complexOf c) (of .accepted);
+            few = λ z. rw (states-number _ f of) (pow-mono few);
           }
 
 -- an accepted complex within the limit is never refused where the list is long enough

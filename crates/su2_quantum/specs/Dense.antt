@@ -1,18 +1,27 @@
 -- The two-valued Hamiltonian as a dense matrix: each entry is a sum of floats in a fixed order, with one rounding an operation.
-use Prim.Native.Nat.{ℕ, zero, suc, _^_}
-use mathlib.Core.List.{List}
-use mathlib.Core.Bool.{Bool, cond}
+use Prim.Native.Nat.{ℕ, zero, suc, _*_, _^_, _≤_}
+use mathlib.Core.List.{List, [], _∷_, _++_}
+use mathlib.Core.Bool.{Bool, true, _||_, cond}
+use mathlib.Core.Path.{_≡_}
 use lib.Bits.{bitXor}
 use lib.Count.{ones}
-use lib.Dec.{eqb}
+use lib.Dec.{eqb, ltb}
 use lib.Ieee.{Float, binary64, add, mul}
-use lib.ListN.{getD, length}
+use lib.ListN.{getD, length, drop}
+use Rattle.mathematics.specs.Refusals.{first, outcome, written}
 use Rattle.complex.specs.Complex.{Complex}
+use Rattle.complex.specs.Judge.{counts-test, shape-tests}
+use Rattle.gauss_law.specs.Listing.{free-edges}
 use Rattle.gauss_law.specs.Shifts.{side}
 use Rattle.hamiltonian.specs.declared.coupling.KSParams.{KSParams}
-use Rattle.hamiltonian.specs.Coupling.{whole}
+use Rattle.hamiltonian.specs.Coupling.{whole, su2-right}
+use Rattle.hamiltonian.specs.Weights.{weight, weights-tests}
 use Rattle.hamiltonian.specs.Matrix.{rows}
+use Rattle.su2_quantum.specs.declared.basis.Su2Basis.{Su2Basis}
+use Rattle.su2_quantum.specs.declared.forest.Forest.{Forest}
 use Rattle.su2_quantum.specs.EvenSets.{su2-states, mask-place}
+use Rattle.su2_quantum.specs.Basis.{su2Answer}
+use Rattle.su2_quantum.specs.Place.{LoopsOf}
 
 -- the three edges of triangle t as a mask
 unfoldable pub triangle-mask : Complex → ℕ → ℕ
@@ -34,3 +43,34 @@ su2-entry c p w (suc t) i j = cond (flips c t i j) (add binary64 (su2-entry c p 
 -- all entries, row by row
 unfoldable pub su2-dense : Complex → KSParams → (ℕ → Float) → List Float
 su2-dense c p w = rows (su2-entry c p w (length (c .triangles))) (length (su2-states c))
+
+-- 4, 7 to 10 as for the basis, then 12 and 14 for the weights and the coupling, and 15 where the list of states or that of entries is too short
+unfoldable pub su2-dense-refusal : Complex → KSParams → Bool → List Float → ℕ → ℕ → ℕ
+su2-dense-refusal c p given weights work-room result-room =
+    first (
+    (counts-test c ∷ shape-tests c)
+    ++ ((10, ltb 1048576 (2 ^ length (free-edges c)))
+    ∷ (weights-tests (length (c .triangles)) (su2-right p) given weights
+    ++ ((15, ltb work-room (length (su2-states c)) || ltb result-room (length (su2-states c) * length (su2-states c))) ∷ [])))
+    )
+
+-- the number of states is told, one list begins with the states, ascending, and the other with the matrix; on a refusal both are as they were
+pub record Su2Built (c : Complex) (p : KSParams) (given : Bool) (weights : List Float) (work : List ℕ) (result : List Float) (r : Su2Basis) (work′ : List ℕ) (result′ : List Float) : Type 0 where
+  pub answer : su2Answer r ≡ outcome (su2-dense-refusal c p given weights (length work) (length result)) (length (su2-states c))
+  pub work-list : work′ ≡ written (su2-dense-refusal c p given weights (length work) (length result)) (su2-states c ++ drop (length (su2-states c)) work) work
+  pub result-list : result′
+      ≡ written (su2-dense-refusal c p given weights (length work) (length result))
+      (su2-dense c p (weight given weights) ++ drop (length (su2-states c) * length (su2-states c)) result) result
+  pub few : su2-dense-refusal c p given weights (length work) (length result) ≡ 0 → length (su2-states c) ≤ 1048576
+
+-- ---- as the code keeps it
+-- the loops of an accepted complex that has n states, and room for a matrix of them
+pub record MatrixOf (c : Complex) (f : Forest) (n room : ℕ) : Type 0 where
+  pub loops : LoopsOf c f
+  pub few : f .count ≤ 20
+  pub states : n ≡ 2 ^ f .count
+  pub long : n * n ≤ room
+
+-- one weight for each triangle where weights are given
+abbrev pub Weighed : Complex → Bool → List Float → Type 0
+Weighed c given weights = given ≡ true → length weights ≡ length (c .triangles)

@@ -22,7 +22,7 @@ fn double(states: &mut [u64], count: usize, cycle: u64)
 }
 
 // All sums of the first loops go to the beginning of a list.
-fn write_masks(states: &mut [u64], loops: &[u64; 63], n: usize)
+pub fn write_masks(states: &mut [u64], loops: &[u64; 63], n: usize)
     requires { ⌜ (length (now loops) ≡ 63) × (n ≤ 20) × (2 ^ n ≤ length (now states)) ⌝ }
     ensures { λ _. ⌜ now (states .exit) ≡ spanned (now (loops .entry)) n ++ drop (2 ^ n) (now (states .entry)) ⌝ }
 {

@@ -21,7 +21,7 @@ fn bit_of(x: u64, i: usize) -> usize
 }
 
 // The bits of a mask at the first n closing edges, as a number.
-fn closing_bits(closing: &[u8; 63], n: usize, x: u64) -> usize
+pub fn closing_bits(closing: &[u8; 63], n: usize, x: u64) -> usize
     requires { ⌜ (n ≤ 20) × (length (now closing) ≡ 63) × ((j : ℕ) → j < n → getD (now closing) j 0 < 64) ⌝ }
     ensures { λ r. ⌜ r ≡ closing-bits (now (closing .entry)) x n ⌝ }
 {

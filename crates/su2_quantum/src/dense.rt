@@ -1,0 +1,153 @@
+// The two-valued Hamiltonian as a dense matrix.
+use crate::basis::Su2Basis;
+use crate::basis::write_masks;
+use crate::forest::Forest;
+use crate::forest::closing_loops;
+use crate::place::closing_bits;
+use complex::SimplicialComplex;
+use complex::judge::judge;
+use complex::triangle::triangle_sides;
+use hamiltonian::coupling::KSParams;
+use hamiltonian::coupling::is_su2;
+use hamiltonian::electric::energy;
+use hamiltonian::matrix::add_entry;
+use hamiltonian::matrix::clear_matrix;
+use hamiltonian::weights::judge_weights;
+use hamiltonian::weights::weight_of;
+ghost use mathlib.Core.Path.{_≡_};
+ghost use mathlib.Core.List.{List, _++_};
+ghost use Prim.Native.Nat.{ℕ, _+_, _*_, _^_, _<_, _≤_};
+ghost use lib.Bits.{bitXor};
+ghost use lib.Count.{ones};
+ghost use lib.Ieee.{Float, binary64, mul};
+ghost use lib.ListN.{getD, length, drop};
+ghost use Rattle.complex.specs.Complex.{complexOf};
+ghost use Rattle.hamiltonian.specs.declared.coupling.KSParams.{KSParams};
+ghost use Rattle.hamiltonian.specs.Coupling.{whole};
+ghost use Rattle.hamiltonian.specs.Weights.{weight};
+ghost use Rattle.hamiltonian.specs.Matrix.{Matrix, passed};
+ghost use Rattle.su2_quantum.specs.EvenSets.{su2-states, mask-place};
+ghost use Rattle.su2_quantum.specs.Place.{LoopsOf};
+ghost use Rattle.su2_quantum.specs.Dense.{triangle-mask, su2-electric-entry, su2-entry, su2-dense, Su2Built, MatrixOf, Weighed};
+
+// A factor times the number of edges in a state.
+fn state_energy(factor: f64, state: u64) -> f64
+    ensures { λ r. ⌜ r ≡ mul binary64 factor (whole (ones state)) ⌝ }
+{
+    energy(factor, u64::count_ones(state) as usize)
+}
+
+// The energy of each state is added on the diagonal.
+fn add_energies(h: &mut [f64], n: usize, factor: f64, states: &[u64])
+    requires { ⌜ (n ≤ 2 ^ 20) × (n * n ≤ length (now h)) × (n ≤ length (now states)) ⌝ }
+    ensures { λ _. ⌜ ((f : ℕ → ℕ → Float) (old : List Float) → Matrix f n old (now (h .entry)) → Matrix (passed f (λ i. i) (λ i. mul binary64 factor (whole (ones (getD (now (states .entry)) i 0)))) n) n old (now (h .exit))) ⌝ }
+{
+    for i in 0..n {
+        add_entry(h, n, i, i, state_energy(factor, states[i]));
+    }
+}
+
+// x is added to entry (i, i xor k) of each row i.
+fn add_flips(h: &mut [f64], n: usize, k: usize, x: f64)
+    requires { ⌜ (n ≤ 2 ^ 20) × (n * n ≤ length (now h)) × ((i : ℕ) → i < n → bitXor i k < n) ⌝ }
+    ensures { λ _. ⌜ ((f : ℕ → ℕ → Float) (old : List Float) → Matrix f n old (now (h .entry)) → Matrix (passed f (λ i. bitXor i k) (λ i. x) n) n old (now (h .exit))) ⌝ }
+{
+    for i in 0..n {
+        add_entry(h, n, i, i ^ k, x);
+    }
+}
+
+// The place of a triangle's three edges in the list of states.
+fn triangle_place(c: SimplicialComplex, f: Forest, t: usize) -> usize
+    requires { ⌜ LoopsOf (complexOf c) f × (f .count ≤ 20) × (t < c .«n_triangles») ⌝ }
+    ensures { λ r. ⌜ r ≡ mask-place (complexOf c) (triangle-mask (complexOf c) t) ⌝ }
+{
+    let sides = triangle_sides(c, t);
+    let closing = f.closing;
+    let n = f.count;
+    closing_bits(
+        &closing,
+        n,
+        (1 << sides.first) ^ (1 << sides.second) ^ (1 << sides.third),
+    )
+}
+
+// A triangle adds x to each entry of two states that it flips to each other.
+fn add_triangle(h: &mut [f64], n: usize, c: SimplicialComplex, f: Forest, t: usize, x: f64)
+    requires { ⌜ MatrixOf (complexOf c) f n (length (now h)) × (t < c .«n_triangles») ⌝ }
+    ensures { λ _. ⌜ ((p : KSParams) (w : ℕ → Float) (old : List Float) → x ≡ mul binary64 (p .magnetic) (w t) → Matrix (su2-entry (complexOf c) p w t) n old (now (h .entry)) → Matrix (su2-entry (complexOf c) p w (t + 1)) n old (now (h .exit))) ⌝ }
+{
+    add_flips(h, n, triangle_place(c, f, t), x);
+}
+
+// Each triangle adds its magnetic factor × weight.
+fn add_triangles(
+    h: &mut [f64],
+    n: usize,
+    c: SimplicialComplex,
+    f: Forest,
+    p: KSParams,
+    given: bool,
+    weights: &[f64],
+)
+    requires { ⌜ MatrixOf (complexOf c) f n (length (now h)) × Weighed (complexOf c) given (now weights) ⌝ }
+    ensures { λ _. ⌜ ((old : List Float) → Matrix (su2-electric-entry (complexOf c) p) n old (now (h .entry)) → Matrix (su2-entry (complexOf c) p (weight given (now (weights .entry))) (length (complexOf c .triangles))) n old (now (h .exit))) ⌝ }
+{
+    for t in 0..c.n_triangles {
+        add_triangle(h, n, c, f, t, p.magnetic * weight_of(given, weights, t));
+    }
+}
+
+// The matrix goes to the beginning of a list. Another list begins with the states.
+fn write_matrix(
+    h: &mut [f64],
+    c: SimplicialComplex,
+    f: Forest,
+    p: KSParams,
+    given: bool,
+    weights: &[f64],
+    states: &[u64],
+)
+    requires { ⌜ MatrixOf (complexOf c) f (2 ^ f .count) (length (now h)) × Weighed (complexOf c) given (now weights) × ((rest : List ℕ) × (now states ≡ su2-states (complexOf c) ++ rest)) ⌝ }
+    ensures { λ _. ⌜ now (h .exit) ≡ su2-dense (complexOf c) p (weight given (now (weights .entry))) ++ drop (2 ^ f .count * 2 ^ f .count) (now (h .entry)) ⌝ }
+{
+    let count = f.count;
+    let n = 1 << count;
+    clear_matrix(h, n);
+    add_energies(h, n, p.electric, states);
+    add_triangles(h, n, c, f, p, given, weights);
+}
+
+// All even edge sets of a record go to the beginning of one list, and the Hamiltonian on them to that of another. All is judged first.
+pub fn build_su2_hamiltonian(
+    c: SimplicialComplex,
+    p: KSParams,
+    given: bool,
+    weights: &[f64],
+    states: &mut [u64],
+    result: &mut [f64],
+) -> Su2Basis
+    ensures { λ r. ⌜ Su2Built (complexOf c) p given (now (weights .entry)) (now (states .entry)) (now (result .entry)) r (now (states .exit)) (now (result .exit)) ⌝ }
+{
+    let number = judge(c);
+    if number != 0 {
+        return Su2Basis::Refused(number);
+    }
+    let f = closing_loops(c);
+    let count = f.count;
+    if 20 < count {
+        return Su2Basis::Refused(10);
+    }
+    let other = judge_weights(c.n_triangles, is_su2(p), given, weights);
+    if other != 0 {
+        return Su2Basis::Refused(other);
+    }
+    let n = 1 << count;
+    if (states.len() < n) | (result.len() < n * n) {
+        return Su2Basis::Refused(15);
+    }
+    let loops = f.loops;
+    write_masks(states, &loops, count);
+    write_matrix(result, c, f, p, given, weights, states);
+    Su2Basis::States(n)
+}
