@@ -14,9 +14,12 @@ use Rattle.walker.specs.Enumeration.{enumeratedAnswer}
 use Rattle.hamiltonian.specs.declared.coupling.KSParams.{KSParams}
 use Rattle.hamiltonian.specs.Coupling.{coupling-refusal, couplingOutcome}
 use Rattle.hamiltonian.specs.Dense.{Built}
+use Rattle.su2_quantum.specs.declared.basis.Su2Basis.{Su2Basis}
+use Rattle.su2_quantum.specs.Basis.{su2Answer}
+use Rattle.su2_quantum.specs.Dense.{Su2Built}
 use Rattle.zibrotka.specs.declared.Told.{Told}
 use Rattle.zibrotka.specs.declared.Opened.{Opened}
-use Rattle.zibrotka.specs.Exports.{signed, toldOf, signedOf, OpenedOf, complexIn, zeroOf, threeOf, Stored, Params, Matrices}
+use Rattle.zibrotka.specs.Exports.{signed, toldOf, signedOf, OpenedOf, complexIn, zeroOf, threeOf, Stored, Params, Matrices, Su2Matrices}
 use Rattle.zibrotka.proofs.Signs.{small-told}
 use Rattle.zibrotka.proofs.OnSheets.{stopped-told, stopped-kept, sheet-held, sheet-goes-on, call-told}
 
@@ -63,3 +66,28 @@ module _ (b : List ℕ) (p : KSParams) (given : Bool) (weights : List Float) (wo
 
     pub matrix-few : (t : Told) → t ≡ toldOf (enumeratedAnswer a) → t .value < 2 ^ 31
     matrix-few t is = small-told t (enumeratedAnswer a) _ _ is (matrix-held .answer) (λ z. omega (arith, matrix-held .few z))
+
+-- ---- the matrix of the two-valued mode
+module _ (b : List ℕ) (p : KSParams) (given : Bool) (weights : List Float) (work : List ℕ) (result : List Float) (o : Opened) (read : OpenedOf b o) where
+  pub su2-matrix-refused : (o .refusal ≡ 0 → ⊥) → (r : ℤ) → r ≡ negℤ (pos (o .refusal)) → Su2Matrices b p given weights work result r work result
+  su2-matrix-refused some r is =
+      record {
+        answer = stopped-told b o read some _ _ r is;
+        work-list = stopped-kept b o read some _ _ work;
+        result-list = stopped-kept b o read some _ _ result;
+      }
+
+  module _ (none : o .refusal ≡ 0) (a : Su2Basis) (work′ : List ℕ) (result′ : List Float) (made : Su2Built (complexOf (o .sheet .complex)) p given weights work result a work′ result′) where
+    su2-matrix-held : Su2Built (complexIn b) p given weights work result a work′ result′
+    su2-matrix-held = rw (sheet-held b o read none) at made
+
+    pub su2-matrix-told : (t : Told) → t ≡ toldOf (su2Answer a) → (r : ℤ) → r ≡ signedOf t → Su2Matrices b p given weights work result r work′ result′
+    su2-matrix-told t is r d =
+        record {
+          answer = call-told b o read none t (su2Answer a) _ _ is (su2-matrix-held .answer) r d;
+          work-list = rw (sheet-goes-on b o read none) (su2-matrix-held .work-list);
+          result-list = rw (sheet-goes-on b o read none) (su2-matrix-held .result-list);
+        }
+
+    pub su2-matrix-few : (t : Told) → t ≡ toldOf (su2Answer a) → t .value < 2 ^ 31
+    su2-matrix-few t is = small-told t (su2Answer a) _ _ is (su2-matrix-held .answer) (λ z. omega (arith, su2-matrix-held .few z))

@@ -30,6 +30,7 @@ use Rattle.hamiltonian.specs.Dense.{dense, dense-refusal}
 use Rattle.hamiltonian.specs.Triangle.{shifted-state, triangle-refusal}
 use Rattle.su2_quantum.specs.EvenSets.{su2-states, EvenComplete}
 use Rattle.su2_quantum.specs.Basis.{su2-refusal}
+use Rattle.su2_quantum.specs.Dense.{su2-dense, su2-dense-refusal}
 use Rattle.zibrotka.specs.declared.Told.{Told}
 use Rattle.zibrotka.specs.declared.Opened.{Opened}
 use Rattle.zibrotka.specs.declared.Edges.{Edges}
@@ -178,3 +179,9 @@ pub record Matrices (b : List ℕ) (p : KSParams) (given : Bool) (weights : List
   pub answer : r ≡ signed (outcome (after-sheet b (dense-refusal (complexIn b) (sheetIn b .lambda) p given weights (length work) (length result))) (length (states (complexIn b) (sheetIn b .lambda))))
   pub work-list : work′ ≡ written (after-sheet b (dense-refusal (complexIn b) (sheetIn b .lambda) p given weights (length work) (length result))) (basis-first (complexIn b) (sheetIn b .lambda) work) work
   pub result-list : result′ ≡ written (after-sheet b (dense-refusal (complexIn b) (sheetIn b .lambda) p given weights (length work) (length result))) (dense (complexIn b) (sheetIn b .lambda) p (weight given weights) ++ drop (length (states (complexIn b) (sheetIn b .lambda)) * length (states (complexIn b) (sheetIn b .lambda))) result) result
+
+-- zibrotka_build_su2_hamiltonian: the number of states, and the lists begin with all masks and with the matrix
+pub record Su2Matrices (b : List ℕ) (p : KSParams) (given : Bool) (weights : List Float) (work : List ℕ) (result : List Float) (r : ℤ) (work′ : List ℕ) (result′ : List Float) : Type 0 where
+  pub answer : r ≡ signed (outcome (after-sheet b (su2-dense-refusal (complexIn b) p given weights (length work) (length result))) (length (su2-states (complexIn b))))
+  pub work-list : work′ ≡ written (after-sheet b (su2-dense-refusal (complexIn b) p given weights (length work) (length result))) (su2-states (complexIn b) ++ drop (length (su2-states (complexIn b))) work) work
+  pub result-list : result′ ≡ written (after-sheet b (su2-dense-refusal (complexIn b) p given weights (length work) (length result))) (su2-dense (complexIn b) p (weight given weights) ++ drop (length (su2-states (complexIn b)) * length (su2-states (complexIn b))) result) result

@@ -22,6 +22,7 @@ use sheet::make_sheet;
 use sheet::read_sheet;
 use su2_quantum::basis::Su2Basis;
 use su2_quantum::basis::su2_basis;
+use su2_quantum::dense::build_su2_hamiltonian;
 use walker::enumerate::Enumerated;
 use walker::enumerate::enumerate_gauge_invariant;
 ghost use mathlib.Core.Path.{_≡_};
@@ -35,7 +36,7 @@ ghost use Rattle.hilbert.specs.Index.{indexAnswer};
 ghost use Rattle.hamiltonian.specs.Coupling.{couplingAnswer, u1-params, su2-params};
 ghost use Rattle.hamiltonian.specs.Triangle.{triangleAnswer};
 ghost use Rattle.su2_quantum.specs.Basis.{su2Answer};
-ghost use Rattle.zibrotka.specs.Exports.{toldOf, signedOf, readingNumber, yesOf, OpenedOf, edgesOf, numbersOf, MakeSheet, ReadSheet, EdgeIndices, Pentachora, SpanningTree, GaussLaw, States, Places, ShiftedPlaces, TrianglePlaces, Masks, Stored, Params, Matrices};
+ghost use Rattle.zibrotka.specs.Exports.{toldOf, signedOf, readingNumber, yesOf, OpenedOf, edgesOf, numbersOf, MakeSheet, ReadSheet, EdgeIndices, Pentachora, SpanningTree, GaussLaw, States, Places, ShiftedPlaces, TrianglePlaces, Masks, Stored, Params, Matrices, Su2Matrices};
 
 // A value, or the refusal, which is not 0.
 pub struct Told {
@@ -542,4 +543,33 @@ pub extern "C" fn zibrotka_build_hamiltonian(
     };
     let answer = build_hamiltonian(s.complex, s.lambda, p, given, weights, states, result);
     signed(told_states(answer))
+}
+
+// The dense matrix of a sheet in the two-valued mode: the number of its states.
+#[no_mangle]
+pub extern "C" fn zibrotka_build_su2_hamiltonian(
+    sheet: &[u8],
+    g_squared: f64,
+    electric: f64,
+    magnetic: f64,
+    given: bool,
+    weights: &[f64],
+    states: &mut [u64],
+    result: &mut [f64],
+) -> i64
+    ensures { λ r. ⌜ Su2Matrices (now (sheet .entry)) (record { «g_squared» = «g_squared»; electric = electric; magnetic = magnetic }) given (now (weights .entry)) (now (states .entry)) (now (result .entry)) r (now (states .exit)) (now (result .exit)) ⌝ }
+{
+    let opened = open(sheet);
+    let number = opened.refusal;
+    if number != 0 {
+        return refused(number);
+    }
+    let s = opened.sheet;
+    let p = KSParams {
+        g_squared: g_squared,
+        electric: electric,
+        magnetic: magnetic,
+    };
+    let answer = build_su2_hamiltonian(s.complex, p, given, weights, states, result);
+    signed(told_masks(answer))
 }
