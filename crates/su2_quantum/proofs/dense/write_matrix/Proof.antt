@@ -1,5 +1,5 @@
 use Prim.Native.Nat.{_≤_}
-use mathlib.Core.Path.{_≡_, ap}
+use mathlib.Core.Path.{ap}
 use native.Mathlib.Omega.{arith}
 use lib.ListN.{length, length-append}
 use Rattle.complex.specs.Complex.{complexOf}
