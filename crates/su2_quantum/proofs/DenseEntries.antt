@@ -1,8 +1,8 @@
 -- The entries of the matrix, as the code adds to them.
-use Prim.Native.Nat.{ℕ, suc, _+_, _*_, _^_, _<_, _≤_}
+use Prim.Native.Nat.{ℕ, _+_, _*_, _^_, _<_, _≤_}
 use mathlib.Core.List.{List, [], _∷_, _++_}
 use mathlib.Core.Bool.{Bool, cond}
-use mathlib.Core.Path.{_≡_, refl, sym, ap, ap₂, _∙_}
+use mathlib.Core.Path.{_≡_, refl, sym, ap, _∙_}
 use native.Mathlib.Numerals.{add-one}
 use lib.Bits.{bitXor, xor-lt}
 use lib.Count.{ones}
@@ -20,7 +20,7 @@ use Rattle.hamiltonian.specs.Coupling.{whole}
 use Rattle.hamiltonian.specs.Matrix.{rows, Matrix, passed}
 use Rattle.hamiltonian.proofs.Matrices.{matrix-is, matrix-same, passed-all}
 use Rattle.su2_quantum.specs.declared.forest.Forest.{Forest}
-use Rattle.su2_quantum.specs.EvenSets.{even, su2-states, mask-place}
+use Rattle.su2_quantum.specs.EvenSets.{su2-states, mask-place}
 use Rattle.su2_quantum.specs.Place.{LoopsOf}
 use Rattle.su2_quantum.specs.Loops.{closing-bits}
 use Rattle.su2_quantum.specs.Dense.{triangle-mask, flips, su2-electric-entry, su2-entry, su2-dense, MatrixOf}

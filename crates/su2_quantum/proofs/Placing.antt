@@ -1,18 +1,16 @@
 -- The states and the place of a mask, by the tables of their complex.
-use Prim.Native.Nat.{ℕ, zero, suc, _+_, _*_, _^_, _<_, _≤_}
+use Prim.Native.Nat.{ℕ, zero, suc, _^_, _<_, _≤_}
 use mathlib.Core.List.{List}
-use mathlib.Core.Bool.{Bool, true, false, _&&_, cond, false≢true}
+use mathlib.Core.Bool.{Bool, true, false, _&&_, cond}
 use mathlib.Core.Path.{_≡_, refl, sym, ap, _∙_}
 use mathlib.Core.Logic.{_≢_}
 use native.Mathlib.Nat.{lt-of-lt-of-le}
 use native.Mathlib.Omega.{arith}
 use borrow.Author.Tests.{lt-ltb, ltb-true}
-use lib.Bits.{bitXor}
-use lib.Dec.{eqb, ltb}
+use lib.Dec.{ltb}
 use lib.ListN.{getD, length}
 use lib.Seq.{getD-take}
-use Rattle.mathematics.specs.Bits.{bit}
-use Rattle.mathematics.proofs.Tests.{and-parts, and-both}
+use Rattle.mathematics.proofs.Tests.{and-parts}
 use Rattle.complex.specs.declared.SimplicialComplex.{SimplicialComplex}
 use Rattle.complex.specs.Complex.{Complex, complexOf}
 use Rattle.complex.specs.Judge.{refusal}

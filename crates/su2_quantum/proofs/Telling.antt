@@ -1,21 +1,18 @@
 -- What su2_basis tells, by the test that decides it.
-use Prim.Native.Nat.{ℕ, zero, suc, _+_, _^_, _<_, _≤_}
-use mathlib.Core.List.{List, [], _∷_, _++_, map}
-use mathlib.Core.Bool.{Bool, true, false, cond}
-use mathlib.Core.Path.{_≡_, refl, sym, ap, ap₂, _∙_}
-use native.Mathlib.Nat.{lt-of-lt-of-le}
+use Prim.Native.Nat.{ℕ, _+_, _^_, _<_, _≤_}
+use mathlib.Core.List.{List, [], _∷_, _++_}
+use mathlib.Core.Bool.{Bool, cond}
+use mathlib.Core.Path.{_≡_, sym, ap, ap₂, _∙_}
 use native.Mathlib.Omega.{arith}
 use native.Mathlib.Decide.{decLt}
 use borrow.Author.Tests.{lt-ltb, le-ltb}
-use lib.Bits.{bitXor}
 use lib.Dec.{ltb}
 use lib.Pow.{pow-mono}
-use lib.ListN.{getD, length, take, drop}
-use lib.Seq.{getD-take}
+use lib.ListN.{length, drop}
 use Rattle.mathematics.specs.Refusals.{first, value, outcome, written}
 use Rattle.mathematics.proofs.Refusals.{refused-outcome, refused-kept}
 use Rattle.complex.specs.declared.SimplicialComplex.{SimplicialComplex}
-use Rattle.complex.specs.Complex.{Complex, complexOf}
+use Rattle.complex.specs.Complex.{complexOf}
 use Rattle.complex.specs.Judge.{Accepted, refusal}
 use Rattle.complex.proofs.Refusing.{refused-first, accepted-next}
 use Rattle.complex.proofs.Accepting.{accepted}

@@ -101,6 +101,7 @@ fn add_triangles(
 // The matrix goes to the beginning of a list. Another list begins with the states.
 fn write_matrix(
     h: &mut [f64],
+    n: usize,
     c: SimplicialComplex,
     f: Forest,
     p: KSParams,
@@ -108,11 +109,9 @@ fn write_matrix(
     weights: &[f64],
     states: &[u64],
 )
-    requires { ⌜ MatrixOf (complexOf c) f (2 ^ f .count) (length (now h)) × Weighed (complexOf c) given (now weights) × ((rest : List ℕ) × (now states ≡ su2-states (complexOf c) ++ rest)) ⌝ }
-    ensures { λ _. ⌜ now (h .exit) ≡ su2-dense (complexOf c) p (weight given (now (weights .entry))) ++ drop (2 ^ f .count * 2 ^ f .count) (now (h .entry)) ⌝ }
+    requires { ⌜ MatrixOf (complexOf c) f n (length (now h)) × Weighed (complexOf c) given (now weights) × ((rest : List ℕ) × (now states ≡ su2-states (complexOf c) ++ rest)) ⌝ }
+    ensures { λ _. ⌜ now (h .exit) ≡ su2-dense (complexOf c) p (weight given (now (weights .entry))) ++ drop (n * n) (now (h .entry)) ⌝ }
 {
-    let count = f.count;
-    let n = 1 << count;
     clear_matrix(h, n);
     add_energies(h, n, p.electric, states);
     add_triangles(h, n, c, f, p, given, weights);
@@ -148,6 +147,6 @@ pub fn build_su2_hamiltonian(
     }
     let loops = f.loops;
     write_masks(states, &loops, count);
-    write_matrix(result, c, f, p, given, weights, states);
+    write_matrix(result, n, c, f, p, given, weights, states);
     Su2Basis::States(n)
 }

@@ -1,5 +1,4 @@
 use Prim.Native.Nat.{_<_}
-use mathlib.Core.Path.{_≡_}
 use lib.ListN.{length}
 use Rattle.complex.specs.Complex.{complexOf}
 use Rattle.complex.proofs.SidesFound.{triangles-long}

@@ -1,6 +1,6 @@
 use Prim.Native.Nat.{ℕ, _*_, _%_, _^_, _≤_}
 use mathlib.Core.Bool.{false, _||_}
-use mathlib.Core.Path.{_≡_, refl, sym, _∙_}
+use mathlib.Core.Path.{_≡_, sym, _∙_}
 use native.Mathlib.Nat.{mul-le-mul}
 use native.Mathlib.Omega.{arith}
 use lib.Dec.{ltb}
@@ -99,7 +99,7 @@ write-matrix-requires c κs =
     let enough = c .before .before .before .before .before .before .before .before in
     let right = enough .before in
     let small = right .before .before .before in (
-      record { loops = loops small; few = few small; states = refl; long = room enough .1 },
+      record { loops = loops small; few = few small; states = number small; long = rw (number small) (room enough .1) },
       weights-many _ _ _ _ (weighed right),
       (_, rw (masks-are _ _ (loops small)) at (c .before .before .before .before .write-masks .ensures)),
     )
@@ -115,7 +115,7 @@ returns-5 c =
     let enough = c .before .before .before .before .before .before .before .before .before .before .before in
     let right = enough .before in
     let small = right .before .before .before in
-    matrix-built _ _ _ _ _ _ _ (loops small) (few small) (weighed right) (not-short enough) _ _ _ (number small) (rw (masks-are _ _ (loops small)) at (c .before .before .before .before .before .before .before .write-masks .ensures)) (c .before .before .write-matrix .ensures)
+    matrix-built _ _ _ _ _ _ _ (loops small) (few small) (weighed right) (not-short enough) _ _ _ (number small) (rw (masks-are _ _ (loops small)) at (c .before .before .before .before .before .before .before .write-masks .ensures)) (rw (number small) at (c .before .before .write-matrix .ensures))
 
 pub build-su2-hamiltonian-spec : {M : Type 1} → statement M
 build-su2-hamiltonian-spec =

@@ -1,8 +1,7 @@
-use Prim.Native.Nat.{_*_, _%_, _^_, _≤_}
-use mathlib.Core.Path.{_≡_, ap}
+use Prim.Native.Nat.{_≤_}
+use mathlib.Core.Path.{ap}
 use native.Mathlib.Omega.{arith}
 use lib.ListN.{length, length-append}
-use Rattle.mathematics.proofs.Bits.{power-shifted}
 use Rattle.complex.specs.Complex.{complexOf}
 use Rattle.hamiltonian.specs.Coupling.{whole}
 use Rattle.su2_quantum.specs.EvenSets.{su2-states}
@@ -11,30 +10,21 @@ use borrow.Author.Needs.{needs}
 use Rattle.su2_quantum.proofs.dense.write_matrix.Statement.{statement}
 use Rattle.su2_quantum.proofs.dense.write_matrix.Tie as tie
 
--- the number of states, as the code makes it
-number : (c : tie.Start) → 1 * 2 ^ c .args .f .count % 2 ^ 64 ≡ 2 ^ c .args .f .count
-number c = power-shifted (c .args .f .count) (omega (arith, c .pre .0 .few))
-
-long : (c : tie.Start) → 2 ^ c .args .f .count ≤ length (c .args .states .now)
+long : (c : tie.Start) → c .args .n ≤ length (c .args .states .now)
 long c = omega (arith, rows-number _ _ _ _ (c .pre .0), ap length (c .pre .2 .1), length-append (su2-states (complexOf (c .args .c))) (c .pre .2 .0))
 
-shl-n : tie.Need-shl-n
-shl-n c = search needs
-
 clear-matrix-requires : tie.Need-clear-matrix-requires
-clear-matrix-requires c κs =
-    let start = c .before .before .before .before in
-    rw (number start) (rows-few _ _ _ _ (start .pre .0), start .pre .0 .long)
+clear-matrix-requires c κs = let start = c .before .before .before .before in (rows-few _ _ _ _ (start .pre .0), start .pre .0 .long)
 
 add-energies-requires : tie.Need-add-energies-requires
 add-energies-requires c κs =
     let start = c .before .before .before .before .before .before .before .before in
-    rw (number start) (rows-few _ _ _ _ (start .pre .0), rw (c .before .before .before .clear-matrix .kept .0) (start .pre .0 .long), long start)
+    (rows-few _ _ _ _ (start .pre .0), rw (c .before .before .before .clear-matrix .kept .0) (start .pre .0 .long), long start)
 
 add-triangles-requires : tie.Need-add-triangles-requires
 add-triangles-requires c κs =
     let start = c .before .before .before .before .before .before .before .before .before .before .before .before in
-    rw (number start, c .before .before .before .add-energies .kept .0, c .before .before .before .before .before .before .before .clear-matrix .kept .0) (start .pre .0, start .pre .1)
+    rw (c .before .before .before .add-energies .kept .0, c .before .before .before .before .before .before .before .clear-matrix .kept .0) (start .pre .0, start .pre .1)
 
 same-length : tie.Need-same-length
 same-length c = search needs
@@ -45,18 +35,9 @@ returns c =
     let matrix = start .pre .0 in
     let right = matrix .loops .accepted in
     let rows = rows-number _ _ _ _ matrix in
-    let cleared = rw (number start) at (c .before .before .before .before .before .before .before .before .before .before .clear-matrix .ensures) in
-    let energies = (rw (number start) at (c .before .before .before .before .before .before .add-energies .ensures)) (λ i j. whole 0) (start .args .h .now) cleared in
+    let energies = c .before .before .before .before .before .before .add-energies .ensures (λ i j. whole 0) (start .args .h .now) (c .before .before .before .before .before .before .before .before .before .before .clear-matrix .ensures) in
     let electric = electric-matrix _ right (start .args .p) _ rows _ _ _ (start .pre .2 .0) (start .pre .2 .1) energies in
-    matrix-written _ right (start .args .p) _ rows _ _ _ ((rw (number start) at (c .before .before .add-triangles .ensures)) (start .args .h .now) electric) (matrix .long)
+    matrix-written _ right (start .args .p) _ rows _ _ _ (c .before .before .add-triangles .ensures (start .args .h .now) electric) (matrix .long)
 
 pub write-matrix-spec : {M : Type 1} → statement M
-write-matrix-spec =
-    tie.close
-    (tie.spec
-    shl-n
-    clear-matrix-requires
-    add-energies-requires
-    add-triangles-requires
-    same-length
-    returns)
+write-matrix-spec = tie.close (tie.spec clear-matrix-requires add-energies-requires add-triangles-requires same-length returns)
