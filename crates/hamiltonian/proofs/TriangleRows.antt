@@ -14,11 +14,9 @@ use Rattle.mathematics.specs.Tests.{all}
 use Rattle.mathematics.proofs.Tests.{and-parts, and-true}
 use Rattle.mathematics.proofs.Signed.{size-sum}
 use Rattle.complex.specs.declared.triangle.Sides.{Sides}
-use Rattle.complex.specs.declared.SimplicialComplex.{SimplicialComplex}
-use Rattle.complex.specs.Complex.{Complex, complexOf}
+use Rattle.complex.specs.Complex.{Complex}
 use Rattle.complex.specs.Judge.{Accepted}
 use Rattle.complex.specs.Sides.{sides}
-use Rattle.complex.proofs.Simplices.{simplices-length}
 use Rattle.complex.proofs.TriangleEdges.{triangle-sides}
 use Rattle.gauss_law.specs.Gauss.{State}
 use Rattle.gauss_law.specs.Shifts.{raised, shifted, side, triangle-shift}
@@ -26,10 +24,6 @@ use Rattle.gauss_law.proofs.Shifts.{shifted-length, shifted-at, shifted-elsewhe
 use Rattle.hilbert.specs.Basis.{within, in-basis}
 use Rattle.hilbert.proofs.Order.{state-in-basis}
 use Rattle.hamiltonian.specs.Triangle.{sides-within, Shiftable}
-
-pub triangles-long : (c : SimplicialComplex) → length (complexOf c .triangles) ≡ c .«n_triangles»
-unfolding complexOf
-triangles-long c = simplices-length 3 (c .triangles) (c .«n_triangles»)
 
 -- ---- one edge of a row
 module _ (row : List ℤ) (e : ℕ) (d : ℤ) where

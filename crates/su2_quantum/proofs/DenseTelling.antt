@@ -22,7 +22,8 @@ use Rattle.complex.proofs.SidesFound.{triangles-long}
 use Rattle.gauss_law.specs.Listing.{free-edges}
 use Rattle.hamiltonian.specs.declared.coupling.KSParams.{KSParams}
 use Rattle.hamiltonian.specs.Coupling.{su2-right}
-use Rattle.hamiltonian.specs.Weights.{bounded, weight, weights-tests}
+use Rattle.hamiltonian.specs.Weights.{weight, weights-tests}
+use Rattle.hamiltonian.proofs.Weighing.{weights-fit}
 use Rattle.su2_quantum.specs.declared.forest.Forest.{Forest}
 use Rattle.su2_quantum.specs.declared.basis.Su2Basis.the-variants.{States, Refused}
 use Rattle.su2_quantum.specs.EvenSets.{su2-states}
@@ -32,17 +33,8 @@ use Rattle.su2_quantum.specs.Dense.{su2-dense, su2-dense-refusal, Su2Bui
 use Rattle.su2_quantum.proofs.Placing.{closing-number, states-number}
 use Rattle.su2_quantum.proofs.Telling.{limit-told}
 
--- weights that are given and not refused are as many as they must be
-number-passed : (n : ℕ) (right given : Bool) (weights : List Float) → first (weights-tests n right given weights) ≡ 0 → given ≡ true → length weights ≡ n
-unfolding weights-tests first
-number-passed n right given weights h some = go (eqb (length weights) n) refl (rw some at h)
-  where
-    go : (b : Bool) → eqb (length weights) n ≡ b → _≡_ {A = ℕ} (cond (not b) 12 (cond (not right || not (all bounded weights)) 14 0)) 0 → length weights ≡ n
-    go true e k = eqb-true (length weights) n e
-    go false e k = absurd (omega arith)
-
 pub weights-many : (c : SimplicialComplex) (right given : Bool) (weights : List Float) → first (weights-tests (c .«n_triangles») right given weights) ≡ 0 → Weighed (complexOf c) given weights
-weights-many c right given weights h some = number-passed (c .«n_triangles») right given weights h some ∙ sym (triangles-long c)
+weights-many c right given weights h some = weights-fit (c .«n_triangles») right given weights h some ∙ sym (triangles-long c)
 
 -- lists that are not too short for n states
 pub long-enough : (n a b : ℕ) → (ltb a n || ltb b (n * n)) ≡ false → (n ≤ a) × (n * n ≤ b)

@@ -308,12 +308,6 @@ module _ (es : List Simplex) where
   pub closing-below : (j : ℕ) → j < length closing → getD closing j 0 < length es
   closing-below = all-forest .below
 
-  pub closing-few : length closing ≤ length es
-  closing-few = all-forest .few
-
-  pub grown-sizes : length loops ≡ length closing
-  grown-sizes = all-forest .sizes
-
   pub grown-rising : (i j : ℕ) → i < j → j < length closing → getD closing i 0 < getD closing j 0
   grown-rising = all-forest .rising
 

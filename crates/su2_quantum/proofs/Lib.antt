@@ -9,4 +9,3 @@ pub mod Placing
 pub mod Telling
 pub mod DenseEntries
 pub mod DenseTelling
-pub mod Examples

@@ -10,7 +10,7 @@ use Rattle.hamiltonian.specs.Weights.{weight}
 use Rattle.hamiltonian.specs.Matrix.{Matrix}
 use Rattle.hamiltonian.specs.Dense.{plaquette-term, entry}
 use Rattle.hamiltonian.specs.Walk.{SidesOf}
-use Rattle.hamiltonian.proofs.TriangleRows.{triangles-long}
+use Rattle.complex.proofs.SidesFound.{triangles-long}
 use borrow.Author.Needs.{needs}
 use Rattle.hamiltonian.proofs.dense.add_magnetic.Statement.{statement}
 use Rattle.hamiltonian.proofs.dense.add_magnetic.Tie as tie

@@ -14,7 +14,7 @@ use Rattle.walker.specs.Enumeration.{states, basis-tests, short, BasisWalks}
 use Rattle.walker.proofs.Enumerating.{short-told, basis-written}
 use Rattle.hamiltonian.specs.Coupling.{u1-right}
 use Rattle.hamiltonian.specs.Weights.{weights-tests}
-use Rattle.hamiltonian.proofs.TriangleRows.{triangles-long}
+use Rattle.complex.proofs.SidesFound.{triangles-long}
 use Rattle.hamiltonian.proofs.Weighing.{weights-fit}
 use Rattle.hamiltonian.proofs.DenseTelling.{basis-refused, weights-refused, room-refused, built, basis-listed}
 use borrow.Author.Needs.{needs}

@@ -13,11 +13,12 @@ use Rattle.mathematics.proofs.Tests.{or-fell}
 use Rattle.complex.specs.Complex.{complexOf}
 use Rattle.complex.specs.Sides.{sides}
 use Rattle.complex.proofs.Accepting.{accepted}
+use Rattle.complex.proofs.SidesFound.{triangles-long}
 use Rattle.gauss_law.proofs.Spanned.{edges-long}
 use Rattle.walker.specs.Enumeration.{states, basis-tests, short, BasisWalks}
 use Rattle.hilbert.specs.Search.{Sought}
 use Rattle.hamiltonian.specs.Triangle.{shifted-state, sides-within, Shiftable}
-use Rattle.hamiltonian.proofs.TriangleRows.{triangles-long, front-shifted, three-told, sides-below, row-shiftable, shifted-row-long}
+use Rattle.hamiltonian.proofs.TriangleRows.{front-shifted, three-told, sides-below, row-shiftable, shifted-row-long}
 use Rattle.hamiltonian.proofs.TriangleTelling.{basis-refused, number-refused, room-refused, band-refused, placed, state-there, listed-sought}
 use borrow.Author.Needs.{needs}
 use Rattle.hamiltonian.proofs.triangle.apply_triangle_shift.Statement.{statement}
