@@ -5,7 +5,8 @@ use mathlib.Core.Path.{_≡_, refl, sym, ap, _∙_}
 use native.Mathlib.Omega.{arith}
 use lib.ListN.{length, take, drop, length-append}
 use lib.Seq.{length-take-le, take-at}
-use Rattle.lines.specs.Put.{put, Put}
+use Rattle.mathematics.specs.Writing.{put}
+use Rattle.lines.specs.Put.{Put}
 use Rattle.lines.proofs.Puts.{ends-inside}
 use Rattle.basis.specs.Printing.{Printed}
 
@@ -24,7 +25,7 @@ printed-put text before after at next room written =
     let front : take (at + length text) (head ++ drop (at + length text) before) ≡ head = take-at head (drop (at + length text) before) (at + length text) long in
     record {
       gone = [];
-      joined = rw (written .list, written .place, ← (append-assoc (take at before) text (drop (at + length text) before))) front;
+      joined = rw (written .list, written .place) front;
       inside = ends-inside text before after at next room written;
     }
 

@@ -4,3 +4,4 @@ pub mod Refusals
 pub mod Integers
 pub mod Counting
 pub mod Bits
+pub mod Writing

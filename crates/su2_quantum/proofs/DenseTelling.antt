@@ -25,9 +25,9 @@ use Rattle.hamiltonian.specs.Coupling.{su2-right}
 use Rattle.hamiltonian.specs.Weights.{weight, weights-tests}
 use Rattle.hamiltonian.proofs.Weighing.{weights-fit}
 use Rattle.su2_quantum.specs.declared.forest.Forest.{Forest}
-use Rattle.su2_quantum.specs.declared.basis.Su2Basis.the-variants.{States, Refused}
+use Rattle.walker.specs.declared.enumerate.Enumerated.the-variants.{States, Refused}
+use Rattle.walker.specs.Enumeration.{enumeratedAnswer}
 use Rattle.su2_quantum.specs.EvenSets.{su2-states}
-use Rattle.su2_quantum.specs.Basis.{su2Answer}
 use Rattle.su2_quantum.specs.Place.{LoopsOf}
 use Rattle.su2_quantum.specs.Dense.{su2-dense, su2-dense-refusal, Su2Built, Weighed}
 use Rattle.su2_quantum.proofs.Placing.{closing-number, states-number}
@@ -46,7 +46,7 @@ module _ (c : SimplicialComplex) (p : KSParams) (given : Bool) (weights : List F
   -- a refusal leaves both lists
   refused-built : (k : ℕ) → su2-dense-refusal (complexOf c) p given weights (length work) (length result) ≡ k → (k ≡ 0 → ⊥)
       → Su2Built (complexOf c) p given weights work result (Refused k) work result
-  unfolding su2Answer
+  unfolding enumeratedAnswer
   refused-built k e some =
       record {
         answer = rw e (refused-outcome k _ some);
@@ -101,7 +101,7 @@ module _ (c : SimplicialComplex) (p : KSParams) (given : Bool) (weights : List F
         pub matrix-built : (ltb (length work) (2 ^ f .count) || ltb (length result) (2 ^ f .count * 2 ^ f .count)) ≡ false → (r : ℕ) (work′ : List ℕ) (result′ : List Float) → r ≡ 2 ^ f .count
             → work′ ≡ su2-states (complexOf c) ++ drop (2 ^ f .count) work → result′ ≡ su2-dense (complexOf c) p (weight given weights) ++ drop (2 ^ f .count * 2 ^ f .count) result
             → Su2Built (complexOf c) p given weights work result (States r) work′ result′
-        unfolding su2Answer outcome written
+        unfolding enumeratedAnswer outcome written
         matrix-built room r work′ result′ number states entries =
             let none-left : su2-dense-refusal (complexOf c) p given weights (length work) (length result) ≡ 0 = by-room ∙ rw room in
             let many = states-number _ f of in

@@ -18,12 +18,13 @@ use Rattle.complex.proofs.Refusing.{refused-first, accepted-next}
 use Rattle.complex.proofs.Accepting.{accepted}
 use Rattle.gauss_law.specs.Listing.{free-edges}
 use Rattle.su2_quantum.specs.declared.forest.Forest.{Forest}
-use Rattle.su2_quantum.specs.declared.basis.Su2Basis.the-variants.{States, Refused}
+use Rattle.walker.specs.declared.enumerate.Enumerated.the-variants.{States, Refused}
+use Rattle.walker.specs.Enumeration.{enumeratedAnswer}
 use Rattle.su2_quantum.specs.EvenSets.{su2-states}
 use Rattle.su2_quantum.specs.Loops.{grown, spanned}
 use Rattle.su2_quantum.specs.Forest.{Keeps}
 use Rattle.su2_quantum.specs.Place.{LoopsOf}
-use Rattle.su2_quantum.specs.Basis.{su2Answer, su2-refusal, Su2Listed}
+use Rattle.su2_quantum.specs.Basis.{su2-refusal, Su2Listed}
 use Rattle.su2_quantum.proofs.EvenLists.{even-count, even-complete}
 use Rattle.su2_quantum.proofs.Placing.{loops-of, closing-number, states-number, masks-are}
 
@@ -40,7 +41,7 @@ limit-told n = go (decLt 20 n)
 module _ (c : SimplicialComplex) (old : List ℕ) where
   -- a refusal leaves the list
   refused-listed : (k : ℕ) → su2-refusal (complexOf c) (length old) ≡ k → (k ≡ 0 → ⊥) → Su2Listed (complexOf c) old old (Refused k)
-  unfolding su2Answer
+  unfolding enumeratedAnswer
   refused-listed k e some =
       record {
         answer = rw e (refused-outcome k _ some);
@@ -73,7 +74,7 @@ module _ (c : SimplicialComplex) (old : List ℕ) where
 
       pub states-listed : 2 ^ f .count ≤ length old → (new : List ℕ) (r : ℕ) → r ≡ 2 ^ f .count → new ≡ spanned (f .loops) (f .count) ++ drop (2 ^ f .count) old
           → Su2Listed (complexOf c) old new (States r)
-      unfolding su2Answer outcome written
+      unfolding enumeratedAnswer outcome written
       states-listed h new r number is =
           let none-left : su2-refusal (complexOf c) (length old) ≡ 0 = by-tests ∙ rw (le-ltb 20 (f .count) few, le-ltb (length old) (2 ^ f .count) h) in
           record {

@@ -4,18 +4,13 @@ use mathlib.Core.List.{List, [], _∷_, _++_}
 use mathlib.Core.Path.{_≡_}
 use lib.Dec.{ltb}
 use lib.ListN.{length, drop}
-use Rattle.mathematics.specs.Refusals.{first, Outcome, value, refused, outcome, written}
+use Rattle.mathematics.specs.Refusals.{first, outcome, written}
 use Rattle.complex.specs.Complex.{Complex}
 use Rattle.complex.specs.Judge.{counts-test, shape-tests}
 use Rattle.gauss_law.specs.Listing.{free-edges}
-use Rattle.su2_quantum.specs.declared.basis.Su2Basis.{Su2Basis}
-use Rattle.su2_quantum.specs.declared.basis.Su2Basis.the-variants.{States, Refused}
+use Rattle.walker.specs.declared.enumerate.Enumerated.{Enumerated}
+use Rattle.walker.specs.Enumeration.{enumeratedAnswer}
 use Rattle.su2_quantum.specs.EvenSets.{su2-states, EvenComplete}
-
--- what an answer says
-unfoldable pub su2Answer : Su2Basis → Outcome ℕ
-su2Answer (States n) = value n
-su2Answer (Refused n) = refused n
 
 -- 4, 7 to 9, then 10 where 2 to the number of free edges is over the limit, and 15 where the list has too few entries
 unfoldable pub su2-refusal : Complex → ℕ → ℕ
@@ -23,8 +18,8 @@ su2-refusal c room =
     first ((counts-test c ∷ shape-tests c) ++ ((10, ltb 1048576 (2 ^ length (free-edges c))) ∷ (15, ltb room (length (su2-states c))) ∷ []))
 
 -- the number of states is told, and the list begins with the masks, ascending; it is complete, and no longer than the limit
-pub record Su2Listed (c : Complex) (old new : List ℕ) (r : Su2Basis) : Type 0 where
-  pub answer : su2Answer r ≡ outcome (su2-refusal c (length old)) (length (su2-states c))
+pub record Su2Listed (c : Complex) (old new : List ℕ) (r : Enumerated) : Type 0 where
+  pub answer : enumeratedAnswer r ≡ outcome (su2-refusal c (length old)) (length (su2-states c))
   pub list : new ≡ written (su2-refusal c (length old)) (su2-states c ++ drop (length (su2-states c)) old) old
   pub complete : su2-refusal c (length old) ≡ 0 → EvenComplete c (su2-states c)
   pub few : su2-refusal c (length old) ≡ 0 → length (su2-states c) ≤ 1048576

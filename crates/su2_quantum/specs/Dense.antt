@@ -13,14 +13,14 @@ use Rattle.complex.specs.Complex.{Complex}
 use Rattle.complex.specs.Judge.{counts-test, shape-tests}
 use Rattle.gauss_law.specs.Listing.{free-edges}
 use Rattle.gauss_law.specs.Shifts.{side}
+use Rattle.walker.specs.declared.enumerate.Enumerated.{Enumerated}
+use Rattle.walker.specs.Enumeration.{enumeratedAnswer}
 use Rattle.hamiltonian.specs.declared.coupling.KSParams.{KSParams}
 use Rattle.hamiltonian.specs.Coupling.{whole, su2-right}
 use Rattle.hamiltonian.specs.Weights.{weight, weights-tests}
 use Rattle.hamiltonian.specs.Matrix.{rows}
-use Rattle.su2_quantum.specs.declared.basis.Su2Basis.{Su2Basis}
 use Rattle.su2_quantum.specs.declared.forest.Forest.{Forest}
 use Rattle.su2_quantum.specs.EvenSets.{su2-states, mask-place}
-use Rattle.su2_quantum.specs.Basis.{su2Answer}
 use Rattle.su2_quantum.specs.Place.{LoopsOf}
 
 -- the three edges of triangle t as a mask
@@ -55,8 +55,8 @@ su2-dense-refusal c p given weights work-room result-room =
     )
 
 -- the number of states is told, one list begins with the states, ascending, and the other with the matrix; on a refusal both are as they were
-pub record Su2Built (c : Complex) (p : KSParams) (given : Bool) (weights : List Float) (work : List ℕ) (result : List Float) (r : Su2Basis) (work′ : List ℕ) (result′ : List Float) : Type 0 where
-  pub answer : su2Answer r ≡ outcome (su2-dense-refusal c p given weights (length work) (length result)) (length (su2-states c))
+pub record Su2Built (c : Complex) (p : KSParams) (given : Bool) (weights : List Float) (work : List ℕ) (result : List Float) (r : Enumerated) (work′ : List ℕ) (result′ : List Float) : Type 0 where
+  pub answer : enumeratedAnswer r ≡ outcome (su2-dense-refusal c p given weights (length work) (length result)) (length (su2-states c))
   pub work-list : work′ ≡ written (su2-dense-refusal c p given weights (length work) (length result)) (su2-states c ++ drop (length (su2-states c)) work) work
   pub result-list : result′
       ≡ written (su2-dense-refusal c p given weights (length work) (length result))

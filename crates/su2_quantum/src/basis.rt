@@ -2,6 +2,7 @@
 use crate::forest::closing_loops;
 use complex::SimplicialComplex;
 use complex::judge::judge;
+use walker::enumerate::Enumerated;
 ghost use mathlib.Core.Path.{_≡_};
 ghost use mathlib.Core.List.{_++_, map};
 ghost use Prim.Native.Nat.{_+_, _^_, _≤_};
@@ -34,29 +35,24 @@ pub fn write_masks(states: &mut [u64], loops: &[u64; 63], n: usize)
     }
 }
 
-pub enum Su2Basis {
-    States(usize),
-    Refused(u8),
-}
-
 // All even edge sets of a record, ascending, go to the beginning of the list. The record is judged first.
-pub fn su2_basis(c: SimplicialComplex, states: &mut [u64]) -> Su2Basis
+pub fn su2_basis(c: SimplicialComplex, states: &mut [u64]) -> Enumerated
     ensures { λ r. ⌜ Su2Listed (complexOf c) (now (states .entry)) (now (states .exit)) r ⌝ }
 {
     let number = judge(c);
     if number != 0 {
-        return Su2Basis::Refused(number);
+        return Enumerated::Refused(number);
     }
     let f = closing_loops(c);
     let n = f.count;
     if 20 < n {
-        return Su2Basis::Refused(10);
+        return Enumerated::Refused(10);
     }
     let count = 1 << n;
     if states.len() < count {
-        return Su2Basis::Refused(15);
+        return Enumerated::Refused(15);
     }
     let loops = f.loops;
     write_masks(states, &loops, n);
-    Su2Basis::States(count)
+    Enumerated::States(count)
 }

@@ -1,5 +1,4 @@
 // The two-valued Hamiltonian as a dense matrix.
-use crate::basis::Su2Basis;
 use crate::basis::write_masks;
 use crate::forest::Forest;
 use crate::forest::closing_loops;
@@ -14,6 +13,7 @@ use hamiltonian::matrix::add_entry;
 use hamiltonian::matrix::clear_matrix;
 use hamiltonian::weights::judge_weights;
 use hamiltonian::weights::weight_of;
+use walker::enumerate::Enumerated;
 ghost use mathlib.Core.Path.{_≡_};
 ghost use mathlib.Core.List.{List, _++_};
 ghost use Prim.Native.Nat.{ℕ, _+_, _*_, _^_, _<_, _≤_};
@@ -125,28 +125,28 @@ pub fn build_su2_hamiltonian(
     weights: &[f64],
     states: &mut [u64],
     result: &mut [f64],
-) -> Su2Basis
+) -> Enumerated
     ensures { λ r. ⌜ Su2Built (complexOf c) p given (now (weights .entry)) (now (states .entry)) (now (result .entry)) r (now (states .exit)) (now (result .exit)) ⌝ }
 {
     let number = judge(c);
     if number != 0 {
-        return Su2Basis::Refused(number);
+        return Enumerated::Refused(number);
     }
     let f = closing_loops(c);
     let count = f.count;
     if 20 < count {
-        return Su2Basis::Refused(10);
+        return Enumerated::Refused(10);
     }
     let other = judge_weights(c.n_triangles, is_su2(p), given, weights);
     if other != 0 {
-        return Su2Basis::Refused(other);
+        return Enumerated::Refused(other);
     }
     let n = 1 << count;
     if (states.len() < n) | (result.len() < n * n) {
-        return Su2Basis::Refused(15);
+        return Enumerated::Refused(15);
     }
     let loops = f.loops;
     write_masks(states, &loops, count);
     write_matrix(result, n, c, f, p, given, weights, states);
-    Su2Basis::States(n)
+    Enumerated::States(n)
 }

@@ -14,10 +14,12 @@ use Rattle.walker.specs.declared.blocks.Span.{Span}
 use Rattle.walker.specs.Cycles.{row, added}
 use Rattle.walker.specs.Walker.{stepped, start, stop, rows, block, width, walked, walked-states}
 use Rattle.walker.specs.Steps.{Small, Addable, CyclesFit, FreeFit, Walkable}
-use Rattle.walker.specs.Blocks.{Spans, put}
+use Rattle.mathematics.specs.Writing.{put}
+use Rattle.walker.specs.Blocks.{Spans}
 use Rattle.walker.proofs.Interval.{stop-bound}
 use Rattle.walker.proofs.Stepping.{cycle-long, cycle-signs}
-use Rattle.walker.proofs.Puts.{put-more, rows-length, rows-at, rows-long}
+use Rattle.mathematics.proofs.Puts.{put-more}
+use Rattle.walker.proofs.BlockRows.{rows-length, rows-at, rows-long}
 
 pub width-bound : (L n : ℕ) → L ≤ 1000 → width L n ≤ 2001
 unfolding width
@@ -169,7 +171,7 @@ module _ (free : List ℕ) (cycles : List ℤ) (L n : ℕ) (s : List ℤ) (block
           ap (λ l. length (flatten l)) (states-next free cycle L n s k) ∙ ap length (flatten-append old-states B) ∙ length-append (flatten old-states) (flatten B) in
           let enough : (0 + length (flatten old-states)) + length (flatten B) ≤ length old =
           omega (arith, states-long free cycle L n s (fit .sized) (k + 1), mul-le-mul-right (length s) (states-grow free cycle L n s (k + 1) blocks (omega arith))) in
-          after ∙ rw (before, place, span-block) (put-more old 0 (flatten old-states) (flatten B) enough ∙ ap (put old 0) (sym (flatten-append old-states B) ∙ ap flatten (sym (states-next free cycle L n s k))))
+          after ∙ rw (before, place, span-block) (put-more old 0 (flatten old-states) (flatten B) (omega (arith, enough)) ∙ ap (put old 0) (sym (flatten-append old-states B) ∙ ap flatten (sym (states-next free cycle L n s k))))
 
       -- ---- found
       pub add-ready : (i : ℕ) → i < r .to - r .from → Addable config (pos (r .from + i)) (take (length s - 0) cycles) × (r .from + i ≤ 2001)

@@ -16,7 +16,7 @@ use Rattle.walker.specs.Walker.{rows, block}
 use Rattle.walker.specs.Steps.{Small}
 use Rattle.walker.proofs.Candidates.{within}
 use Rattle.walker.proofs.Interval.{block-kept}
-use Rattle.walker.proofs.Puts.{rows-at, rows-length}
+use Rattle.walker.proofs.BlockRows.{rows-at, rows-length}
 
 within-small : (L : ℕ) (s : List ℤ) → within L s ≡ true → Small L s
 unfolding within

@@ -20,9 +20,10 @@ use Rattle.walker.specs.declared.enumerate.Prepared.{Prepared}
 use Rattle.walker.specs.declared.enumerate.Enumerated.the-variants.{States, Refused}
 use Rattle.walker.specs.Walker.{width}
 use Rattle.walker.specs.Tables.{Walks, states-of, Fit}
-use Rattle.walker.specs.Blocks.{put, Written}
+use Rattle.mathematics.specs.Writing.{put}
+use Rattle.walker.specs.Blocks.{Written}
 use Rattle.walker.specs.Enumeration.{states, enumeratedAnswer, limit-test, basis-tests, short, basis-first, enumerated-refusal, Listed, BasisWalks, PreparedFor}
-use Rattle.walker.proofs.Puts.{put-front}
+use Rattle.mathematics.proofs.Puts.{put-front}
 use Rattle.walker.proofs.Limits.{power-less, states-within, all-candidates}
 use Rattle.walker.proofs.Fitting.{walks-fit, walks-states, states-of-long}
 

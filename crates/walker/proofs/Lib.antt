@@ -13,7 +13,7 @@ pub mod PathTables
 pub mod CycleTables
 pub mod Stepping
 pub mod Narrowing
-pub mod Puts
+pub mod BlockRows
 pub mod BlockStates
 pub mod Fitting
 pub mod Limits

@@ -21,7 +21,7 @@ use Rattle.walker.specs.declared.blocks.Span.{Span}
 use Rattle.walker.specs.Walker.{excess, entry-start, entry-stop, start, stop, block}
 use Rattle.walker.specs.Blocks.{Narrowed, SpanTo, Spans}
 use Rattle.walker.proofs.Interval.{stop-bound}
-use Rattle.walker.proofs.Puts.{rows-none}
+use Rattle.walker.proofs.BlockRows.{rows-none}
 
 -- a value is within -L to L
 pub within-test : (L : ℕ) (x : ℤ) → (leZ (negℤ (pos L)) x && leZ x (pos L)) ≡ leb (natAbs x) L

@@ -4,6 +4,7 @@ use mathlib.Core.List.{List, _++_, flatten}
 use mathlib.Core.Path.{_≡_}
 use lib.IntN.{ℤ}
 use lib.ListN.{length, take, drop}
+use Rattle.mathematics.specs.Writing.{put}
 use Rattle.walker.specs.declared.blocks.Span.{Span}
 use Rattle.walker.specs.Walker.{entry-start, entry-stop, start, stop, rows, block}
 
@@ -21,10 +22,6 @@ pub record SpanTo (L n : ℕ) (s z : List ℤ) (m : ℕ) (r : Span) : Type 0 whe
 pub record Spans (L n : ℕ) (s z : List ℤ) (r : Span) : Type 0 where
   pub is : rows s z (r .from) (r .to) ≡ block L n s z
   pub bound : r .to ≤ n
-
--- s written over a list from a place on
-unfoldable pub put : {A : Type 0} → List A → ℕ → List A → List A
-put d at s = take at d ++ s ++ drop (at + length s) d
 
 -- the states are counted, and written over the beginning of a list
 pub record Written (states : List (List ℤ)) (old new : List ℤ) (r : ℕ) : Type 0 where

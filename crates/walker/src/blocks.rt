@@ -13,7 +13,8 @@ ghost use Rattle.mathematics.specs.Integers.{equal};
 ghost use Rattle.walker.specs.Walker.{excess, rows};
 ghost use Rattle.walker.specs.Steps.{Small, Addable};
 ghost use Rattle.walker.specs.Cycles.{added};
-ghost use Rattle.walker.specs.Blocks.{Narrowed, Spans, put};
+ghost use Rattle.mathematics.specs.Writing.{put};
+ghost use Rattle.walker.specs.Blocks.{Narrowed, Spans};
 
 // The numbers from one to before another.
 pub struct Span {

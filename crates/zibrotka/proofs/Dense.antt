@@ -14,8 +14,6 @@ use Rattle.walker.specs.Enumeration.{enumeratedAnswer}
 use Rattle.hamiltonian.specs.declared.coupling.KSParams.{KSParams}
 use Rattle.hamiltonian.specs.Coupling.{coupling-refusal, couplingOutcome}
 use Rattle.hamiltonian.specs.Dense.{Built}
-use Rattle.su2_quantum.specs.declared.basis.Su2Basis.{Su2Basis}
-use Rattle.su2_quantum.specs.Basis.{su2Answer}
 use Rattle.su2_quantum.specs.Dense.{Su2Built}
 use Rattle.zibrotka.specs.declared.Told.{Told}
 use Rattle.zibrotka.specs.declared.Opened.{Opened}
@@ -77,17 +75,17 @@ module _ (b : List ℕ) (p : KSParams) (given : Bool) (weights : List Float) (wo
         result-list = stopped-kept b o read some _ _ result;
       }
 
-  module _ (none : o .refusal ≡ 0) (a : Su2Basis) (work′ : List ℕ) (result′ : List Float) (made : Su2Built (complexOf (o .sheet .complex)) p given weights work result a work′ result′) where
+  module _ (none : o .refusal ≡ 0) (a : Enumerated) (work′ : List ℕ) (result′ : List Float) (made : Su2Built (complexOf (o .sheet .complex)) p given weights work result a work′ result′) where
     su2-matrix-held : Su2Built (complexIn b) p given weights work result a work′ result′
     su2-matrix-held = rw (sheet-held b o read none) at made
 
-    pub su2-matrix-told : (t : Told) → t ≡ toldOf (su2Answer a) → (r : ℤ) → r ≡ signedOf t → Su2Matrices b p given weights work result r work′ result′
+    pub su2-matrix-told : (t : Told) → t ≡ toldOf (enumeratedAnswer a) → (r : ℤ) → r ≡ signedOf t → Su2Matrices b p given weights work result r work′ result′
     su2-matrix-told t is r d =
         record {
-          answer = call-told b o read none t (su2Answer a) _ _ is (su2-matrix-held .answer) r d;
+          answer = call-told b o read none t (enumeratedAnswer a) _ _ is (su2-matrix-held .answer) r d;
           work-list = rw (sheet-goes-on b o read none) (su2-matrix-held .work-list);
           result-list = rw (sheet-goes-on b o read none) (su2-matrix-held .result-list);
         }
 
-    pub su2-matrix-few : (t : Told) → t ≡ toldOf (su2Answer a) → t .value < 2 ^ 31
-    su2-matrix-few t is = small-told t (su2Answer a) _ _ is (su2-matrix-held .answer) (λ z. omega (arith, su2-matrix-held .few z))
+    pub su2-matrix-few : (t : Told) → t ≡ toldOf (enumeratedAnswer a) → t .value < 2 ^ 31
+    su2-matrix-few t is = small-told t (enumeratedAnswer a) _ _ is (su2-matrix-held .answer) (λ z. omega (arith, su2-matrix-held .few z))

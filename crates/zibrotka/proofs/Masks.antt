@@ -5,8 +5,9 @@ use mathlib.Core.Path.{_≡_, sym, _∙_}
 use native.Mathlib.Omega.{arith}
 use lib.IntN.{ℤ, pos, negℤ}
 use Rattle.complex.specs.Complex.{complexOf}
-use Rattle.su2_quantum.specs.declared.basis.Su2Basis.{Su2Basis}
-use Rattle.su2_quantum.specs.Basis.{su2Answer, Su2Listed}
+use Rattle.walker.specs.declared.enumerate.Enumerated.{Enumerated}
+use Rattle.walker.specs.Enumeration.{enumeratedAnswer}
+use Rattle.su2_quantum.specs.Basis.{Su2Listed}
 use Rattle.zibrotka.specs.declared.Told.{Told}
 use Rattle.zibrotka.specs.declared.Opened.{Opened}
 use Rattle.zibrotka.specs.Exports.{toldOf, signedOf, OpenedOf, complexIn, Masks}
@@ -22,17 +23,17 @@ module _ (b old : List ℕ) (o : Opened) (read : OpenedOf b o) where
         complete = λ z. absurd (stopped b o read some _ z);
       }
 
-  module _ (none : o .refusal ≡ 0) (a : Su2Basis) (new : List ℕ) (given : Su2Listed (complexOf (o .sheet .complex)) old new a) where
+  module _ (none : o .refusal ≡ 0) (a : Enumerated) (new : List ℕ) (given : Su2Listed (complexOf (o .sheet .complex)) old new a) where
     masks-held : Su2Listed (complexIn b) old new a
     masks-held = rw (sheet-held b o read none) at given
 
-    pub masks-told : (t : Told) → t ≡ toldOf (su2Answer a) → (r : ℤ) → r ≡ signedOf t → Masks b old r new
+    pub masks-told : (t : Told) → t ≡ toldOf (enumeratedAnswer a) → (r : ℤ) → r ≡ signedOf t → Masks b old r new
     masks-told t e r d =
         record {
-          answer = call-told b o read none t (su2Answer a) _ _ e (masks-held .answer) r d;
+          answer = call-told b o read none t (enumeratedAnswer a) _ _ e (masks-held .answer) r d;
           list = rw (sheet-goes-on b o read none) (masks-held .list);
           complete = λ z. masks-held .complete (sym (sheet-goes-on b o read none _) ∙ z);
         }
 
-    pub masks-few : (t : Told) → t ≡ toldOf (su2Answer a) → t .value < 2 ^ 31
-    masks-few t e = small-told t (su2Answer a) _ _ e (masks-held .answer) (λ z. omega (arith, masks-held .few z))
+    pub masks-few : (t : Told) → t ≡ toldOf (enumeratedAnswer a) → t .value < 2 ^ 31
+    masks-few t e = small-told t (enumeratedAnswer a) _ _ e (masks-held .answer) (λ z. omega (arith, masks-held .few z))

@@ -20,7 +20,6 @@ use sheet::Sheet;
 use sheet::Written;
 use sheet::make_sheet;
 use sheet::read_sheet;
-use su2_quantum::basis::Su2Basis;
 use su2_quantum::basis::su2_basis;
 use su2_quantum::dense::build_su2_hamiltonian;
 use walker::enumerate::Enumerated;
@@ -35,7 +34,6 @@ ghost use Rattle.walker.specs.Enumeration.{enumeratedAnswer};
 ghost use Rattle.hilbert.specs.Index.{indexAnswer};
 ghost use Rattle.hamiltonian.specs.Coupling.{couplingAnswer, u1-params, su2-params};
 ghost use Rattle.hamiltonian.specs.Triangle.{triangleAnswer};
-ghost use Rattle.su2_quantum.specs.Basis.{su2Answer};
 ghost use Rattle.zibrotka.specs.Exports.{toldOf, signedOf, readingNumber, yesOf, OpenedOf, edgesOf, numbersOf, MakeSheet, ReadSheet, EdgeIndices, Pentachora, SpanningTree, GaussLaw, States, Places, ShiftedPlaces, TrianglePlaces, Masks, Stored, Params, Matrices, Su2Matrices};
 
 // A value, or the refusal, which is not 0.
@@ -108,21 +106,6 @@ fn told_law(answer: GaussCheck) -> Told
             value: yes as usize,
         },
         GaussCheck::Refused(number) => Told {
-            refusal: number,
-            value: 0,
-        },
-    }
-}
-
-fn told_masks(answer: Su2Basis) -> Told
-    ensures { λ r. ⌜ r ≡ toldOf (su2Answer answer) ⌝ }
-{
-    match answer {
-        Su2Basis::States(count) => Told {
-            refusal: 0,
-            value: count,
-        },
-        Su2Basis::Refused(number) => Told {
             refusal: number,
             value: 0,
         },
@@ -484,7 +467,7 @@ pub extern "C" fn zibrotka_su2_basis(sheet: &[u8], states: &mut [u64]) -> i64
         return refused(number);
     }
     let s = opened.sheet;
-    signed(told_masks(su2_basis(s.complex, states)))
+    signed(told_states(su2_basis(s.complex, states)))
 }
 
 // The coupling of an answer goes to three floats: 0.
@@ -571,5 +554,5 @@ pub extern "C" fn zibrotka_build_su2_hamiltonian(
         magnetic: magnetic,
     };
     let answer = build_su2_hamiltonian(s.complex, p, given, weights, states, result);
-    signed(told_masks(answer))
+    signed(told_states(answer))
 }

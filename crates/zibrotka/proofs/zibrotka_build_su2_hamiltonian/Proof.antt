@@ -17,14 +17,14 @@ returns c = su2-matrix-refused _ _ _ _ _ _ _ (c .before .before .open .ensures) 
 build-su2-hamiltonian-requires : tie.Need-build-su2-hamiltonian-requires
 build-su2-hamiltonian-requires c κs = search needs
 
-told-masks-requires : tie.Need-told-masks-requires
-told-masks-requires c κs = search needs
+told-states-requires : tie.Need-told-states-requires
+told-states-requires c κs = search needs
 
 signed-requires : tie.Need-signed-requires
 signed-requires c κs =
     let t = c .before .before .before .before .before in
     let e = t .before .before .before .before in
-    su2-matrix-few _ _ _ _ _ _ _ (e .before .open .ensures) (e .if1 .left) _ _ _ (t .build-su2-hamiltonian .ensures) _ (c .told-masks .ensures)
+    su2-matrix-few _ _ _ _ _ _ _ (e .before .open .ensures) (e .if1 .left) _ _ _ (t .build-su2-hamiltonian .ensures) _ (c .told-states .ensures)
 
 same-length : tie.Need-same-length
 same-length c = search needs
@@ -36,7 +36,7 @@ returns-2 : tie.Need-returns-2
 returns-2 c =
     let t = c .before .before .before .before .before .before in
     let e = t .before .before .before .before in
-    su2-matrix-told _ _ _ _ _ _ _ (e .before .open .ensures) (e .if1 .left) _ _ _ (t .build-su2-hamiltonian .ensures) _ (c .before .told-masks .ensures) _ (back64 _ (c .signed .ok) ∙ c .signed .ensures)
+    su2-matrix-told _ _ _ _ _ _ _ (e .before .open .ensures) (e .if1 .left) _ _ _ (t .build-su2-hamiltonian .ensures) _ (c .before .told-states .ensures) _ (back64 _ (c .signed .ok) ∙ c .signed .ensures)
 
 pub zibrotka-build-su2-hamiltonian-spec : {M : Type 1} → statement M
 zibrotka-build-su2-hamiltonian-spec =
@@ -46,7 +46,7 @@ zibrotka-build-su2-hamiltonian-spec =
     refused-requires
     returns
     build-su2-hamiltonian-requires
-    told-masks-requires
+    told-states-requires
     signed-requires
     same-length
     same-length-2

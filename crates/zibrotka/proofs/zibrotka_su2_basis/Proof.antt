@@ -17,14 +17,14 @@ returns c = masks-refused _ _ _ (c .before .before .open .ensures) (c .before .i
 su2-basis-requires : tie.Need-su2-basis-requires
 su2-basis-requires c κs = search needs
 
-told-masks-requires : tie.Need-told-masks-requires
-told-masks-requires c κs = search needs
+told-states-requires : tie.Need-told-states-requires
+told-states-requires c κs = search needs
 
 signed-requires : tie.Need-signed-requires
 signed-requires c κs =
     let t = c .before .before .before in
     let e = t .before .before .before in
-    masks-few _ _ _ (e .before .open .ensures) (e .if1 .left) _ _ (t .su2-basis .ensures) _ (c .told-masks .ensures)
+    masks-few _ _ _ (e .before .open .ensures) (e .if1 .left) _ _ (t .su2-basis .ensures) _ (c .told-states .ensures)
 
 same-length : tie.Need-same-length
 same-length c = search needs
@@ -33,7 +33,7 @@ returns-2 : tie.Need-returns-2
 returns-2 c =
     let t = c .before .before .before .before in
     let e = t .before .before .before in
-    masks-told _ _ _ (e .before .open .ensures) (e .if1 .left) _ _ (t .su2-basis .ensures) _ (c .before .told-masks .ensures) _ (back64 _ (c .signed .ok) ∙ c .signed .ensures)
+    masks-told _ _ _ (e .before .open .ensures) (e .if1 .left) _ _ (t .su2-basis .ensures) _ (c .before .told-states .ensures) _ (back64 _ (c .signed .ok) ∙ c .signed .ensures)
 
 pub zibrotka-su2-basis-spec : {M : Type 1} → statement M
 zibrotka-su2-basis-spec =
@@ -43,7 +43,7 @@ zibrotka-su2-basis-spec =
     refused-requires
     returns
     su2-basis-requires
-    told-masks-requires
+    told-states-requires
     signed-requires
     same-length
     returns-2)

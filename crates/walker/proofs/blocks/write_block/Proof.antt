@@ -7,9 +7,10 @@ use lib.ListN.{length}
 use Rattle.mathematics.proofs.Flat.{flatten-last}
 use Rattle.walker.specs.Cycles.{added}
 use Rattle.walker.specs.Walker.{rows}
-use Rattle.walker.specs.Blocks.{put}
+use Rattle.mathematics.specs.Writing.{put}
 use Rattle.walker.proofs.Adding.{added-length}
-use Rattle.walker.proofs.Puts.{put-none, put-more, rows-none, rows-same, rows-more, rows-long, row-room, row-after}
+use Rattle.mathematics.proofs.Puts.{put-none, put-more}
+use Rattle.walker.proofs.BlockRows.{rows-none, rows-same, rows-more, rows-long, row-room, row-after}
 use borrow.Author.Needs.{needs}
 use Rattle.walker.proofs.blocks.write_block.Statement.{statement}
 use Rattle.walker.proofs.blocks.write_block.Tie as tie
@@ -82,7 +83,7 @@ loop-again c =
       omega (arith, row-after from d (length s) (at-loop .loop .inv .1)),
       c .before .write-row .kept .0 ∙ at-loop .loop .inv .4,
       made
-          ∙ put-more (start .args .states .now) (start .args .at) (flatten (rows s z from d)) (added s (pos d) z) (rw (added-length s (pos d) z) (omega arith))
+          ∙ put-more (start .args .states .now) (start .args .at) (flatten (rows s z from d)) (added s (pos d) z) (omega arith)
           ∙ ap (put (start .args .states .now) (start .args .at)) (sym (flatten-last (rows s z from d) (added s (pos d) z)) ∙ ap flatten (sym (rows-more s z from d (at-loop .loop .inv .1)))),
     )
 

@@ -10,7 +10,7 @@ use mir.Val.{toZ, ofZ}
 use Rattle.mathematics.proofs.Signed.{back32, back8}
 use Rattle.walker.specs.Cycles.{added}
 use Rattle.walker.proofs.Adding.{added-length, added-at}
-use Rattle.walker.proofs.Puts.{paste-put}
+use Rattle.mathematics.proofs.Puts.{paste-put}
 use borrow.Author.Needs.{needs}
 use Rattle.walker.proofs.blocks.write_row.Statement.{statement}
 use Rattle.walker.proofs.blocks.write_row.Tie as tie

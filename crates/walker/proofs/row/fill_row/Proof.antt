@@ -6,9 +6,10 @@ use lib.IntN.{ℤ, pos}
 use lib.ListN.{length, drop, drop-of-length-le}
 use Rattle.walker.specs.Cycles.{added}
 use Rattle.walker.specs.Walker.{rows}
-use Rattle.walker.specs.Blocks.{put}
+use Rattle.mathematics.specs.Writing.{put}
 use Rattle.walker.proofs.Adding.{added-length}
-use Rattle.walker.proofs.Puts.{put-front, rows-none, rows-more}
+use Rattle.mathematics.proofs.Puts.{put-front}
+use Rattle.walker.proofs.BlockRows.{rows-none, rows-more}
 use borrow.Author.Needs.{needs}
 use Rattle.walker.proofs.row.fill_row.Statement.{statement}
 use Rattle.walker.proofs.row.fill_row.Tie as tie

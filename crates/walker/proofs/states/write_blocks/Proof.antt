@@ -7,8 +7,8 @@ use lib.ListN.{length, take}
 use Rattle.walker.specs.Cycles.{row}
 use Rattle.walker.specs.Walker.{width, walked, walked-states}
 use Rattle.walker.specs.Steps.{Addable}
-use Rattle.walker.specs.Blocks.{put}
-use Rattle.walker.proofs.Puts.{put-none}
+use Rattle.mathematics.specs.Writing.{put}
+use Rattle.mathematics.proofs.Puts.{put-none}
 use Rattle.walker.proofs.BlockStates.{walked-none, states-none, interval-ready, step-ready, step-made, span-few, span-counts, write-ready, written-more}
 use borrow.Author.Needs.{needs}
 use Rattle.walker.proofs.states.write_blocks.Statement.{statement}

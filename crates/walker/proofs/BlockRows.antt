@@ -1,50 +1,18 @@
--- A list written over another from a place on, and the rows of a block.
+-- The rows of a block.
 use Prim.Native.Nat.{ℕ, zero, suc, _+_, _-_, _*_, _≤_, _<_}
-use mathlib.Core.List.{List, [], _∷_, _++_, map, map-append, flatten, append-nil, append-assoc}
-use mathlib.Core.Path.{_≡_, sym, _∙_, ap}
+use mathlib.Core.List.{List, [], _∷_, _++_, map, map-append, flatten}
+use mathlib.Core.Path.{_≡_, _∙_}
 use native.Mathlib.Omega.{arith}
-use native.Mathlib.Nat.{add-zero, zero-add, mul-le-mul-right}
+use native.Mathlib.Nat.{mul-le-mul-right}
 use lib.IntN.{ℤ, pos}
-use lib.ListN.{getD, length, take, drop, length-append, length-map, take-append-drop}
-use lib.Seq.{paste, length-paste, length-paste-head, take-length, take-at, drop-at, drop-drop}
+use lib.ListN.{getD, length, length-append, length-map}
 use Rattle.mathematics.specs.Counting.{below}
 use Rattle.mathematics.proofs.Below.{length-below, map-below-at}
 use Rattle.mathematics.proofs.Flat.{flatten-last}
 use Rattle.walker.specs.Cycles.{added}
 use Rattle.walker.specs.Walker.{rows}
-use Rattle.walker.specs.Blocks.{put}
 use Rattle.walker.proofs.Adding.{added-length}
 
-module _ {A : Type 0} (d : List A) (at : ℕ) where
-  pub paste-put : (s : List A) → paste d at s (length s) ≡ put d at s
-  unfolding put
-  paste-put s = rw (take-length s)
-
-  pub put-none : put d at [] ≡ d
-  unfolding put
-  put-none = rw (add-zero at, append-nil (take at d)) (take-append-drop at d)
-
-  pub put-length : (s : List A) → at + length s ≤ length d → length (put d at s) ≡ length d
-  put-length s room = sym (ap length (paste-put s)) ∙ length-paste d at s (length s) room (omega arith)
-
-  -- one list after the other
-  pub put-more : (s t : List A) → (at + length s) + length t ≤ length d → put (put d at s) (at + length s) t ≡ put d at (s ++ t)
-  unfolding put
-  put-more s t room =
-      let head : length (take at d ++ s) ≡ at + length s = (rw (take-length s) at (length-paste-head d at s (length s) (omega arith) (omega arith))) in
-      let e : at + length (s ++ t) ≡ (at + length s) + length t = rw (length-append s t) (omega arith) in
-      let front : take (at + length s) (take at d ++ s ++ drop (at + length s) d) ≡ take at d ++ s = take-at (take at d ++ s) (drop (at + length s) d) (at + length s) head in
-      let behind : drop ((at + length s) + length t) (take at d ++ s ++ drop (at + length s) d) ≡ drop ((at + length s) + length t) d =
-      sym (drop-drop (length t) (at + length s) (take at d ++ s ++ drop (at + length s) d))
-      ∙ ap (drop (length t)) (drop-at (take at d ++ s) (drop (at + length s) d) (at + length s) head)
-      ∙ drop-drop (length t) (at + length s) d in
-      rw (front, behind, e, append-assoc (take at d) s t)
-
-pub put-front : {A : Type 0} (d s : List A) → put d 0 s ≡ s ++ drop (length s) d
-unfolding put
-put-front d s = rw (zero-add (length s))
-
--- ---- the rows of a block
 module _ (s z : List ℤ) (from : ℕ) where
   pub rows-none : (to : ℕ) → to - from ≡ 0 → rows s z from to ≡ []
   unfolding rows below
