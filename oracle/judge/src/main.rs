@@ -34,7 +34,7 @@ use case::Tally;
 use std::process::ExitCode;
 
 const USAGE: &str = "\
-judge quick               every short input, then random ones of a fixed seed: about a minute
+judge quick               every short input, then random ones of a fixed seed: one to two minutes
 judge long SEED MINUTES   random inputs of a seed for so many minutes
 judge record FILE         writes the fixed list of the Rust's answers
 judge replay FILE         holds the port against such a list";
