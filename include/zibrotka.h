@@ -15,6 +15,7 @@
 #ifndef ZIBROTKA_H
 #define ZIBROTKA_H
 
+#include <stdbool.h>
 #include <stddef.h>
 #include <stdint.h>
 
@@ -142,6 +143,44 @@ int64_t zibrotka_apply_triangle_shift(const uint8_t *sheet, size_t sheet_len,
  * one of 1 to 9, 10 (more than 1,048,576) or 15 (fewer entries than masks). L plays no part, but a sheet with an L over 1000 is 5.
  */
 int64_t zibrotka_su2_basis(const uint8_t *sheet, size_t sheet_len, uint64_t *states, size_t states_len);
+
+/*
+ * The coupling with its electric and its magnetic factor, in this order, for U(1): g_squared, g_squared / 2 and -1 / g_squared. Answers 0,
+ * or minus 14 (g_squared is not from 2^-32 to 2^32).
+ */
+int64_t zibrotka_u1_params(double g_squared, double params[3]);
+
+/*
+ * The same for the two-valued truncation: g_squared, (3 * g_squared) / 8 and -0.5 / g_squared.
+ */
+int64_t zibrotka_su2_params(double g_squared, double params[3]);
+
+/*
+ * The Hamiltonian as a dense matrix over the states that zibrotka_enumerate_gauge_invariant lists, n of them: n times n entries go to the
+ * front of `result`, row by row, and all states to the front of `states`. From 0.0, `electric` times the sum of squares of a state is
+ * added on the diagonal; then each triangle by rising number that shifts state i to state j adds (`magnetic` times its weight) times 0.5
+ * at (i,j) and at (j,i). The coupling comes as zibrotka_u1_params gives it. There is one weight for each triangle by number if `given`
+ * is true; else every weight is 1.0, and the list is neither judged nor read. Answers n, or minus one of 1 to 10, 12 (`given`, and not as
+ * many weights as triangles), 14 (g_squared is not from 2^-32 to 2^32, a factor is not its own, or `given` and a weight is not from -2^32
+ * to 2^32) or 15 (fewer than n times E entries in `states`, or than n times n in `result`).
+ */
+int64_t zibrotka_build_hamiltonian(const uint8_t *sheet, size_t sheet_len,
+                                   double g_squared, double electric, double magnetic,
+                                   bool given, const double *weights, size_t weights_len,
+                                   int32_t *states, size_t states_len,
+                                   double *result, size_t result_len);
+
+/*
+ * The same over the masks that zibrotka_su2_basis lists: `electric` times the number of edges in the set is added on the diagonal; then
+ * each triangle by rising number flips its three bits, which leads from mask i to mask j, and adds `magnetic` times its weight at (i,j).
+ * The coupling comes as zibrotka_su2_params gives it. Answers n, or minus one of 1 to 10, 12, 14 or 15 (fewer than n entries in `states`,
+ * or than n times n in `result`).
+ */
+int64_t zibrotka_build_su2_hamiltonian(const uint8_t *sheet, size_t sheet_len,
+                                       double g_squared, double electric, double magnetic,
+                                       bool given, const double *weights, size_t weights_len,
+                                       uint64_t *states, size_t states_len,
+                                       double *result, size_t result_len);
 
 #ifdef __cplusplus
 }

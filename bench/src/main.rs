@@ -1,5 +1,6 @@
 //! Times the port against the Rust on the same inputs, the best of a few rounds.
 
+mod dense;
 mod masks;
 mod places;
 
@@ -10,12 +11,13 @@ use std::process::ExitCode;
 use std::time::Instant;
 
 type Table = (&'static str, fn());
-const TABLES: [Table; 5] = [
+const TABLES: [Table; 6] = [
     ("pentachora", from_pentachorons),
     ("triangles", tri_edge_indices),
     ("states", enumerate_gauge_invariant),
     ("places", places::table),
     ("masks", masks::table),
+    ("dense", dense::table),
 ];
 
 fn main() -> ExitCode {
@@ -198,6 +200,14 @@ fn record_of(vertices: usize, edges: Vec<[usize; 2]>) -> SimplicialComplex {
     record.edge_index = edges.iter().enumerate().map(|(number, &edge)| (edge, number)).collect();
     record.edges = edges;
     record
+}
+
+/// All whose three edges are listed.
+fn triangles(record: &SimplicialComplex) -> Vec<[usize; 3]> {
+    let there = |a: usize, b: usize| record.edge_index.contains_key(&[a, b]);
+    let n = record.n_vertices;
+    let over = |[a, b]: [usize; 2]| (b + 1..n).filter(move |&c| there(a, c) && there(b, c)).map(move |c| [a, b, c]);
+    record.edges.iter().copied().flat_map(over).collect()
 }
 
 /// So many fives, step by step through the vertices, until each pair was met.

@@ -1,6 +1,6 @@
 //! The table `places`: calls that need the basis of a sheet and tell a place in it.
 
-use crate::{columns, large, milliseconds, sheet_with};
+use crate::{columns, large, milliseconds, sheet_with, triangles};
 use phyz_quantum::hamiltonian::open_triangle_shift;
 use phyz_quantum::hilbert::U1HilbertSpace;
 use phyz_regge::SimplicialComplex;
@@ -91,12 +91,4 @@ pub fn table() {
             row(name, ask.name(), [lambda, count, place, port, rust, ratio]);
         }
     }
-}
-
-/// All whose three edges are listed.
-fn triangles(record: &SimplicialComplex) -> Vec<[usize; 3]> {
-    let there = |a: usize, b: usize| record.edge_index.contains_key(&[a, b]);
-    let n = record.n_vertices;
-    let over = |[a, b]: [usize; 2]| (b + 1..n).filter(move |&c| there(a, c) && there(b, c)).map(move |c| [a, b, c]);
-    record.edges.iter().copied().flat_map(over).collect()
 }

@@ -1,6 +1,7 @@
 /* Calls libzibrotka.a from C: that the header and the library agree, that lists go over whole, and that refusals leave them alone. */
 #include "zibrotka.h"
 
+#include <math.h>
 #include <stdio.h>
 #include <string.h>
 
@@ -342,10 +343,102 @@ static int masks(void)
     return 0;
 }
 
+static int couplings(void)
+{
+    const double u1[] = {4.0, 2.0, -0.25}, su2[] = {4.0, 1.5, -0.125};
+    const double lowest = 1.0 / 4294967296.0, highest = 4294967296.0;
+    const double outside[] = {(double)NAN, (double)INFINITY, -(double)INFINITY, 0.0, -1.0, lowest / 2, 2 * highest};
+    double params[4];
+
+    memset(params, 0xEE, sizeof params);
+    for (size_t i = 0; i < sizeof outside / sizeof outside[0]; i++) {
+        CHECK(zibrotka_u1_params(outside[i], params) == -ZIBROTKA_FLOAT);
+        CHECK(zibrotka_su2_params(outside[i], params) == -ZIBROTKA_FLOAT);
+    }
+    CHECK(all_are((const uint8_t *)params, sizeof params, 0xEE));
+
+    CHECK(zibrotka_u1_params(4.0, params) == 0);
+    CHECK(memcmp(params, u1, sizeof u1) == 0);
+    CHECK(zibrotka_su2_params(4.0, params) == 0);
+    CHECK(memcmp(params, su2, sizeof su2) == 0);
+    CHECK(all_are((const uint8_t *)(params + 3), sizeof *params, 0xEE));
+    CHECK(zibrotka_u1_params(lowest, params) == 0);
+    CHECK(params[0] == lowest && params[1] == lowest / 2 && params[2] == -highest);
+    CHECK(zibrotka_su2_params(highest, params) == 0);
+    CHECK(params[0] == highest && params[1] == 3 * highest / 8 && params[2] == -lowest / 2);
+    return 0;
+}
+
+/* whether a matrix stands at the front of a list of 16 entries and those behind it are as they were */
+static int holds_matrix(const double *list, const double *matrix, size_t len)
+{
+    return memcmp(list, matrix, len * sizeof *list) == 0 && all_are((const uint8_t *)(list + len), (16 - len) * sizeof *list, 0xEE);
+}
+
+static int dense(void)
+{
+    const double rows[] = {1.5, -0.5, 0, -0.5, 0, -0.5, 0, -0.5, 1.5};
+    const double weighted[] = {1.5, -1.5, 0, -1.5, 0, -1.5, 0, -1.5, 1.5}, unweighted[] = {1.5, 0, 0, 0, 0, 0, 0, 0, 1.5};
+    const double three[] = {3.0, 3.0}, none[] = {0.0}, no_number[] = {(double)NAN, (double)NAN};
+    int32_t states[16];
+    double result[16];
+
+    memset(states, 0xEE, sizeof states);
+    memset(result, 0xEE, sizeof result);
+    CHECK(zibrotka_build_hamiltonian(NULL, 0, 0, 0, 0, true, NULL, 0, NULL, 0, NULL, 0) == -ZIBROTKA_SHEET_SHORT);
+    CHECK(zibrotka_build_hamiltonian(apart_sheet, 11, 1, 0.5, -1, false, NULL, 0, states, 16, result, 16) == -ZIBROTKA_UNREACHED);
+    CHECK(zibrotka_build_hamiltonian(triangle_sheet, 20, 0, 0, 0, true, no_number, 2, states, 8, result, 8) == -ZIBROTKA_LENGTH);
+    CHECK(zibrotka_build_hamiltonian(triangle_sheet, 20, 1, 0.5, -1, true, NULL, 0, states, 16, result, 16) == -ZIBROTKA_LENGTH);
+    CHECK(zibrotka_build_hamiltonian(triangle_sheet, 20, 1, 0.5, -1, true, no_number, 1, states, 8, result, 8) == -ZIBROTKA_FLOAT);
+    CHECK(zibrotka_build_hamiltonian(triangle_sheet, 20, 0, 0, 0, false, NULL, 0, states, 8, result, 8) == -ZIBROTKA_FLOAT);
+    CHECK(zibrotka_build_hamiltonian(triangle_sheet, 20, 1, 0.375, -0.5, false, NULL, 0, states, 16, result, 16) == -ZIBROTKA_FLOAT);
+    CHECK(zibrotka_build_hamiltonian(triangle_sheet, 20, 1, 0.5, -1, false, NULL, 0, states, 8, result, 16) == -ZIBROTKA_ROOM);
+    CHECK(zibrotka_build_hamiltonian(triangle_sheet, 20, 1, 0.5, -1, true, three, 1, states, 16, result, 8) == -ZIBROTKA_ROOM);
+    CHECK(as_it_was(states, 16) && holds_matrix(result, rows, 0));
+
+    CHECK(zibrotka_build_hamiltonian(triangle_sheet, 20, 1, 0.5, -1, false, NULL, 0, states, 16, result, 16) == 3);
+    CHECK(begins_with_the_basis(states, 16) && holds_matrix(result, rows, 9));
+    CHECK(zibrotka_build_hamiltonian(triangle_sheet, 20, 1, 0.5, -1, true, three, 1, states, 9, result, 9) == 3);
+    CHECK(begins_with_the_basis(states, 16) && holds_matrix(result, weighted, 9));
+    CHECK(zibrotka_build_hamiltonian(triangle_sheet, 20, 1, 0.5, -1, true, none, 1, states, 9, result, 9) == 3);
+    CHECK(holds_matrix(result, unweighted, 9));
+    CHECK(zibrotka_build_hamiltonian(triangle_sheet, 20, 1, 0.5, -1, false, no_number, 2, states, 9, result, 9) == 3);
+    CHECK(holds_matrix(result, rows, 9));
+    memset(result, 0xEE, sizeof result);
+    CHECK(zibrotka_build_hamiltonian(point_sheet, 11, 1, 0.5, -1, true, NULL, 0, NULL, 0, result, 16) == 1);
+    CHECK(holds_matrix(result, none, 1));
+    return 0;
+}
+
+static int su2_dense(void)
+{
+    const double rows[] = {0, -0.5, -0.5, 1.125}, weighted[] = {0, -1.5, -1.5, 1.125}, three[] = {3.0, 3.0};
+    const double too_large[] = {4294967297.0};
+    const uint64_t on_triangle_sheet[] = {0, 7};
+    uint64_t states[10];
+    double result[16];
+
+    memset(states, 0xEE, sizeof states);
+    memset(result, 0xEE, sizeof result);
+    CHECK(zibrotka_build_su2_hamiltonian(triangle_sheet, 19, 0, 0, 0, true, NULL, 0, NULL, 0, NULL, 0) == -ZIBROTKA_SHEET_LENGTH);
+    CHECK(zibrotka_build_su2_hamiltonian(triangle_sheet, 20, 0, 0, 0, true, three, 2, states, 1, result, 3) == -ZIBROTKA_LENGTH);
+    CHECK(zibrotka_build_su2_hamiltonian(triangle_sheet, 20, 1, 0.375, -0.5, true, too_large, 1, states, 1, result, 3) == -ZIBROTKA_FLOAT);
+    CHECK(zibrotka_build_su2_hamiltonian(triangle_sheet, 20, 1, 0.5, -1, false, NULL, 0, states, 10, result, 16) == -ZIBROTKA_FLOAT);
+    CHECK(zibrotka_build_su2_hamiltonian(triangle_sheet, 20, 1, 0.375, -0.5, false, NULL, 0, states, 1, result, 16) == -ZIBROTKA_ROOM);
+    CHECK(zibrotka_build_su2_hamiltonian(triangle_sheet, 20, 1, 0.375, -0.5, false, NULL, 0, states, 10, result, 3) == -ZIBROTKA_ROOM);
+    CHECK(all_are((const uint8_t *)states, sizeof states, 0xEE) && holds_matrix(result, rows, 0));
+
+    CHECK(zibrotka_build_su2_hamiltonian(triangle_sheet, 20, 1, 0.375, -0.5, false, NULL, 0, states, 10, result, 16) == 2);
+    CHECK(holds_masks(states, on_triangle_sheet, 2) && holds_matrix(result, rows, 4));
+    CHECK(zibrotka_build_su2_hamiltonian(triangle_sheet, 20, 1, 0.375, -0.5, true, three, 1, states, 2, result, 4) == 2);
+    CHECK(holds_masks(states, on_triangle_sheet, 2) && holds_matrix(result, weighted, 4));
+    return 0;
+}
+
 int main(void)
 {
     if (making() || reading() || triangle_edges() || pentachora() || trees() || laws() || listings() || places() || shifts() ||
-        triangle_shifts() || masks())
+        triangle_shifts() || masks() || couplings() || dense() || su2_dense())
         return 1;
     printf("C: %d checks passed\n", passed);
     return 0;

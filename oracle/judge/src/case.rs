@@ -25,6 +25,10 @@ pub enum Kind {
     EdgeShiftsBeyond,
     TriangleShifts,
     Masks,
+    U1Params,
+    Su2Params,
+    Dense,
+    Su2Dense,
 }
 
 impl Kind {
@@ -47,6 +51,10 @@ impl Kind {
             Kind::EdgeShiftsBeyond => "edges' shifts beyond the Rust",
             Kind::TriangleShifts => "triangles' shifts",
             Kind::Masks => "lists of masks",
+            Kind::U1Params => "couplings",
+            Kind::Su2Params => "two-valued couplings",
+            Kind::Dense => "dense matrices",
+            Kind::Su2Dense => "two-valued dense matrices",
         }
     }
 
@@ -65,6 +73,8 @@ impl Kind {
             Kind::EdgeShifts => &[1, 2, 3, 4, 5, 6, 7, 8, 9, 10, 12, 13, 15, 16, 17],
             Kind::EdgeShiftsBeyond => &[16],
             Kind::TriangleShifts => &[1, 2, 3, 4, 5, 6, 7, 8, 9, 10, 13, 15, 16],
+            Kind::U1Params | Kind::Su2Params => &[14],
+            Kind::Dense | Kind::Su2Dense => &[1, 2, 3, 4, 5, 6, 7, 8, 9, 10, 12, 14, 15],
         }
     }
 
@@ -73,7 +83,7 @@ impl Kind {
         self != Kind::EdgeShiftsBeyond
     }
 
-    const ALL: [Kind; 17] = [
+    const ALL: [Kind; 21] = [
         Kind::FromPentachora,
         Kind::TriangleEdges,
         Kind::SheetMade,
@@ -91,6 +101,10 @@ impl Kind {
         Kind::EdgeShiftsBeyond,
         Kind::TriangleShifts,
         Kind::Masks,
+        Kind::U1Params,
+        Kind::Su2Params,
+        Kind::Dense,
+        Kind::Su2Dense,
     ];
 }
 

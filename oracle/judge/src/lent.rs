@@ -7,6 +7,15 @@ const MARGIN: usize = 8;
 pub trait Pattern: Copy + PartialEq + std::fmt::Debug {
     /// What stands at a place before the call: nothing that a call would write there.
     fn before(at: usize) -> Self;
+
+    /// Whether every bit is the same.
+    fn same(self, other: Self) -> bool {
+        self == other
+    }
+
+    fn shown(self) -> String {
+        format!("{self:?}")
+    }
 }
 
 impl Pattern for u8 {
@@ -30,6 +39,21 @@ impl Pattern for i32 {
 impl Pattern for u64 {
     fn before(at: usize) -> u64 {
         0xA5C3_0000_0000_0000 + at as u64
+    }
+}
+
+impl Pattern for f64 {
+    /// Signalling ones that are no numbers: no sum or product is one.
+    fn before(at: usize) -> f64 {
+        f64::from_bits(0x7FF4_0000_0000_0000 + at as u64)
+    }
+
+    fn same(self, other: f64) -> bool {
+        self.to_bits() == other.to_bits()
+    }
+
+    fn shown(self) -> String {
+        format!("{self:e} (bits {:016X})", self.to_bits())
     }
 }
 
@@ -75,8 +99,8 @@ pub fn any_spare(random: &mut Random) -> i64 {
 
 pub fn show_spare(spare: i64) -> String {
     match spare {
-        NO_ROOM => "nothing lent".into(),
-        spare => format!("lent list {spare} entries longer than the states"),
+        NO_ROOM => "nothing is lent".into(),
+        spare => format!("{spare} entries more than needed are lent"),
     }
 }
 
@@ -107,8 +131,9 @@ impl<T: Pattern> Lent<T> {
     pub fn holds(&self, front: &[T]) -> Result<(), String> {
         // all at once, then one by one for what differs
         let behind = MARGIN + front.len();
-        let as_before = |mut places: std::ops::Range<usize>| places.all(|at| self.whole[at] == T::before(at));
-        if self.whole[MARGIN..behind] == *front && as_before(0..MARGIN) && as_before(behind..self.whole.len()) {
+        let as_before = |mut places: std::ops::Range<usize>| places.all(|at| self.whole[at].same(T::before(at)));
+        let in_front = self.whole[MARGIN..behind].iter().zip(front).all(|(found, &expected)| found.same(expected));
+        if in_front && as_before(0..MARGIN) && as_before(behind..self.whole.len()) {
             return Ok(());
         }
         for (at, &found) in self.whole.iter().enumerate() {
@@ -116,7 +141,7 @@ impl<T: Pattern> Lent<T> {
                 Some(place) if place < front.len() => front[place],
                 _ => T::before(at),
             };
-            if found != expected {
+            if !found.same(expected) {
                 let place = at as i64 - MARGIN as i64;
                 let len = self.whole.len() - 2 * MARGIN;
                 let why = match at.checked_sub(MARGIN) {
@@ -124,10 +149,8 @@ impl<T: Pattern> Lent<T> {
                     Some(place) if place < len => "which should be as it was",
                     _ => "which was not lent",
                 };
-                return Err(format!(
-                    "`{}` (length {len}) holds {found:?} at place {place}, {why}: expected {expected:?}",
-                    self.name
-                ));
+                let (found, expected) = (found.shown(), expected.shown());
+                return Err(format!("`{}` (length {len}) holds {found} at place {place}, {why}: expected {expected}", self.name));
             }
         }
         Ok(())

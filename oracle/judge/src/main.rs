@@ -4,6 +4,12 @@ mod basis;
 mod case;
 mod complexes;
 mod configurations;
+mod coupling_runs;
+mod couplings;
+mod dense;
+mod dense_runs;
+mod entries;
+mod floats;
 mod inputs;
 mod law;
 mod law_runs;
@@ -22,12 +28,13 @@ mod rust;
 mod sheets;
 mod shifts;
 mod shrink;
+mod weights;
 
 use case::Tally;
 use std::process::ExitCode;
 
 const USAGE: &str = "\
-judge quick               every short input, then random ones of a fixed seed: about a minute
+judge quick               every short input, then random ones of a fixed seed: one to two minutes
 judge long SEED MINUTES   random inputs of a seed for so many minutes
 judge record FILE         writes the fixed list of the Rust's answers
 judge replay FILE         holds the port against such a list";

@@ -2,13 +2,14 @@
 
 use crate::case::{Tally, run};
 use crate::complexes::{self, TWO_APART, pairs, path};
+use crate::inputs;
 use crate::lent::{self, NO_ROOM};
 use crate::masks::Masks;
 use crate::random::Random;
 use crate::reference::{self, Complex, HEADER, MOST_EDGES, MOST_LAMBDA, Sheet};
 use crate::runs::QUICK_SEED;
+use crate::rust::Su2Space;
 use crate::sheets::sheet;
-use crate::{inputs, rust};
 
 const QUICK_ROUNDS: usize = 6_000;
 
@@ -37,9 +38,9 @@ pub fn written_down(tally: &mut Tally) {
 
     // what docs/DIFFERENCES.md says of the Rust under 3
     let apart = sheet(6, &TWO_APART, &[], 1).complex;
-    let listed = rust::su2_basis(&apart);
-    assert_eq!(listed.len(), 16, "the Rust no longer lists two parts");
-    let even: Vec<u64> = listed.into_iter().filter(|&mask| reference::even(&apart, mask)).collect();
+    let space = Su2Space::new(&apart);
+    assert_eq!(space.states().len(), 16, "the Rust no longer lists two parts");
+    let even: Vec<u64> = space.states().iter().copied().filter(|&mask| reference::even(&apart, mask)).collect();
     assert_eq!(even.len(), 4, "the Rust lists two parts in another way");
     assert_eq!(even, reference::masks(&apart));
 }
@@ -171,7 +172,7 @@ pub fn random_round(random: &mut Random, most: u64, tally: &mut Tally) {
 }
 
 /// With so many free edges: often 63 edges in all, or few vertices.
-fn any_complex(random: &mut Random, free: u64) -> Complex {
+pub fn any_complex(random: &mut Random, free: u64) -> Complex {
     let (fewest, most) = (complexes::fewest_vertices(free), 64 - free);
     let vertices = match random.below(3) {
         0 => most,

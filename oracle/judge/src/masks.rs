@@ -1,10 +1,11 @@
 //! `su2_basis`: the Rust judges the masks, the reference the refusals.
 
+use crate::basis::Listed;
 use crate::case::{Case, Kind, Tally};
 use crate::lent::{self, Lent};
 use crate::pentachora::same_answer;
 use crate::reference::{self, Sheet};
-use crate::rust;
+use crate::rust::Su2Space;
 use crate::sheets::{hexadecimal, sheet_size, simpler_sheets};
 use crate::shrink::simpler_lambdas;
 
@@ -31,15 +32,37 @@ impl Masks {
     fn expected(&self, room: usize) -> Result<Result<Vec<u64>, u8>, String> {
         match reference::read_for_masks(&self.sheet) {
             Ok((_, count)) if (room as u64) < count => Ok(Err(15)),
-            Ok((sheet, count)) => by_rust(&sheet, count).map(Ok),
+            Ok((sheet, count)) => by_rust(&sheet, count).map(|space| Ok(space.states().to_vec())),
             Err(number) => Ok(Err(number)),
         }
     }
 }
 
+/// The masks of a sheet's complex, for calls with a work list.
+pub struct EvenSets {
+    pub sheet: Sheet,
+    pub space: Su2Space,
+}
+
+impl Listed for EvenSets {
+    type Entry = u64;
+
+    fn read(bytes: &[u8]) -> Result<Result<EvenSets, u8>, String> {
+        match reference::read_for_masks(bytes) {
+            Ok((sheet, count)) => by_rust(&sheet, count).map(|space| Ok(EvenSets { sheet, space })),
+            Err(number) => Ok(Err(number)),
+        }
+    }
+
+    fn flat(&self) -> &[u64] {
+        self.space.states()
+    }
+}
+
 /// The Rust's masks, which must be so many, ascend and be even; where the edges are few, no other set is even.
-fn by_rust(sheet: &Sheet, count: u64) -> Result<Vec<u64>, String> {
-    let masks = rust::su2_basis(&sheet.complex);
+fn by_rust(sheet: &Sheet, count: u64) -> Result<Su2Space, String> {
+    let space = Su2Space::new(&sheet.complex);
+    let masks = space.states();
     if masks.len() as u64 != count {
         return Err(format!("the Rust lists {} masks, and {count} are expected", masks.len()));
     }
@@ -52,7 +75,7 @@ fn by_rust(sheet: &Sheet, count: u64) -> Result<Vec<u64>, String> {
     if sheet.complex.edges.len() <= FEW && reference::masks(&sheet.complex) != masks {
         return Err("the judge's own masks and the Rust's differ".into());
     }
-    Ok(masks)
+    Ok(space)
 }
 
 impl Case for Masks {

@@ -26,11 +26,6 @@ fn triangle_shift(given: &Given, triangle: u64, state: u64, spare: i64, tally: &
     run(&TriangleShift { given: given.clone(), triangle, state, spare }, tally);
 }
 
-/// The basis of a sheet that is not refused; that the Rust's states are the right ones is judged by the calls themselves.
-fn accepted(given: &Given) -> Option<&Basis> {
-    given.basis().ok().and_then(Result::ok)
-}
-
 /// From this much on, the work list would hold every candidate, not only the states.
 fn spare_for_candidates(basis: &Basis) -> i64 {
     let complex = &basis.sheet.complex;
@@ -42,11 +37,11 @@ fn spare_for_candidates(basis: &Basis) -> i64 {
 
 /// Everything that can be wrong with the three calls on one sheet, in every combination.
 fn combinations(sheet: &Sheet, tally: &mut Tally) {
-    let given = Given::of(sheet);
+    let given: Given = Given::of(sheet);
     let (n_edges, n_triangles) = (sheet.complex.edges.len(), sheet.complex.triangles.len() as u64);
     let (mut n_states, mut spares) = (1, vec![0, 1, 700, -1, NO_ROOM]);
     let mut some = vec![];
-    if let Some(basis) = accepted(&given) {
+    if let Some(basis) = given.accepted() {
         let states = basis.space.states();
         n_states = states.len() as u64;
         some = vec![states[0].clone(), states[states.len() / 2].clone(), states[states.len() - 1].clone()];
@@ -109,8 +104,8 @@ pub fn written_down(tally: &mut Tally) {
 pub fn long_lists(tally: &mut Tally) {
     let shortcuts = [path(5), vec![[0, 2], [2, 4]]].concat();
     for (vertices, edges, lambda) in [(5, shortcuts, 511), (4, pairs(4), 50), (6, pairs(6), 1), (7, pairs(7)[..18].to_vec(), 1)] {
-        let given = Given::of(&sheet(vertices, &edges, &inputs::closed(&edges), lambda));
-        let basis = accepted(&given).expect("one part, within the limit");
+        let given: Given = Given::of(&sheet(vertices, &edges, &inputs::closed(&edges), lambda));
+        let basis = given.accepted().expect("one part, within the limit");
         let states = basis.space.states();
         for at in [0, states.len() / 2, states.len() - 1] {
             place(&given, &states[at], 0, tally);
@@ -149,8 +144,8 @@ pub fn any_bytes(bytes: &[u8], tally: &mut Tally) {
 /// Every state, its neighbours, and every triangle of every state, for every small graph; the largest in one order only.
 pub fn small_graphs(tally: &mut Tally) {
     complexes::small_graphs(|order, sheet, random| {
-        let given = Given::of(sheet);
-        match accepted(&given) {
+        let given: Given = Given::of(sheet);
+        match given.accepted() {
             None => any_bytes(&given.bytes, tally),
             Some(basis) if order == 0 || (order == 2 && basis.flat.len() < 8_000) => {
                 every_state(&given, basis, random, tally);
@@ -215,11 +210,11 @@ pub fn random_round(random: &mut Random, most: u64, tally: &mut Tally) {
         sheet.lambda = random.below(sheet.lambda + 1);
     }
     let given = Given::of(&sheet);
-    any_calls(&given, accepted(&given).expect("one part, within the limit"), random, tally);
+    any_calls(&given, given.accepted().expect("one part, within the limit"), random, tally);
 
     sheet.lambda = reference::largest_lambda(free, 40);
     let given = Given::of(&sheet);
-    every_triangle(&given, accepted(&given).expect("one part, within the limit"), random, tally);
+    every_triangle(&given, given.accepted().expect("one part, within the limit"), random, tally);
 
     // past the limit, where some L is
     sheet.lambda = random.between(reference::largest_lambda(free, MOST_CANDIDATES), MOST_LAMBDA + 1);

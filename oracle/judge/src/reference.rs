@@ -335,6 +335,13 @@ pub fn apply_shift(
     Ok((shifted, place))
 }
 
+/// The numbers of a triangle's edges (a,b), (a,c), (b,c).
+pub fn sides(complex: &Complex, triangle: usize) -> [usize; 3] {
+    let [a, b, c] = complex.triangles[triangle];
+    let number = |side: [u8; 2]| complex.edges.iter().position(|&edge| edge == side).expect("8 was judged");
+    [[a, b], [a, c], [b, c]].map(number)
+}
+
 /// The place that `apply_triangle_shift` tells, or the first of 13, 15 and 16 that holds.
 pub fn apply_triangle_shift(sheet: &Sheet, states: &[Vec<i32>], triangle: u64, state: u64, room: usize) -> Result<usize, u8> {
     let complex = &sheet.complex;
@@ -342,10 +349,8 @@ pub fn apply_triangle_shift(sheet: &Sheet, states: &[Vec<i32>], triangle: u64, s
         return Err(13);
     }
     work_room(sheet, states, room)?;
-    let [a, b, c] = complex.triangles[triangle as usize];
     let mut shifted = states[state as usize].clone();
-    for (side, sign) in [([a, b], 1), ([a, c], -1), ([b, c], 1)] {
-        let edge = complex.edges.iter().position(|&edge| edge == side).expect("8 was judged");
+    for (edge, sign) in sides(complex, triangle as usize).into_iter().zip([1, -1, 1]) {
         shifted[edge] += sign;
     }
     if !shifted.iter().all(|&value| in_band(sheet, value.into())) {

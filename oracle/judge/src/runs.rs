@@ -1,6 +1,8 @@
 //! The quick run, with its exhaustive parts, and the long one.
 
 use crate::case::{Tally, run};
+use crate::coupling_runs;
+use crate::dense_runs;
 use crate::inputs;
 use crate::law_runs;
 use crate::lent::Room;
@@ -21,7 +23,7 @@ type Part = (&'static str, fn(&mut Tally));
 pub fn quick() -> Tally {
     let mut tally = Tally::default();
     println!("quick run, seed {QUICK_SEED}");
-    let parts: [Part; 18] = [
+    let parts: [Part; 23] = [
         ("cases that were written down", written_down),
         ("every short list of pentachora", short_pentachora),
         ("every sheet of a few small numbers", small_sheets),
@@ -45,6 +47,11 @@ pub fn quick() -> Tally {
         ("masks of every graph on up to five vertices", mask_runs::small_graphs),
         ("masks of every number of free edges", mask_runs::limits),
         ("random masks", mask_runs::random_rounds),
+        ("couplings", coupling_runs::quick),
+        ("dense matrices that were written down", dense_runs::written_down),
+        ("large dense matrices", dense_runs::large),
+        ("dense matrices of every graph on up to five vertices", dense_runs::small_graphs),
+        ("random dense matrices", dense_runs::random_rounds),
     ];
     for (name, part) in parts {
         let start = Instant::now();
@@ -65,6 +72,8 @@ pub fn long(seed: u64, minutes: f64) -> Tally {
             law_runs::random_round(&mut random, if round == 0 { reference::MOST_CANDIDATES } else { 3_000 }, &mut tally);
             place_runs::random_round(&mut random, if round == 0 { 100_000 } else { 1_000 }, &mut tally);
             mask_runs::random_round(&mut random, if round == 0 { mask_runs::MOST_FREE } else { 11 }, &mut tally);
+            coupling_runs::random_round(&mut random, &mut tally);
+            dense_runs::random_round(&mut random, if round == 0 { 2_000 } else { 250 }, &mut tally);
         }
     }
     tally
@@ -312,6 +321,7 @@ fn one_byte_changed(tally: &mut Tally) {
                 law_runs::any_bytes(&changed, tally);
                 place_runs::any_bytes(&changed, tally);
                 mask_runs::any_bytes(&changed, tally);
+                dense_runs::any_bytes(&changed, tally);
                 run(&ReadSheet { bytes: changed }, tally);
             }
         }
@@ -327,6 +337,7 @@ fn lengths(tally: &mut Tally) {
             law_runs::any_bytes(&other, tally);
             place_runs::any_bytes(&other, tally);
             mask_runs::any_bytes(&other, tally);
+            dense_runs::any_bytes(&other, tally);
             run(&TriangleEdges { sheet: other }, tally);
         }
         // each byte taken out, and each put in twice

@@ -2,10 +2,11 @@
 
 use crate::reference::Complex;
 use phyz_quantum::gauss_law;
-use phyz_quantum::hamiltonian::open_triangle_shift;
+use phyz_quantum::hamiltonian::{KSParams, build_hamiltonian, open_triangle_shift};
 use phyz_quantum::hilbert::U1HilbertSpace;
-use phyz_quantum::su2_quantum::Su2HilbertSpace;
+use phyz_quantum::su2_quantum::{Su2HilbertSpace, build_su2_hamiltonian};
 use phyz_regge::SimplicialComplex;
+use std::ops::Index;
 
 /// The Rust adds in 32 bits: it is asked about values up to this only, of which no sum wraps.
 pub const MOST_VALUE: u32 = 1 << 24;
@@ -55,11 +56,6 @@ pub fn enumerate_gauge_invariant(complex: &Complex, lambda: u64) -> Vec<Vec<i32>
     gauss_law::enumerate_gauge_invariant(&filled(complex), lambda as u32)
 }
 
-/// The masks of the two-valued truncation, in the Rust's own order.
-pub fn su2_basis(complex: &Complex) -> Vec<u64> {
-    Su2HilbertSpace::new(&filled(complex)).basis
-}
-
 /// The Rust's basis, with the record that it was made of.
 pub struct Space {
     record: SimplicialComplex,
@@ -89,4 +85,36 @@ impl Space {
     pub fn apply_triangle_shift(&self, triangle: usize, state: usize) -> Option<usize> {
         open_triangle_shift(&self.space, self.space.index_to_config(state), &self.record.tri_edge_indices(triangle))
     }
+    pub fn build_hamiltonian(&self, g_squared: f64, weights: Option<&[f64]>) -> Vec<f64> {
+        let params = KSParams { g_squared, metric_weights: weights.map(<[f64]>::to_vec) };
+        rows(&build_hamiltonian(&self.space, &self.record, &params), self.space.dim())
+    }
+}
+
+/// The Rust's basis of the two-valued truncation, with the record that it was made of.
+pub struct Su2Space {
+    record: SimplicialComplex,
+    space: Su2HilbertSpace,
+}
+
+impl Su2Space {
+    pub fn new(complex: &Complex) -> Su2Space {
+        let record = filled(complex);
+        let space = Su2HilbertSpace::new(&record);
+        Su2Space { record, space }
+    }
+
+    /// The masks in the Rust's own order.
+    pub fn states(&self) -> &[u64] {
+        &self.space.basis
+    }
+
+    pub fn build_hamiltonian(&self, g_squared: f64, weights: Option<&[f64]>) -> Vec<f64> {
+        rows(&build_su2_hamiltonian(&self.space, &self.record, g_squared, weights), self.space.dim())
+    }
+}
+
+/// A square matrix row by row.
+fn rows(matrix: &impl Index<(usize, usize), Output = f64>, len: usize) -> Vec<f64> {
+    (0..len).flat_map(|row| (0..len).map(move |column| matrix[(row, column)])).collect()
 }

@@ -85,6 +85,36 @@ mod raw {
             states_len: usize,
         ) -> i64;
         pub fn zibrotka_su2_basis(sheet: *const u8, sheet_len: usize, states: *mut u64, states_len: usize) -> i64;
+        pub fn zibrotka_u1_params(g_squared: f64, params: *mut [f64; 3]) -> i64;
+        pub fn zibrotka_su2_params(g_squared: f64, params: *mut [f64; 3]) -> i64;
+        pub fn zibrotka_build_hamiltonian(
+            sheet: *const u8,
+            sheet_len: usize,
+            g_squared: f64,
+            electric: f64,
+            magnetic: f64,
+            given: bool,
+            weights: *const f64,
+            weights_len: usize,
+            states: *mut i32,
+            states_len: usize,
+            result: *mut f64,
+            result_len: usize,
+        ) -> i64;
+        pub fn zibrotka_build_su2_hamiltonian(
+            sheet: *const u8,
+            sheet_len: usize,
+            g_squared: f64,
+            electric: f64,
+            magnetic: f64,
+            given: bool,
+            weights: *const f64,
+            weights_len: usize,
+            states: *mut u64,
+            states_len: usize,
+            result: *mut f64,
+            result_len: usize,
+        ) -> i64;
     }
 }
 
@@ -209,4 +239,68 @@ pub fn apply_triangle_shift(sheet: &[u8], triangle: u64, state: u64, states: &mu
 /// Every set of edges that is even at each vertex, as a mask, ascending; answers the number of masks.
 pub fn su2_basis(sheet: &[u8], states: &mut [u64]) -> i64 {
     unsafe { raw::zibrotka_su2_basis(sheet.as_ptr(), sheet.len(), states.as_mut_ptr(), states.len()) }
+}
+
+/// The coupling with its electric and its magnetic factor for U(1); answers 0.
+pub fn u1_params(g_squared: f64, params: &mut [f64; 3]) -> i64 {
+    unsafe { raw::zibrotka_u1_params(g_squared, params) }
+}
+
+/// The same for the two-valued truncation.
+pub fn su2_params(g_squared: f64, params: &mut [f64; 3]) -> i64 {
+    unsafe { raw::zibrotka_su2_params(g_squared, params) }
+}
+
+/// The dense matrix, row by row, of a coupling with its two factors; the work list gets the basis. Answers the number of states.
+pub fn build_hamiltonian(
+    sheet: &[u8],
+    [g_squared, electric, magnetic]: [f64; 3],
+    given: bool,
+    weights: &[f64],
+    states: &mut [i32],
+    result: &mut [f64],
+) -> i64 {
+    unsafe {
+        raw::zibrotka_build_hamiltonian(
+            sheet.as_ptr(),
+            sheet.len(),
+            g_squared,
+            electric,
+            magnetic,
+            given,
+            weights.as_ptr(),
+            weights.len(),
+            states.as_mut_ptr(),
+            states.len(),
+            result.as_mut_ptr(),
+            result.len(),
+        )
+    }
+}
+
+/// The same for the two-valued truncation, over masks.
+pub fn build_su2_hamiltonian(
+    sheet: &[u8],
+    [g_squared, electric, magnetic]: [f64; 3],
+    given: bool,
+    weights: &[f64],
+    states: &mut [u64],
+    result: &mut [f64],
+) -> i64 {
+    unsafe {
+        raw::zibrotka_build_su2_hamiltonian(
+            sheet.as_ptr(),
+            sheet.len(),
+            g_squared,
+            electric,
+            magnetic,
+            given,
+            weights.as_ptr(),
+            weights.len(),
+            states.as_mut_ptr(),
+            states.len(),
+            result.as_mut_ptr(),
+            result.len(),
+        )
+    }
 }
