@@ -27,7 +27,7 @@ use Rattle.gauss_law.proofs.Accepted.{accepted-tree, listing-complete}
 use Rattle.walker.specs.Enumeration.{states}
 use Rattle.hilbert.specs.Basis.{within, in-basis, decided, smaller, comes-before, place, At}
 use Rattle.hilbert.specs.Search.{row, Ranked}
-use Rattle.hilbert.proofs.Searching.{decided-less}
+use Rattle.hilbert.proofs.Searching.{decided-less, decided-equal}
 
 -- ---- one value
 less-true : (x y : ℤ) → x <ℤ y → ltZ x y ≡ true
@@ -37,10 +37,6 @@ module _ (b : Bool) (x y : ℤ) where
   decided-greater : y <ℤ x → decided b x y ≡ false
   unfolding decided
   decided-greater h = rw (not-less-test x y (omega (arith, less-to-parts y x h)), less-true y x h)
-
-  decided-equal : x ≡ y → decided b x y ≡ b
-  unfolding decided
-  decided-equal h = rw (h, not-less-test y y (omega arith))
 
   -- x is the smaller, or they are equal and it is decided already
   decided-true : decided b x y ≡ true → (x <ℤ y) ⊎ ((x ≡ y) × (b ≡ true))

@@ -1,57 +1,49 @@
 -- The search as the code goes: one value decides, one free edge more, a row of the list.
-use Prim.Native.Nat.{ℕ, _+_, _*_, _-_, _^_, _<_, _≤_}
+use Prim.Native.Nat.{ℕ, suc, _+_, _*_, _-_, _^_, _<_, _≤_}
 use mathlib.Core.List.{List}
-use mathlib.Core.Bool.{Bool, true, false, not, _&&_, cond}
-use mathlib.Core.Path.{_≡_, refl}
+use mathlib.Core.Bool.{Bool, true, false, cond}
+use mathlib.Core.Path.{_≡_, refl, sym, ap, _∙_}
+use mathlib.Core.Logic.{_≢_}
 use native.Mathlib.Nat.{mul-le-mul, mul-le-mul-right}
-use native.Mathlib.Numerals.{add-one}
 use native.Mathlib.Omega.{arith}
-use lib.Dec.{ltb, leb}
-use lib.IntN.{ℤ, pos, negsuc}
-use lib.Signed.{ltZ, leZ}
+use lib.IntN.{ℤ, pos}
+use lib.Signed.{ltZ}
 use lib.ListN.{getD, length, take, drop, length-take, length-drop}
-use borrow.Author.Tests.{ltb-true, ltb-false, le-leb, lt-leb}
+use Rattle.mathematics.proofs.Integers.{by-parts, not-less-test, test-not-less}
 use Rattle.hilbert.specs.Basis.{decided, smaller}
 use Rattle.hilbert.specs.Search.{row, Rows}
 
 -- ---- one value decides
-not-above-number : (a b : ℕ) → leb a b ≡ not (ltb b a)
-not-above-number a b = go (ltb b a) refl
-  where
-    go : (t : Bool) → ltb b a ≡ t → leb a b ≡ not t
-    go true h = lt-leb a b (ltb-true b a h)
-    go false h = le-leb a b (ltb-false b a h)
-
-not-above : (x y : ℤ) → leZ x y ≡ not (ltZ y x)
-not-above (pos a) (pos b) = not-above-number a b
-not-above (pos a) (negsuc b) = refl
-not-above (negsuc a) (pos b) = refl
-not-above (negsuc a) (negsuc b) = not-above-number b a
-
 module _ (b : Bool) (x y : ℤ) where
   pub decided-less : ltZ x y ≡ true → decided b x y ≡ true
   unfolding decided
   decided-less h = rw h
 
-  pub decided-else : ltZ x y ≡ false → decided b x y ≡ (b && leZ x y)
+  pub decided-equal : x ≡ y → decided b x y ≡ b
   unfolding decided
-  decided-else h = rw (h, not-above x y) (go b (ltZ y x))
+  decided-equal h = rw (h, not-less-test y y (omega arith))
+
+  decided-apart : x ≢ y → decided b x y ≡ ltZ x y
+  unfolding decided
+  decided-apart d = go (ltZ x y) (ltZ y x) refl refl
     where
-      go : (b t : Bool) → cond t false b ≡ (b && not t)
-      go true true = refl
-      go true false = refl
-      go false true = refl
-      go false false = refl
+      go : (p q : Bool) → ltZ x y ≡ p → ltZ y x ≡ q → cond p true (cond q false b) ≡ p
+      go true q e f = refl
+      go false true e f = refl
+      go false false e f = absurd (d (by-parts x y (omega (arith, test-not-less x y e, test-not-less y x f))))
 
--- ---- one free edge more
-pub smaller-none : (free : List ℕ) (s t : List ℤ) → smaller free s t 0 ≡ false
-unfolding smaller
-smaller-none free s t = refl
+-- ---- the last of the first j free edges
+module _ (free : List ℕ) (s t : List ℤ) (j : ℕ) (some : 0 < j) (e : ℕ) (is : e ≡ getD free (j - 1) 0) where
+  last-decides : smaller free s t j ≡ decided (smaller free s t (j - 1)) (getD s e (pos 0)) (getD t e (pos 0))
+  unfolding smaller
+  last-decides = let one-less : j ≡ suc (j - 1) = omega arith in ap (smaller free s t) one-less ∙ rw (is)
 
-pub smaller-next : (free : List ℕ) (s t : List ℤ) (n : ℕ)
-    → smaller free s t (n + 1) ≡ decided (smaller free s t n) (getD s (getD free n 0) (pos 0)) (getD t (getD free n 0) (pos 0))
-unfolding smaller
-smaller-next free s t n = rw (add-one n)
+  -- where the values differ, the smaller decides; where they are equal, it is decided below
+  pub smaller-differs : getD s e (pos 0) ≢ getD t e (pos 0) → ltZ (getD s e (pos 0)) (getD t e (pos 0)) ≡ smaller free s t j
+  smaller-differs d = sym (last-decides ∙ decided-apart (smaller free s t (j - 1)) (getD s e (pos 0)) (getD t e (pos 0)) d)
+
+  pub smaller-equals : getD s e (pos 0) ≡ getD t e (pos 0) → smaller free s t j ≡ smaller free s t (j - 1)
+  smaller-equals same = last-decides ∙ decided-equal (smaller free s t (j - 1)) (getD s e (pos 0)) (getD t e (pos 0)) same
 
 -- ---- a row of the list
 module _ (list : List ℤ) (n : ℕ) (config : List ℤ) (free : List ℕ) (n-free : ℕ) (rows : Rows list n config free n-free) (i : ℕ) (inside : i < n) where

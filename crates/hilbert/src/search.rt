@@ -4,30 +4,25 @@ ghost use mathlib.Core.Path.{_≡_};
 ghost use Prim.Native.Nat.{ℕ, _≤_};
 ghost use lib.ListN.{length};
 ghost use Rattle.walker.specs.Steps.{FreeFit};
-ghost use Rattle.hilbert.specs.Basis.{decided, smaller};
+ghost use Rattle.hilbert.specs.Basis.{smaller};
 ghost use Rattle.hilbert.specs.Search.{Rows, Ranked};
 
-// The smaller of two values decides; where they are equal, it is decided already.
-fn decide(before: bool, x: i32, y: i32) -> bool
-    ensures { λ r. ⌜ r ≡ decided before x y ⌝ }
-{
-    if x < y {
-        return true;
-    }
-    before & (x <= y)
-}
-
-// Whether a row has the smaller value on the last free edge where it differs from a configuration.
+// Whether a row has the smaller value on the last free edge where it differs from a configuration: from the last free edge down.
 fn row_before(row: &[i32], config: &[i32], free: &[u8; 63], n_free: usize) -> bool
     requires { ⌜ (length (now row) ≡ length (now config)) × (length (now config) ≤ 63) × («n_free» ≤ 63) × FreeFit (length (now config)) «n_free» (now free) ⌝ }
     ensures { λ r. ⌜ r ≡ smaller (now (free .entry)) (now (row .entry)) (now (config .entry)) «n_free» ⌝ }
 {
-    let mut before = false;
-    for j in 0..n_free {
+    let mut j = n_free;
+    while 0 < j {
+        j -= 1;
         let e = byte(free[j]);
-        before = decide(before, row[e], config[e]);
+        let x = row[e];
+        let y = config[e];
+        if x != y {
+            return x < y;
+        }
     }
-    before
+    false
 }
 
 // How many of the first n rows come before a configuration, where they are in order: by halving.
