@@ -18,30 +18,28 @@ ghost use Rattle.gauss_law.specs.Shifts.{shifted};
 ghost use Rattle.hilbert.specs.Basis.{within};
 ghost use Rattle.hamiltonian.specs.Triangle.{Shiftable, TriangleTold};
 
-// A row with 1 or -1 added on one edge.
-fn moved_row(row: [i32; 63], edge: usize, by: i32) -> [i32; 63]
-    requires { ⌜ (length row ≡ 63) × (edge < 63) × (natAbs (getD row edge (pos 0) +ℤ by) ≤ 2 ^ 20) ⌝ }
-    ensures { λ r. ⌜ r ≡ shifted row edge by ⌝ }
+// 1 or -1 is added on one edge of a row.
+fn move_edge(row: &mut [i32; 63], edge: usize, by: i32)
+    requires { ⌜ (length (now row) ≡ 63) × (edge < 63) × (natAbs (getD (now row) edge (pos 0) +ℤ by) ≤ 2 ^ 20) ⌝ }
+    ensures { λ _. ⌜ now (row .exit) ≡ shifted (now (row .entry)) edge by ⌝ }
 {
-    let mut next = row;
-    next[edge] = sum(row[edge], by);
-    next
+    row[edge] = sum(row[edge], by);
 }
 
-// A row with 1, -1 and 1 added on three edges.
-pub fn shifted_row(row: [i32; 63], sides: Sides) -> [i32; 63]
-    requires { ⌜ Shiftable row sides ⌝ }
-    ensures { λ r. ⌜ r ≡ shifted (shifted (shifted row (sides .first) (pos 1)) (sides .second) (negsuc 0)) (sides .third) (pos 1) ⌝ }
+// 1, -1 and 1 are added on three edges of a row.
+pub fn shift_row(row: &mut [i32; 63], sides: Sides)
+    requires { ⌜ Shiftable (now row) sides ⌝ }
+    ensures { λ _. ⌜ now (row .exit) ≡ shifted (shifted (shifted (now (row .entry)) (sides .first) (pos 1)) (sides .second) (negsuc 0)) (sides .third) (pos 1) ⌝ }
 {
-    let first = moved_row(row, sides.first, 1);
-    let second = moved_row(first, sides.second, -1);
-    moved_row(second, sides.third, 1)
+    move_edge(row, sides.first, 1);
+    move_edge(row, sides.second, -1);
+    move_edge(row, sides.third, 1);
 }
 
 // Whether the values on three edges are within -lambda to lambda.
-pub fn three_within(row: [i32; 63], sides: Sides, lambda: usize) -> bool
-    requires { ⌜ (length row ≡ 63) × (lambda ≤ 1000) × (sides .first < 63) × (sides .second < 63) × (sides .third < 63) ⌝ }
-    ensures { λ r. ⌜ r ≡ (within lambda (getD row (sides .first) (pos 0)) && (within lambda (getD row (sides .second) (pos 0)) && within lambda (getD row (sides .third) (pos 0)))) ⌝ }
+pub fn three_within(row: &[i32; 63], sides: Sides, lambda: usize) -> bool
+    requires { ⌜ (length (now row) ≡ 63) × (lambda ≤ 1000) × (sides .first < 63) × (sides .second < 63) × (sides .third < 63) ⌝ }
+    ensures { λ r. ⌜ r ≡ (within lambda (getD (now (row .entry)) (sides .first) (pos 0)) && (within lambda (getD (now (row .entry)) (sides .second) (pos 0)) && within lambda (getD (now (row .entry)) (sides .third) (pos 0)))) ⌝ }
 {
     let i = sides.first;
     let j = sides.second;
@@ -81,8 +79,9 @@ pub fn apply_triangle_shift(
         return TriangleShift::Refused(15);
     }
     let sides = triangle_sides(c, triangle);
-    let row = shifted_row(state_at(w, lambda, blocks, state), sides);
-    if !three_within(row, sides, lambda) {
+    let mut row = state_at(w, lambda, blocks, state);
+    shift_row(&mut row, sides);
+    if !three_within(&row, sides, lambda) {
         return TriangleShift::Refused(16);
     }
     TriangleShift::Place(list_and_find(w, lambda, blocks, &row[0..m], states))

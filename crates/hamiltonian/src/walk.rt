@@ -1,7 +1,7 @@
 // The plaquettes of a triangle: one walk over the states finds all hits.
 use complex::triangle::Sides;
 use crate::matrix::add_entry;
-use crate::triangle::shifted_row;
+use crate::triangle::shift_row;
 use crate::triangle::three_within;
 use hilbert::search::advance;
 ghost use mathlib.Core.Path.{_≡_};
@@ -18,16 +18,14 @@ pub struct Sizes {
     pub lambda: usize,
 }
 
-// A state, and zeros after it.
-fn row_of(state: &[i32]) -> [i32; 63]
-    requires { ⌜ length (now state) ≤ 63 ⌝ }
-    ensures { λ r. ⌜ (length r ≡ 63) × (take (length (now (state .entry))) r ≡ now (state .entry)) ⌝ }
+// A state goes to the front of a row.
+fn copy_state(row: &mut [i32; 63], state: &[i32])
+    requires { ⌜ (length (now row) ≡ 63) × (length (now state) ≤ 63) ⌝ }
+    ensures { λ _. ⌜ (length (now (row .exit)) ≡ 63) × (take (length (now (state .entry))) (now (row .exit)) ≡ now (state .entry)) ⌝ }
 {
-    let mut row = [0i32; 63];
     for e in 0..state.len() {
         row[e] = state[e];
     }
-    row
 }
 
 // Where a triangle takes the state at a place, or the number of states. The target is not before a given place.
@@ -44,8 +42,10 @@ fn find_target(
 {
     let m = s.edges;
     let at = place * m;
-    let row = shifted_row(row_of(&list[at..at + m]), sides);
-    if !three_within(row, sides, s.lambda) {
+    let mut row = [0i32; 63];
+    copy_state(&mut row, &list[at..at + m]);
+    shift_row(&mut row, sides);
+    if !three_within(&row, sides, s.lambda) {
         return s.states;
     }
     advance(list, s.states, from, &row[0..m], free, s.free)

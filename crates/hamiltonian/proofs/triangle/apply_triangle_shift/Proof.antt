@@ -107,44 +107,45 @@ shiftable c =
     row-shiftable (complexOf (start .args .c)) (b .walks .accepted) (start .args .lambda) (start .args .triangle) (b .truncation) (there here .0) (c .before .triangle-sides .result) (c .before .triangle-sides .ensures)
     (c .state-at .result) _ (c .state-at .ensures .0) (front c) (state-there (complexOf (start .args .c)) (b .walks .accepted) (start .args .lambda) (start .args .state) (there here .1))
 
-shifted-row-requires : tie.Need-shifted-row-requires
-shifted-row-requires c κs = shiftable c
+shift-row-requires : tie.Need-shift-row-requires
+shift-row-requires c κs = shiftable (c .before)
 
 three-within-requires : tie.Need-three-within-requires
 three-within-requires c κs =
-    let ready = shiftable (c .before) in
-    (rw (c .shifted-row .ensures) (shifted-row-long _ _ ready), basis (judged (c .before .before .before .before)) .truncation, ready .first-below, ready .second-below, ready .third-below)
+    let made = c .before in
+    let ready = shiftable (made .before .before) in
+    (rw (made .shift-row .ensures) (shifted-row-long _ _ ready), basis (judged (made .before .before .before .before .before)) .truncation, ready .first-below, ready .second-below, ready .third-below)
 
-abbrev row-start : tie.After-shifted-row → tie.Start
-row-start c = at-start (c .before .before .before .before)
+abbrev row-start : tie.After-shift-row → tie.Start
+row-start c = at-start (c .before .before .before .before .before)
 
 -- the front of the shifted row is the shifted state
-shifted-front : (c : tie.After-shifted-row) → take (length (complexOf (row-start c .args .c) .edges)) (c .shifted-row .result) ≡ shifted-state (complexOf (row-start c .args .c)) (row-start c .args .lambda) (row-start c .args .triangle) (row-start c .args .state)
+shifted-front : (c : tie.After-shift-row) → take (length (complexOf (row-start c .args .c) .edges)) (c .shift-row .last .0) ≡ shifted-state (complexOf (row-start c .args .c)) (row-start c .args .lambda) (row-start c .args .triangle) (row-start c .args .state)
 unfolding shifted-state
 shifted-front c =
-    let here = c .before .before .before .before in
+    let here = c .before .before .before .before .before in
     let start = row-start c in
-    let three = c .before .before .triangle-sides in
+    let three = c .before .before .before .triangle-sides in
     let below = sides-below (complexOf (start .args .c)) (start .args .triangle) (three .result) (three .ensures) (basis (judged here) .walks .accepted) (there here .0) in
-    rw (c .shifted-row .ensures)
-    (front-shifted (complexOf (start .args .c)) (start .args .triangle) (three .result) (three .ensures) (c .before .state-at .result) _ (length (complexOf (start .args .c) .edges)) (below .0) (below .1) (below .2) (front (c .before)))
+    rw (c .shift-row .ensures)
+    (front-shifted (complexOf (start .args .c)) (start .args .triangle) (three .result) (three .ensures) (c .before .before .state-at .result) _ (length (complexOf (start .args .c) .edges)) (below .0) (below .1) (below .2) (front (c .before .before)))
 
 -- the test of the row is that of the state
-band-told : (c : tie.After-three-within) → sides-within (complexOf (row-start (c .before) .args .c)) (row-start (c .before) .args .lambda) (row-start (c .before) .args .triangle)
-    (shifted-state (complexOf (row-start (c .before) .args .c)) (row-start (c .before) .args .lambda) (row-start (c .before) .args .triangle) (row-start (c .before) .args .state))
+band-told : (c : tie.After-three-within) → sides-within (complexOf (row-start (c .before .before) .args .c)) (row-start (c .before .before) .args .lambda) (row-start (c .before .before) .args .triangle)
+    (shifted-state (complexOf (row-start (c .before .before) .args .c)) (row-start (c .before .before) .args .lambda) (row-start (c .before .before) .args .triangle) (row-start (c .before .before) .args .state))
     ≡ c .three-within .result
 band-told c =
-    let made = c .before in
-    let here = made .before .before .before .before in
+    let made = c .before .before in
+    let here = made .before .before .before .before .before in
     let start = row-start made in
-    let three = made .before .before .triangle-sides in
+    let three = made .before .before .before .triangle-sides in
     let below = sides-below (complexOf (start .args .c)) (start .args .triangle) (three .result) (three .ensures) (basis (judged here) .walks .accepted) (there here .0) in
-    three-told (complexOf (start .args .c)) (start .args .triangle) (three .result) (three .ensures) (start .args .lambda) (made .shifted-row .result) _ (length (complexOf (start .args .c) .edges)) (below .0) (below .1) (below .2) (shifted-front made)
+    three-told (complexOf (start .args .c)) (start .args .triangle) (three .result) (three .ensures) (start .args .lambda) (made .shift-row .last .0) _ (length (complexOf (start .args .c) .edges)) (below .0) (below .1) (below .2) (shifted-front made)
     ∙ sym (c .three-within .ensures)
 
 returns-4 : tie.Need-returns-4
 returns-4 c =
-    let enough = c .before .before .before .before .before in
+    let enough = c .before .before .before .before .before .before .before in
     let here = enough .before in
     band-refused _ _ _ _ _ (none (judged here)) (numbers here) (room enough) (band-told (c .before) ∙ not-true _ (c .if4 .taken))
 
@@ -156,20 +157,20 @@ part-list-and-find-start c = search needs
 
 part-list-and-find-end : tie.Need-part-list-and-find-end
 part-list-and-find-end c =
-    let made = c .before .before .before in
-    let few = edges-few (judged (made .before .before .before .before)) in
-    let long = three-within-requires made in
+    let made = c .before .before .before .before in
+    let few = edges-few (judged (made .before .before .before .before .before)) in
+    let long : length (made .shift-row .last .0) ≡ 63 = rw (made .shift-row .ensures) (shifted-row-long _ _ (shiftable (made .before .before))) in
     search needs
 
 -- the part that is sought
-part : (c : tie.After-shifted-row) → take (row-start c .args .c .«n_edges» - 0) (c .shifted-row .result) ≡ shifted-state (complexOf (row-start c .args .c)) (row-start c .args .lambda) (row-start c .args .triangle) (row-start c .args .state)
-part c = ap (λ n. take n (c .shifted-row .result)) (sub-zero (row-start c .args .c .«n_edges») ∙ sym (edges-long (row-start c .args .c))) ∙ shifted-front c
+part : (c : tie.After-shift-row) → take (row-start c .args .c .«n_edges» - 0) (c .shift-row .last .0) ≡ shifted-state (complexOf (row-start c .args .c)) (row-start c .args .lambda) (row-start c .args .triangle) (row-start c .args .state)
+part c = ap (λ n. take n (c .shift-row .last .0)) (sub-zero (row-start c .args .c .«n_edges») ∙ sym (edges-long (row-start c .args .c))) ∙ shifted-front c
 
 list-and-find-requires : tie.Need-list-and-find-requires
 list-and-find-requires c κs =
     let shown = c .before .before .before in
-    let made = shown .before .before in
-    let enough = made .before .before .before in
+    let made = shown .before .before .before in
+    let enough = made .before .before .before .before in
     let here = enough .before in
     let start = row-start made in
     let b = basis (judged here) in
@@ -182,8 +183,8 @@ same-length c = search needs
 returns-5 : tie.Need-returns-5
 returns-5 c =
     let shown = c .before .before .before .before .before in
-    let made = shown .before .before in
-    let enough = made .before .before .before in
+    let made = shown .before .before .before in
+    let enough = made .before .before .before .before in
     let here = enough .before in
     let b = basis (judged here) in
     let found = c .before .list-and-find .ensures _ b in
@@ -201,7 +202,7 @@ apply-triangle-shift-spec =
     returns-3
     triangle-sides-requires
     state-at-requires
-    shifted-row-requires
+    shift-row-requires
     three-within-requires
     returns-4
     sub-list-and-find

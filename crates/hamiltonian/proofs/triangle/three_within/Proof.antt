@@ -10,8 +10,8 @@ use Rattle.hamiltonian.proofs.triangle.three_within.Tie as tie
 mul-within : tie.Need-mul-within
 mul-within c = search needs
 
-array-copy-out-within : tie.Need-array-copy-out-within
-array-copy-out-within c = search needs
+element-copy-out-within : tie.Need-element-copy-out-within
+element-copy-out-within c = search needs
 
 within-requires : tie.Need-within-requires
 within-requires c κs = search needs
@@ -19,8 +19,8 @@ within-requires c κs = search needs
 mul-within-2 : tie.Need-mul-within-2
 mul-within-2 c = search needs
 
-array-copy-out-within-2 : tie.Need-array-copy-out-within-2
-array-copy-out-within-2 c = search needs
+element-copy-out-within-2 : tie.Need-element-copy-out-within-2
+element-copy-out-within-2 c = search needs
 
 within-requires-2 : tie.Need-within-requires-2
 within-requires-2 c κs = search needs
@@ -28,8 +28,8 @@ within-requires-2 c κs = search needs
 mul-within-3 : tie.Need-mul-within-3
 mul-within-3 c = search needs
 
-array-copy-out-within-3 : tie.Need-array-copy-out-within-3
-array-copy-out-within-3 c = search needs
+element-copy-out-within-3 : tie.Need-element-copy-out-within-3
+element-copy-out-within-3 c = search needs
 
 within-requires-3 : tie.Need-within-requires-3
 within-requires-3 c κs = search needs
@@ -53,12 +53,12 @@ three-within-spec =
     tie.close
     (tie.spec
     mul-within
-    array-copy-out-within
+    element-copy-out-within
     within-requires
     mul-within-2
-    array-copy-out-within-2
+    element-copy-out-within-2
     within-requires-2
     mul-within-3
-    array-copy-out-within-3
+    element-copy-out-within-3
     within-requires-3
     returns)

@@ -7,17 +7,17 @@ use lib.ListN.{length, take, getD, length-set}
 use lib.Seq.{take-suc, take-suc-set, take-length}
 use Rattle.mathematics.proofs.Signed.{back32}
 use borrow.Author.Needs.{needs}
-use Rattle.hamiltonian.proofs.walk.row_of.Statement.{statement}
-use Rattle.hamiltonian.proofs.walk.row_of.Tie as tie
+use Rattle.hamiltonian.proofs.walk.copy_state.Statement.{statement}
+use Rattle.hamiltonian.proofs.walk.copy_state.Tie as tie
 
 abbrev Inv-loop : tie.InvT-loop
-Inv-loop state row₀ e₀ e-end row e = (e ≤ length state) × (e-end ≡ length state) × (length row ≡ 63) × (take e row ≡ take e state)
+Inv-loop row₀ state e₀ e-end row e = (e ≤ length state) × (e-end ≡ length state) × (length row ≡ 63) × (take e row ≡ take e state)
 
 abbrev μ-loop : tie.MeasureT-loop
-μ-loop state row₀ e₀ e-end row e = length state - e
+μ-loop row₀ state e₀ e-end row e = length state - e
 
 loop-holds : tie.Need-loop-holds Inv-loop μ-loop
-loop-holds c = (omega arith, refl, refl, refl)
+loop-holds c = (omega arith, refl, c .pre .0, refl)
 
 mul-row : tie.Need-mul-row Inv-loop μ-loop
 mul-row c = search needs
@@ -25,11 +25,11 @@ mul-row c = search needs
 shared-slice-copy-out-row : tie.Need-shared-slice-copy-out-row Inv-loop μ-loop
 shared-slice-copy-out-row c = search needs
 
-mul-row-2 : tie.Need-mul-row-2 Inv-loop μ-loop
-mul-row-2 c = search needs
+mul-t9 : tie.Need-mul-t9 Inv-loop μ-loop
+mul-t9 c = search needs
 
-array-set-from-row : tie.Need-array-set-from-row Inv-loop μ-loop
-array-set-from-row c = omega (arith, c .before .before .before .pre)
+element-set-from-row : tie.Need-element-set-from-row Inv-loop μ-loop
+element-set-from-row c = omega (arith, c .before .before .before .pre .1)
 
 add-e : tie.Need-add-e Inv-loop μ-loop
 add-e c = search needs
@@ -45,7 +45,7 @@ loop-again c =
       omega arith,
       refl,
       simp length-set (at-loop .loop .inv .2),
-      rw (back32 _ (c .row .given), add-one e) (take-suc-set (at-loop .loop .row) e (getD s e (pos 0)) (omega (arith, at-loop .before .pre)) ∙ rw (at-loop .loop .inv .3) (sym (take-suc s e (pos 0) (omega arith)))),
+      rw (back32 _ (c .row .given), add-one e) (take-suc-set (at-loop .loop .row) e (getD s e (pos 0)) (omega (arith, at-loop .loop .inv .2, at-loop .before .pre .1)) ∙ rw (at-loop .loop .inv .3) (sym (take-suc s e (pos 0) (omega arith)))),
     )
 
 returns : tie.Need-returns Inv-loop μ-loop
@@ -54,8 +54,8 @@ returns c =
     let past : c .before .loop .e ≡ length s = omega arith in
     (c .before .loop .inv .2, (rw past at (c .before .loop .inv .3)) ∙ take-length s)
 
-pub row-of-spec : {M : Type 1} → statement M
-row-of-spec =
+pub copy-state-spec : {M : Type 1} → statement M
+copy-state-spec =
     tie.close
     (tie.spec
     Inv-loop
@@ -63,8 +63,8 @@ row-of-spec =
     loop-holds
     mul-row
     shared-slice-copy-out-row
-    mul-row-2
-    array-set-from-row
+    mul-t9
+    element-set-from-row
     add-e
     loop-less
     loop-again
