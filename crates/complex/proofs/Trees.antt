@@ -19,7 +19,7 @@ use Rattle.complex.specs.Search.{Search, touches, across, look, scan, se
 use Rattle.complex.specs.Tree.{searchOf, Fits, Searchable, Searched}
 use Rattle.complex.specs.declared.search.SpanningTree.{SpanningTree}
 use Rattle.complex.proofs.Simplices.{simplices-length, simplex-at}
-use Rattle.complex.proofs.Looks.{found, across-below, look-new, look-old, look-apart, scan-next, serve-filled, serve-past}
+use Rattle.complex.proofs.Looks.{found, across-below, look-new, look-old, look-apart, serve-filled, serve-past}
 use Rattle.complex.proofs.Searches.{connected-full}
 
 -- the record with vertex w, found by edge e
@@ -86,6 +86,15 @@ module _ (n : ℕ) (t : SpanningTree) (fits : Fits n t) where
             stands = grown-stands;
           }
 
+-- what the code's test of edge e says
+pub touches-at : (edges : List ℕ) (m e v : ℕ) (r b : Bool) → e < m → r ≡ touches (entries edges (2 * e) 2) v → r ≡ b → touches (getD (simplices 2 edges m) e []) v ≡ b
+touches-at edges m e v r b inside p q = rw (simplex-at 2 edges m e inside) (sym p ∙ q)
+
+-- an edge that does not touch v is passed over
+pub look-passed : (edges : List ℕ) (n m : ℕ) (t : SpanningTree) → Fits n t → (v e : ℕ) → touches (getD (simplices 2 edges m) e []) v ≡ false → Searched n t (look (simplices 2 edges m) v (searchOf t) e)
+look-passed edges n m t fits v e apart =
+    record { fits = fits; stands = sym (look-apart (simplices 2 edges m) v (searchOf t) e apart) }
+
 -- edge e is looked at from v, with w across
 module _ (edges : List ℕ) (n m : ℕ) (ok : Searchable edges n m) (t : SpanningTree) (fits : Fits n t) (v e w : ℕ) (inside : e < m) (is : w ≡ across (entries edges (2 * e) 2) v) where
   same-across : across (getD (simplices 2 edges m) e []) v ≡ w
@@ -111,16 +120,6 @@ module _ (edges : List ℕ) (n m : ℕ) (ok : Searchable edges n m) (t : Spannin
     look-grown touch =
         rw (look-new (simplices 2 edges m) v (searchOf t) e touch (rw same-across new), same-across)
         (grown-searched n t fits w look-inside new e (ok .vertices-fit))
-
--- what the code's test of edge e says
-pub touches-at : (edges : List ℕ) (m e v : ℕ) (r b : Bool) → e < m → r ≡ touches (entries edges (2 * e) 2) v → r ≡ b → touches (getD (simplices 2 edges m) e []) v ≡ b
-touches-at edges m e v r b inside p q = rw (simplex-at 2 edges m e inside) (sym p ∙ q)
-
--- an edge that does not touch v is passed over
-pub scan-passed : (edges : List ℕ) (n m v : ℕ) (s : Search) (t : SpanningTree) (e : ℕ) → touches (getD (simplices 2 edges m) e []) v ≡ false → Searched n t (scan (simplices 2 edges m) v s e) → Searched n t (scan (simplices 2 edges m) v s (e + 1))
-scan-passed edges n m v s t e apart h =
-    let es = simplices 2 edges m in
-    rw (scan-next es v s e, look-apart es v (scan es v s e) e apart) h
 
 module _ (edges : List ℕ) (n m : ℕ) (t : SpanningTree) (fits : Fits n t) (h : ℕ) where
   pub serve-none : t .found < h → Searched n t (serve (simplices 2 edges m) (searchOf t) h)

@@ -11,6 +11,10 @@ use Rattle.complex.specs.Complex.{simplices}
 use Rattle.complex.specs.Search.{Search, Ends}
 use Rattle.complex.specs.declared.search.SpanningTree.{SpanningTree}
 
+-- the record of the arrays and the number found
+abbrev pub treeOf : List ℕ → List ℕ → List ℕ → ℕ → SpanningTree
+treeOf queue tree visited found = record { queue = queue; found = found; «tree_edges» = tree; visited = visited }
+
 -- the search that a record stands for
 unfoldable pub searchOf : SpanningTree → Search
 searchOf t = record { seen = take (t .found + 1) (t .queue); tree = take (t .found) (t .«tree_edges») }

@@ -1,13 +1,10 @@
 // The breadth-first search from vertex 0 over a flat list of edges.
 use crate::judge::byte;
 ghost use mathlib.Core.Path.{_≡_};
-ghost use mathlib.Core.Bool.{Bool, true};
-ghost use mathlib.Core.List.{List, [], _∷_};
-ghost use Prim.Native.Nat.{ℕ, _+_, _*_, _<_, _≤_};
-ghost use lib.ListN.{getD};
+ghost use Prim.Native.Nat.{_*_, _<_};
 ghost use Rattle.complex.specs.Complex.{entries, simplices};
 ghost use Rattle.complex.specs.Search.{touches, across, look, scan, serve, search, connected};
-ghost use Rattle.complex.specs.Tree.{searchOf, Searchable, Fits, Searched};
+ghost use Rattle.complex.specs.Tree.{treeOf, searchOf, Searchable, Fits, Searched};
 
 // How far a search is: the found + 1 vertices seen stand first in the queue, tree_edges[i] led to queue[i + 1], and visited[v] is 1
 // where v was seen.
@@ -35,51 +32,65 @@ fn across(edges: &[u8; 126], v: u8, e: usize) -> u8
     if a == v { edges[2 * e + 1] } else { a }
 }
 
-// Edge e, which touches v, is looked at from v. The counts serve the contract alone.
+// Edge e is looked at from v: the number found. The counts serve the contract alone.
 fn look(
     edges: &[u8; 126],
     n_vertices: usize,
     n_edges: usize,
     v: u8,
-    s: SpanningTree,
     e: usize,
-) -> SpanningTree
-    requires { ⌜ Searchable (now edges) «n_vertices» «n_edges» × Fits «n_vertices» s × (e < «n_edges») × (touches (getD (simplices 2 (now edges) «n_edges») e []) v ≡ true) ⌝ }
-    ensures { λ r. ⌜ Searched «n_vertices» r (look (simplices 2 (now (edges .entry)) «n_edges») v (searchOf s) e) ⌝ }
+    queue: &mut [u8; 64],
+    tree_edges: &mut [u8; 63],
+    visited: &mut [u8; 64],
+    found: usize,
+) -> usize
+    requires { ⌜ Searchable (now edges) «n_vertices» «n_edges» × Fits «n_vertices» (treeOf (now queue) (now «tree_edges») (now visited) found) × (e < «n_edges») ⌝ }
+    ensures { λ r. ⌜ Searched «n_vertices» (treeOf (now (queue .exit)) (now («tree_edges» .exit)) (now (visited .exit)) r) (look (simplices 2 (now (edges .entry)) «n_edges») v (searchOf (treeOf (now (queue .entry)) (now («tree_edges» .entry)) (now (visited .entry)) found)) e) ⌝ }
 {
+    if !touches(edges, v, e) {
+        return found;
+    }
     let w = across(edges, v, e);
     let place = byte(w);
-    if s.visited[place] != 0 {
-        return s;
+    if visited[place] != 0 {
+        return found;
     }
-    let at = s.found;
-    let next = at + 1;
-    let mut t = s;
-    t.queue[next] = w;
-    t.found = next;
-    t.tree_edges[at] = e as u8;
-    t.visited[place] = 1;
-    t
+    let next = found + 1;
+    queue[next] = w;
+    tree_edges[found] = e as u8;
+    visited[place] = 1;
+    next
 }
 
-// All edges are looked at from v. Most do not touch it, and for those the record is not copied.
+// All edges are looked at from v.
 fn scan(
     edges: &[u8; 126],
     n_vertices: usize,
     n_edges: usize,
     v: u8,
-    s: SpanningTree,
-) -> SpanningTree
-    requires { ⌜ Searchable (now edges) «n_vertices» «n_edges» × Fits «n_vertices» s ⌝ }
-    ensures { λ r. ⌜ Searched «n_vertices» r (scan (simplices 2 (now (edges .entry)) «n_edges») v (searchOf s) «n_edges») ⌝ }
+    queue: &mut [u8; 64],
+    tree_edges: &mut [u8; 63],
+    visited: &mut [u8; 64],
+    found: usize,
+) -> usize
+    requires { ⌜ Searchable (now edges) «n_vertices» «n_edges» × Fits «n_vertices» (treeOf (now queue) (now «tree_edges») (now visited) found) ⌝ }
+    ensures { λ r. ⌜ Searched «n_vertices» (treeOf (now (queue .exit)) (now («tree_edges» .exit)) (now (visited .exit)) r) (scan (simplices 2 (now (edges .entry)) «n_edges») v (searchOf (treeOf (now (queue .entry)) (now («tree_edges» .entry)) (now (visited .entry)) found)) «n_edges») ⌝ }
 {
-    let mut t = s;
+    let mut so_far = found;
     for e in 0..n_edges {
-        if touches(edges, v, e) {
-            t = look(edges, n_vertices, n_edges, v, t, e);
-        }
+        so_far = look(
+            edges,
+            n_vertices,
+            n_edges,
+            v,
+            e,
+            queue,
+            tree_edges,
+            visited,
+            so_far,
+        );
     }
-    t
+    so_far
 }
 
 // The vertex at place h of the queue, if there is one, is served.
@@ -87,43 +98,59 @@ fn serve(
     edges: &[u8; 126],
     n_vertices: usize,
     n_edges: usize,
-    s: SpanningTree,
     h: usize,
-) -> SpanningTree
-    requires { ⌜ Searchable (now edges) «n_vertices» «n_edges» × Fits «n_vertices» s ⌝ }
-    ensures { λ r. ⌜ Searched «n_vertices» r (serve (simplices 2 (now (edges .entry)) «n_edges») (searchOf s) h) ⌝ }
+    queue: &mut [u8; 64],
+    tree_edges: &mut [u8; 63],
+    visited: &mut [u8; 64],
+    found: usize,
+) -> usize
+    requires { ⌜ Searchable (now edges) «n_vertices» «n_edges» × Fits «n_vertices» (treeOf (now queue) (now «tree_edges») (now visited) found) ⌝ }
+    ensures { λ r. ⌜ Searched «n_vertices» (treeOf (now (queue .exit)) (now («tree_edges» .exit)) (now (visited .exit)) r) (serve (simplices 2 (now (edges .entry)) «n_edges») (searchOf (treeOf (now (queue .entry)) (now («tree_edges» .entry)) (now (visited .entry)) found)) h) ⌝ }
 {
-    let found = s.found;
     if found < h {
-        return s;
+        return found;
     }
-    let v = s.queue[h];
-    scan(edges, n_vertices, n_edges, v, s)
+    let v = queue[h];
+    scan(
+        edges,
+        n_vertices,
+        n_edges,
+        v,
+        queue,
+        tree_edges,
+        visited,
+        found,
+    )
 }
 
-// Vertex 0 alone is seen.
-fn start() -> SpanningTree
-    ensures { λ r. ⌜ ((n : ℕ) → 1 ≤ n → Searched n r (record { seen = 0 ∷ []; tree = [] })) ⌝ }
-{
-    let mut t = SpanningTree {
-        queue: [0; 64],
-        found: 0,
-        tree_edges: [0; 63],
-        visited: [0; 64],
-    };
-    t.visited[0] = 1;
-    t
-}
-
+// The whole search: vertex 0 alone is seen at first.
 pub fn search(edges: &[u8; 126], n_vertices: usize, n_edges: usize) -> SpanningTree
     requires { ⌜ Searchable (now edges) «n_vertices» «n_edges» ⌝ }
     ensures { λ r. ⌜ Searched «n_vertices» r (search (simplices 2 (now (edges .entry)) «n_edges») «n_vertices») ⌝ }
 {
-    let mut t = start();
+    let mut queue = [0; 64];
+    let mut tree_edges = [0; 63];
+    let mut visited = [0; 64];
+    visited[0] = 1;
+    let mut found = 0;
     for h in 0..n_vertices {
-        t = serve(edges, n_vertices, n_edges, t, h);
+        found = serve(
+            edges,
+            n_vertices,
+            n_edges,
+            h,
+            &mut queue,
+            &mut tree_edges,
+            &mut visited,
+            found,
+        );
     }
-    t
+    SpanningTree {
+        queue: queue,
+        found: found,
+        tree_edges: tree_edges,
+        visited: visited,
+    }
 }
 
 // Whether every vertex is seen.

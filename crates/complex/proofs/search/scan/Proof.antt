@@ -1,33 +1,29 @@
-use Prim.Native.Nat.{_<_, _≤_, _-_}
+use Prim.Native.Nat.{_≤_, _-_}
 use mathlib.Core.Path.{_≡_, refl}
-use mathlib.Core.Logic.{⊎-elim}
 use native.Mathlib.Omega.{arith}
 use Rattle.complex.specs.Complex.{simplices}
 use Rattle.complex.specs.Search.{scan}
-use Rattle.complex.specs.Tree.{searchOf, Searched}
+use Rattle.complex.specs.Tree.{treeOf, searchOf, Searched}
 use Rattle.complex.proofs.Looks.{scan-next}
-use Rattle.complex.proofs.Trees.{touches-at, scan-passed}
 use Rattle.complex.proofs.search.scan.Statement.{statement}
 use Rattle.complex.proofs.search.scan.Tie as tie
 
 abbrev Inv-loop : tie.InvT-loop
-Inv-loop edges n-vertices n-edges v t₀ e₀ t e = (e ≤ n-edges) × Searched n-vertices t (scan (simplices 2 edges n-edges) v (searchOf t₀) e)
+Inv-loop edges n-vertices n-edges v queue₀ tree-edges₀ visited₀ found so-far₀ e₀ queue tree-edges visited so-far e =
+    (e ≤ n-edges) × Searched n-vertices (treeOf queue tree-edges visited so-far) (scan (simplices 2 edges n-edges) v (searchOf (treeOf queue₀ tree-edges₀ visited₀ found)) e)
 
 abbrev μ-loop : tie.MeasureT-loop
-μ-loop edges n-vertices n-edges v t₀ e₀ t e = n-edges - e
+μ-loop edges n-vertices n-edges v queue₀ tree-edges₀ visited₀ found so-far₀ e₀ queue tree-edges visited so-far e =
+    n-edges - e
 
 loop-holds : tie.Need-loop-holds Inv-loop μ-loop
 unfolding scan
 loop-holds c = (omega arith, record { fits = c .pre .1; stands = refl })
 
-touches-requires : tie.Need-touches-requires Inv-loop μ-loop
-touches-requires c κs = omega arith
-
 look-requires : tie.Need-look-requires Inv-loop μ-loop
 look-requires c κs =
-    let loop = c .before .before .before in
-    let inside : loop .loop .e < loop .before .args .n-edges = omega arith in
-    (loop .before .pre .0, loop .loop .inv .1 .fits, inside, touches-at _ _ _ _ _ _ inside (c .before .touches .ensures) (c .if1 .taken))
+    let at-loop = c .before .before .before .before in
+    (at-loop .before .pre .0, at-loop .loop .inv .1 .fits, omega arith)
 
 add-e : tie.Need-add-e Inv-loop μ-loop
 add-e c = omega arith
@@ -37,14 +33,8 @@ loop-less c = omega arith
 
 loop-again : tie.Need-loop-again Inv-loop μ-loop
 loop-again c =
-    let loop = c .before .before .before in
-    let inside : loop .loop .e < loop .before .args .n-edges = omega arith in (
-      omega arith,
-      ⊎-elim
-          (λ w. rw (w .2, scan-next, ← loop .loop .inv .1 .stands) (w .1 .ensures))
-          (λ w. rw (w .1) (scan-passed _ _ _ _ _ _ _ (touches-at _ _ _ _ _ _ inside (c .before .touches .ensures) (w .0 .left)) (loop .loop .inv .1)))
-          (c .if1 .came),
-    )
+    let at-loop = c .before .before .before .before .before in
+    (omega arith, rw (scan-next, ← at-loop .loop .inv .1 .stands) (c .look .ensures))
 
 returns : tie.Need-returns Inv-loop μ-loop
 returns c =
@@ -54,13 +44,4 @@ returns c =
 pub scan-spec : {M : Type 1} → statement M
 scan-spec =
     tie.close
-    (tie.spec
-    Inv-loop
-    μ-loop
-    loop-holds
-    touches-requires
-    look-requires
-    add-e
-    loop-less
-    loop-again
-    returns)
+    (tie.spec Inv-loop μ-loop loop-holds look-requires add-e loop-less loop-again returns)

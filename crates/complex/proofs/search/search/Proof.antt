@@ -4,26 +4,31 @@ use mathlib.Core.Path.{_≡_}
 use native.Mathlib.Omega.{arith}
 use Rattle.complex.specs.Complex.{simplices}
 use Rattle.complex.specs.Search.{served, search}
-use Rattle.complex.specs.Tree.{Searched}
+use Rattle.complex.specs.Tree.{treeOf, Searched}
 use Rattle.complex.proofs.Looks.{served-next}
+use Rattle.complex.proofs.Trees.{start-searched}
 use Rattle.complex.proofs.search.search.Statement.{statement}
 use Rattle.complex.proofs.search.search.Tie as tie
 
 abbrev Inv-loop : tie.InvT-loop
-Inv-loop edges n-vertices n-edges t₀ h₀ t h = (h ≤ n-vertices) × Searched n-vertices t (served (simplices 2 edges n-edges) (record { seen = 0 ∷ []; tree = [] }) h)
+Inv-loop edges n-vertices n-edges queue₀ tree-edges₀ visited₀ found₀ h₀ queue tree-edges visited found h =
+    (h ≤ n-vertices) × Searched n-vertices (treeOf queue tree-edges visited found) (served (simplices 2 edges n-edges) (record { seen = 0 ∷ []; tree = [] }) h)
 
 abbrev μ-loop : tie.MeasureT-loop
-μ-loop edges n-vertices n-edges t₀ h₀ t h = n-vertices - h
+μ-loop edges n-vertices n-edges queue₀ tree-edges₀ visited₀ found₀ h₀ queue tree-edges visited found h =
+    n-vertices - h
 
-start-requires : tie.Need-start-requires Inv-loop μ-loop
-start-requires c κs = tt
+array-write-visited : tie.Need-array-write-visited Inv-loop μ-loop
+array-write-visited c = omega arith
 
 loop-holds : tie.Need-loop-holds Inv-loop μ-loop
 unfolding served
-loop-holds c = (omega arith, c .start .ensures (c .before .args .n-vertices) (c .before .pre .some-vertex))
+loop-holds c = (omega arith, start-searched (c .args .n-vertices) (c .pre .some-vertex))
 
 serve-requires : tie.Need-serve-requires Inv-loop μ-loop
-serve-requires c κs = (c .before .before .before .pre, c .before .loop .inv .1 .fits)
+serve-requires c κs =
+    let at-loop = c .before .before .before .before in
+    (at-loop .before .pre, at-loop .loop .inv .1 .fits)
 
 add-h : tie.Need-add-h Inv-loop μ-loop
 add-h c = omega arith
@@ -32,12 +37,14 @@ loop-less : tie.Need-loop-less Inv-loop μ-loop
 loop-less c = omega arith
 
 loop-again : tie.Need-loop-again Inv-loop μ-loop
-loop-again c = (omega arith, rw (served-next, ← c .before .before .loop .inv .1 .stands) (c .serve .ensures))
+loop-again c =
+    let at-loop = c .before .before .before .before .before in
+    (omega arith, rw (served-next, ← at-loop .loop .inv .1 .stands) (c .serve .ensures))
 
 returns : tie.Need-returns Inv-loop μ-loop
 unfolding search
 returns c =
-    let past : c .before .loop .h ≡ c .before .before .before .args .n-vertices = omega arith in
+    let past : c .before .loop .h ≡ c .before .before .args .n-vertices = omega arith in
     rw past at (c .before .loop .inv .1)
 
 pub search-spec : {M : Type 1} → statement M
@@ -46,7 +53,7 @@ search-spec =
     (tie.spec
     Inv-loop
     μ-loop
-    start-requires
+    array-write-visited
     loop-holds
     serve-requires
     add-h

@@ -14,8 +14,8 @@ scan-requires c κs = search needs
 
 returns-2 : tie.Need-returns-2
 returns-2 c =
-    let start = c .before .before .before in
-    serve-scanned _ _ _ _ (start .pre .1) _ _ (c .before .before .if1 .left) (c .scan .ensures)
+    let start = c .before .before .before .before .before .before in
+    serve-scanned _ _ _ _ (start .pre .1) _ _ (c .before .before .before .before .before .if1 .left) (c .scan .ensures)
 
 pub serve-spec : {M : Type 1} → statement M
 serve-spec = tie.close (tie.spec returns element-copy-out-v scan-requires returns-2)
