@@ -76,8 +76,11 @@ module _ (c : Complex) (list : List ℤ) (s : Sizes) (free : List ℕ) (basis : 
     where
       go : (b : Bool) → sides-within c L t (shifted-state c L t k) ≡ b → target c L t i ≤ target c L t k
       go true e =
-          omega (arith, targets-rise c (basis .accepted) t (of .number) L i k _ _ less (there c list s free basis k below)
-          (target-at c list s free basis t three of i (omega arith) (band-of i (omega arith) hit)) (target-at c list s free basis t three of k below e))
+          omega (
+            arith,
+            targets-rise c (basis .accepted) t (of .number) L i k _ _ less (there c list s free basis k below)
+                (target-at c list s free basis t three of i (omega arith) (band-of i (omega arith) hit)) (target-at c list s free basis t three of k below e),
+          )
       go false e = omega (arith, target-none c list s free basis t three of k below e)
 
   module _ (x : Float) (old : List Float) where

@@ -1,8 +1,8 @@
 // The plaquettes of a triangle: one walk over the states finds all hits.
-use complex::triangle::Sides;
 use crate::matrix::add_entry;
 use crate::triangle::shift_row;
 use crate::triangle::three_within;
+use complex::triangle::Sides;
 use hilbert::search::advance;
 ghost use mathlib.Core.Path.{_≡_};
 ghost use Prim.Native.Nat.{ℕ, _*_, _^_, _<_, _≤_};
@@ -65,14 +65,7 @@ fn add_hit(h: &mut [f64], n: usize, i: usize, j: usize, from: usize, x: f64) -> 
 }
 
 // What the plaquette of a triangle adds is added to both entries of each hit.
-pub fn add_plaquette(
-    list: &[i32],
-    s: Sizes,
-    free: &[u8; 63],
-    sides: Sides,
-    x: f64,
-    h: &mut [f64],
-)
+pub fn add_plaquette(list: &[i32], s: Sizes, free: &[u8; 63], sides: Sides, x: f64, h: &mut [f64])
     requires { ⌜ Ready (now list) s (now free) sides × (s .states * s .states ≤ length (now h)) ⌝ }
     ensures { λ _. ⌜ ((c : Complex) (t : ℕ) → BasisList c (now (list .entry)) s (now (free .entry)) → SidesOf c t sides → PlaquetteAdded c (s .lambda) t (s .states) x (now (h .entry)) (now (h .exit))) ⌝ }
 {

@@ -89,7 +89,7 @@ three-within-requires c κs =
     (rw (made .shift-row .ensures) (shifted-row-long _ _ ready), start made .pre .0 .basis .truncation, ready .first-below, ready .second-below, ready .third-below)
 
 returns : tie.Need-returns
-returns c complex t basis of h =     target-none complex _ _ _ basis t _ of _ (start (c .before .before .before) .pre .1) (band-told (c .before) complex t basis of ∙ not-true _ (c .if1 .taken))
+returns c complex t basis of h = target-none complex _ _ _ basis t _ of _ (start (c .before .before .before) .pre .1) (band-told (c .before) complex t basis of ∙ not-true _ (c .if1 .taken))
 
 sub-advance : tie.Need-sub-advance
 sub-advance c = search needs
