@@ -13,7 +13,7 @@ use Rattle.walker.specs.Walker.{rows}
 use Rattle.walker.specs.Steps.{Small}
 use Rattle.walker.specs.Blocks.{Spans}
 use Rattle.walker.proofs.BlockValues.{row-small}
-use Rattle.walker.proofs.Puts.{rows-more, rows-length}
+use Rattle.walker.proofs.BlockRows.{rows-more, rows-length}
 use Rattle.basis.specs.Printing.{Printed, Printable}
 use Rattle.basis.proofs.Prints.{printed-none, printed-both}
 

@@ -9,10 +9,12 @@ use Rattle.mathematics.specs.Tests.{all, every}
 use Rattle.mathematics.specs.Refusals.{first, outcome}
 use Rattle.mathematics.specs.Bits.{bit}
 use Rattle.mathematics.specs.Counting.{below, keep, counted}
-use Rattle.mathematics.proofs.Ordered.{Each, none, also}
+use Rattle.mathematics.specs.Entries.{Each, none, also}
+use Rattle.complex.specs.Complex.{entries, simplices, complexOf}
 use Rattle.complex.specs.Search.{search, served, serve, scan, look, touches, across, connected}
 use Rattle.complex.specs.Sides.{sides}
-use Rattle.complex.specs.Judge.{counts-right, rising, simplices-right, sides-listed, triangles-right, refusal}
+use Rattle.complex.specs.Judge.{counts-right, rising, simplices-right, sides-listed, triangles-right}
+use Rattle.sheet.specs.Sheet.{word, padded, sheetIn, header-tests, reading-refusal}
 use Rattle.gauss_law.specs.Gauss.{flow, gauss, lawful}
 use Rattle.gauss_law.specs.Listing.{tree-edges, free-edges, values, placed, listing}
 use Rattle.gauss_law.specs.Shifts.{raised, shifted, side, triangle-shift}
@@ -30,9 +32,9 @@ use Rattle.lines.specs.Printed.{printed}
 use Rattle.cases.specs.Cases.{Holds, eighths, triangle, one-vertex, tetrahedron, table}
 
 pub cases : Each Holds table
-unfolding eighths dense rows flatten entry electric-entry hits plaquette-term weight squares u1-params su2-params whole add mul div neg ofInt su2-dense su2-entry su2-electric-entry flips triangle-mask ones mask-place su2-states even meeting chosen bit triangleOutcome triangle-refusal shifted-state sides-within place-of comes-before smaller decided within triangle-shift shifted raised side sides states short outcome table triangle one-vertex tetrahedron refusal first counts-right rising simplices-right sides-listed triangles-right same listed place distinct choose all every search served serve scan look touches across connected tree-edges free-edges below keep counted values placed listing lawful gauss flow equal flatMap printed stateLines firstLine countsText named stateLine valuesText valueText signedText digits last-digits ascii
+unfolding reading-refusal header-tests sheetIn word padded complexOf simplices entries eighths dense rows flatten entry electric-entry hits plaquette-term weight squares u1-params su2-params whole add mul div neg ofInt su2-dense su2-entry su2-electric-entry flips triangle-mask ones mask-place su2-states even meeting chosen bit triangleOutcome triangle-refusal shifted-state sides-within place-of comes-before smaller decided within triangle-shift shifted raised side sides states short outcome table triangle one-vertex tetrahedron first counts-right rising simplices-right sides-listed triangles-right same listed place distinct choose all every search served serve scan look touches across connected tree-edges free-edges below keep counted values placed listing lawful gauss flow equal flatMap printed stateLines firstLine countsText named stateLine valuesText valueText signedText digits last-digits ascii
 cases =
-    also (record { accepted = refl; tree = refl; free = refl; basis = refl; shifts = also refl (also refl none); masks = refl; matrices = also (refl, refl) none })
-    (also (record { accepted = refl; tree = refl; free = refl; basis = refl; shifts = also refl none; masks = refl; matrices = also (refl, refl) none })
-    (also (record { accepted = refl; tree = refl; free = refl; basis = refl; shifts = none; masks = refl; matrices = also (refl, refl) none })
-    (also (record { accepted = refl; tree = refl; free = refl; basis = refl; shifts = also refl (also refl none); masks = refl; matrices = none }) none)))
+    also (record { accepted = refl; complex = refl; truncation = refl; tree = refl; free = refl; basis = refl; shifts = also refl (also refl none); masks = refl; matrices = also (refl, refl) none })
+    (also (record { accepted = refl; complex = refl; truncation = refl; tree = refl; free = refl; basis = refl; shifts = also refl none; masks = refl; matrices = also (refl, refl) none })
+    (also (record { accepted = refl; complex = refl; truncation = refl; tree = refl; free = refl; basis = refl; shifts = none; masks = refl; matrices = also (refl, refl) none })
+    (also (record { accepted = refl; complex = refl; truncation = refl; tree = refl; free = refl; basis = refl; shifts = also refl (also refl none); masks = refl; matrices = none }) none)))

@@ -8,9 +8,9 @@ use lib.IntN.{ℤ, pos}
 use lib.Ieee.{Float, binary64, neg, div}
 use lib.ListN.{length}
 use Rattle.mathematics.specs.Refusals.{Outcome, value, refused}
-use Rattle.mathematics.proofs.Ordered.{Each}
-use Rattle.complex.specs.Complex.{Complex}
-use Rattle.complex.specs.Judge.{refusal}
+use Rattle.mathematics.specs.Entries.{Each}
+use Rattle.complex.specs.Complex.{Complex, complexOf}
+use Rattle.sheet.specs.Sheet.{sheetIn, reading-refusal}
 use Rattle.gauss_law.specs.Listing.{tree-edges, free-edges}
 use Rattle.hamiltonian.specs.Coupling.{whole, u1-params, su2-params}
 use Rattle.hamiltonian.specs.Weights.{weight}
@@ -38,8 +38,9 @@ pub record Matrices : Type 0 where
   pub u1 : List Float
   pub su2 : List Float
 
--- a complex and a truncation, with the values that are expected of them
+-- the bytes of a sheet, the complex and truncation that it holds, and the values that are expected of them
 pub record Case : Type 0 where
+  pub bytes : List ℕ
   pub complex : Complex
   pub truncation : ℕ
   pub tree : List ℕ
@@ -49,10 +50,12 @@ pub record Case : Type 0 where
   pub masks : List ℕ
   pub matrices : List Matrices
 
--- what is claimed of a case: it is accepted, and its tree, its free edges, its printed basis, its shifts, its two-valued basis and its dense
+-- what is claimed of a case: its sheet is read as it should be, and its tree, its free edges, its printed basis, its shifts, its two-valued basis and its dense
 -- matrices are the expected ones
 pub record Holds (k : Case) : Type 0 where
-  pub accepted : refusal (k .complex) ≡ 0
+  pub accepted : reading-refusal (k .bytes) ≡ 0
+  pub complex : complexOf (sheetIn (k .bytes) .complex) ≡ k .complex
+  pub truncation : sheetIn (k .bytes) .lambda ≡ k .truncation
   pub tree : tree-edges (k .complex) ≡ k .tree
   pub free : free-edges (k .complex) ≡ k .free
   pub basis : printed (k .complex) (k .truncation) ≡ ascii (k .text)
@@ -79,6 +82,7 @@ tetrahedron =
 unfoldable pub table : List Case
 table =
     record {
+      bytes = 71 ∷ 76 ∷ 83 ∷ 1 ∷ 0 ∷ 3 ∷ 3 ∷ 1 ∷ 0 ∷ 1 ∷ 0 ∷ 0 ∷ 1 ∷ 0 ∷ 2 ∷ 1 ∷ 2 ∷ 0 ∷ 1 ∷ 2 ∷ [];
       complex = triangle;
       truncation = 1;
       tree = 0 ∷ 1 ∷ [];
@@ -99,6 +103,7 @@ table =
           ∷ [];
     }
     ∷ record {
+      bytes = 71 ∷ 76 ∷ 83 ∷ 1 ∷ 0 ∷ 3 ∷ 3 ∷ 1 ∷ 0 ∷ 0 ∷ 0 ∷ 0 ∷ 1 ∷ 0 ∷ 2 ∷ 1 ∷ 2 ∷ 0 ∷ 1 ∷ 2 ∷ [];
       complex = triangle;
       truncation = 0;
       tree = 0 ∷ 1 ∷ [];
@@ -109,6 +114,7 @@ table =
       matrices = record { coupling = 1; u1 = eighths 0 ∷ []; su2 = eighths 0 ∷ neg (eighths 4) ∷ neg (eighths 4) ∷ eighths 9 ∷ [] } ∷ [];
     }
     ∷ record {
+      bytes = 71 ∷ 76 ∷ 83 ∷ 1 ∷ 0 ∷ 1 ∷ 0 ∷ 0 ∷ 0 ∷ 1 ∷ 0 ∷ [];
       complex = one-vertex;
       truncation = 1;
       tree = [];
@@ -119,6 +125,7 @@ table =
       matrices = record { coupling = 1; u1 = eighths 0 ∷ []; su2 = eighths 0 ∷ [] } ∷ [];
     }
     ∷ record {
+      bytes = 71 ∷ 76 ∷ 83 ∷ 1 ∷ 0 ∷ 4 ∷ 6 ∷ 4 ∷ 0 ∷ 1 ∷ 0 ∷ 0 ∷ 1 ∷ 0 ∷ 2 ∷ 0 ∷ 3 ∷ 1 ∷ 2 ∷ 1 ∷ 3 ∷ 2 ∷ 3 ∷ 0 ∷ 1 ∷ 2 ∷ 0 ∷ 1 ∷ 3 ∷ 0 ∷ 2 ∷ 3 ∷ 1 ∷ 2 ∷ 3 ∷ [];
       complex = tetrahedron;
       truncation = 1;
       tree = 0 ∷ 1 ∷ 2 ∷ [];

@@ -14,7 +14,7 @@ use Rattle.mathematics.specs.Tests.{all}
 use Rattle.mathematics.proofs.Tests.{and-parts, and-both, at-all, all-last}
 use Rattle.mathematics.proofs.Lists.{numbers-equal, lists-equal, listed-map, place-map, firsts-map, notedAll-last, notedAll-length, distinct-firsts, firsts-distinct}
 use Rattle.complex.specs.Complex.{Simplex, start, end, entries, simplices}
-use Rattle.complex.specs.Numbering.{number, Numbered, key, Indexed}
+use Rattle.complex.specs.Numbering.{number, Numbered, key, EdgeTable}
 use Rattle.complex.proofs.Simplices.{entries-length, simplices-length, simplex-at, start-at, end-at}
 
 -- one simplex more
@@ -102,7 +102,7 @@ module _ (l : List ℕ) (m : ℕ) (few : m ≤ 63) (below : (e : ℕ) → e < m 
   edges-counted =
       count-within 63 table keys count (map key (simplices 2 l m)) keys-few n ∙ ap length keys-firsts ∙ length-map (firsts same (simplices 2 l m)) key
 
-  pub edges-indexed : count ≡ m → Indexed table (simplices 2 l m)
+  pub edges-indexed : count ≡ m → EdgeTable table (simplices 2 l m)
   unfolding firsts
   edges-indexed full =
       let es = simplices 2 l m in

@@ -17,7 +17,7 @@ use Rattle.complex.specs.Complex.{Simplex, start, end, entries, simplice
 use Rattle.complex.specs.Search.{connected}
 use Rattle.complex.specs.Tree.{Searchable}
 use Rattle.complex.specs.Judge.{counts-right, rising, simplices-right, sides-listed, triangles-right, refusal, truncated-tests}
-use Rattle.complex.specs.Numbering.{triangle-key, Keyed, Indexed, Judged}
+use Rattle.complex.specs.Numbering.{triangle-key, Keyed, EdgeTable, Judged}
 use Rattle.complex.proofs.Simplices.{entries-length, simplices-length, simplex-at, start-at, end-at}
 use Rattle.complex.proofs.Triangles.{fitting, fitting-keyed, triangles-counted}
 use Rattle.complex.proofs.Accepting.{Counts, counts, Passed, passed, simplices-sized, rising-ends}
@@ -76,7 +76,7 @@ module _ (c : SimplicialComplex) (table : List ℕ) where
           falls true false b h = refl
           falls false d b h = refl
 
-      module _ (fit : all (λ s. rising (c .«n_vertices») s && sides-listed (edges-of c) s) (triangles-of c) ≡ true) (index : Indexed table (edges-of c)) where
+      module _ (fit : all (λ s. rising (c .«n_vertices») s && sides-listed (edges-of c) s) (triangles-of c) ≡ true) (index : EdgeTable table (edges-of c)) where
         fit-parts : (all (rising (c .«n_vertices»)) (triangles-of c) ≡ true) × (all (sides-listed (edges-of c)) (triangles-of c) ≡ true)
         fit-parts =
             and-parts (all (rising (c .«n_vertices»)) (triangles-of c)) (all (sides-listed (edges-of c)) (triangles-of c))

@@ -13,7 +13,7 @@ use Rattle.mathematics.proofs.Refusals.{refused-outcome}
 use Rattle.complex.specs.declared.SimplicialComplex.{SimplicialComplex}
 use Rattle.complex.specs.Complex.{Simplex, start, end, entries, simplices, complexOf}
 use Rattle.complex.specs.Judge.{refusal}
-use Rattle.complex.specs.Numbering.{number, Indexed}
+use Rattle.complex.specs.Numbering.{number, EdgeTable}
 use Rattle.complex.specs.Sides.{sides, sides-refusal, sidesOutcome, Sided, sidesIn}
 use Rattle.complex.proofs.Simplices.{simplices-length, simplex-at}
 use Rattle.complex.proofs.Triangles.{Fitting, fits}
@@ -60,7 +60,7 @@ module _ (c : SimplicialComplex) (t : ℕ) where
   unfolding sidesOutcome outcome
   number-refused h past = rw (goes-on h, le-leb (c .«n_triangles») t past)
 
-  module _ (h : refusal (complexOf c) ≡ 0) (table : List ℕ) (index : Indexed table (complexOf c .edges)) (tl : t < c .«n_triangles») where
+  module _ (h : refusal (complexOf c) ≡ 0) (table : List ℕ) (index : EdgeTable table (complexOf c .edges)) (tl : t < c .«n_triangles») where
     few : Counts (c .«n_vertices») (c .«n_edges») (c .«n_triangles»)
     few = counts-own c h
 

@@ -13,7 +13,7 @@ use Rattle.mathematics.proofs.Tests.{and-true, and-parts}
 use Rattle.mathematics.proofs.Lists.{numbers-equal, lists-equal, place-at, firsts-map}
 use Rattle.complex.specs.Complex.{Simplex, start, end, entries}
 use Rattle.complex.specs.Judge.{rising, sides-listed}
-use Rattle.complex.specs.Numbering.{number, key, triangle-key, Keyed, Indexed}
+use Rattle.complex.specs.Numbering.{number, key, triangle-key, Keyed, EdgeTable}
 
 -- a number other than 0 is that of a listed simplex
 pub number-listed : (s : Simplex) (es : List Simplex) → not (eqb (number same s es) 0) ≡ listed same s es
@@ -42,7 +42,7 @@ module _ (l : List ℕ) (t a b d : ℕ) (ea : a ≡ getD l (3 * t) 0) (eb : b �
     unfolding rising
     third-past g h k = rw (three, lt-ltb a b g, lt-ltb b d h, le-ltb d n k)
 
-    pub sides-found : a < b → b < d → d < n → n ≤ 64 → (table : List ℕ) → Indexed table es → (not (eqb (getD table (64 * a + b) 0) 0) && (not (eqb (getD table (64 * a + d) 0) 0) && not (eqb (getD table (64 * b + d) 0) 0))) ≡ (rising n (entries l (3 * t) 3) && sides-listed es (entries l (3 * t) 3))
+    pub sides-found : a < b → b < d → d < n → n ≤ 64 → (table : List ℕ) → EdgeTable table es → (not (eqb (getD table (64 * a + b) 0) 0) && (not (eqb (getD table (64 * a + d) 0) 0) && not (eqb (getD table (64 * b + d) 0) 0))) ≡ (rising n (entries l (3 * t) 3) && sides-listed es (entries l (3 * t) 3))
     unfolding rising sides-listed all choose
     sides-found g h k few table i =
         rw
@@ -111,7 +111,7 @@ fits n es (a ∷ b ∷ d ∷ f ∷ s) h =
     let e = eqb-true (length (a ∷ b ∷ d ∷ f ∷ s)) 3 (p .0) in
     absurd (omega arith)
 
-module _ (n : ℕ) (es : List Simplex) (few : n ≤ 64) (short : length es ≤ 63) (table : List ℕ) (i : Indexed table es) where
+module _ (n : ℕ) (es : List Simplex) (few : n ≤ 64) (short : length es ≤ 63) (table : List ℕ) (i : EdgeTable table es) where
   pub fitting-keyed : (s : Simplex) → fitting n es s ≡ true → Keyed table s
   unfolding key
   fitting-keyed s h =

@@ -43,7 +43,8 @@ shape-tests c =
     ∷ (9, not (connected (c .edges) (c .vertices)))
     ∷ []
 
--- the number of the first line that holds, or 0 where the complex is accepted
+-- the number of the first line that holds, or 0 where the complex is accepted. (It speaks of complexes whose edges are pairs and whose
+-- triangles are triples, as `complexOf` makes them of a record.)
 unfoldable pub refusal : Complex → ℕ
 refusal c = first (counts-test c ∷ shape-tests c)
 

@@ -28,7 +28,7 @@ unfoldable pub key : Simplex → ℕ
 key s = 64 * start s + end s
 
 -- The table has at 64 a + b the number of edge (a, b): the Rust's edge_index.
-pub record Indexed (table : List ℕ) (es : List Simplex) : Type 0 where
+pub record EdgeTable (table : List ℕ) (es : List Simplex) : Type 0 where
   pub long : length table ≡ 4096
   pub numbers : (a b : ℕ) → a < 64 → b < 64 → getD table (64 * a + b) 0 ≡ number same (a ∷ b ∷ []) es
 
@@ -47,4 +47,4 @@ pub record Keyed (table : List ℕ) (s : Simplex) : Type 0 where
 -- what the judge says of a record, and what its table then holds
 pub record Judged (c : SimplicialComplex) (table : List ℕ) (r : ℕ) : Type 0 where
   pub number : r ≡ refusal (complexOf c)
-  pub index : r ≡ 0 → Indexed table (complexOf c .edges)
+  pub index : r ≡ 0 → EdgeTable table (complexOf c .edges)

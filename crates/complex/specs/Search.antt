@@ -44,7 +44,7 @@ unfoldable pub served : List Simplex → Search → ℕ → Search
 served es s zero = s
 served es s (suc k) = serve es (served es s k) k
 
--- the whole search of n vertices: no more than n places are ever filled
+-- the whole search of n vertices: n places are served, which are all that there are where every edge has its ends below n
 unfoldable pub search : List Simplex → ℕ → Search
 search es n = served es (record { seen = 0 ∷ []; tree = [] }) n
 

@@ -15,7 +15,7 @@ ghost use Rattle.mathematics.specs.Refusals.{first};
 ghost use Rattle.complex.specs.Judge.{counts-right, rising, sides-listed, refusal, truncated-tests};
 ghost use lib.Dec.{eqb};
 ghost use mathlib.Core.List.{map};
-ghost use Rattle.complex.specs.Numbering.{key, triangle-key, Keyed, Indexed, Judged};
+ghost use Rattle.complex.specs.Numbering.{key, triangle-key, Keyed, EdgeTable, Judged};
 
 // A byte as a number of a list.
 pub fn byte(x: u8) -> usize
@@ -56,7 +56,7 @@ fn edge_key(edges: &[u8; 126], e: usize) -> usize
 // The edges are numbered in the table, which is Rust's edge_index where none is listed twice: the number of different ones.
 pub fn number_edges(edges: &[u8; 126], m: usize, table: &mut [u16; 4096]) -> usize
     requires { ⌜ (m ≤ 63) × (now table ≡ replicate 4096 0) × ((e : ℕ) → e < m → (getD (now edges) (2 * e) 0 < 64) × (getD (now edges) (2 * e + 1) 0 < 64)) ⌝ }
-    ensures { λ r. ⌜ (r ≡ length (firsts same (simplices 2 (now (edges .entry)) m))) × (r ≡ m → Indexed (now (table .exit)) (simplices 2 (now (edges .entry)) m)) ⌝ }
+    ensures { λ r. ⌜ (r ≡ length (firsts same (simplices 2 (now (edges .entry)) m))) × (r ≡ m → EdgeTable (now (table .exit)) (simplices 2 (now (edges .entry)) m)) ⌝ }
 {
     let mut keys = [0u16; 256];
     let mut count = 0;
@@ -77,7 +77,7 @@ pub fn edge_number(table: &[u16; 4096], a: usize, b: usize) -> usize
 // Whether a triangle rises and its three edges are listed.
 fn triangle_fits(triangles: &[u8; 768], n: usize, table: &[u16; 4096], t: usize) -> bool
     requires { ⌜ (t < 256) × (n ≤ 64) ⌝ }
-    ensures { λ r. ⌜ ((es : List Simplex) → Indexed (now (table .entry)) es → r ≡ (rising n (entries (now (triangles .entry)) (3 * t) 3) && sides-listed es (entries (now (triangles .entry)) (3 * t) 3))) ⌝ }
+    ensures { λ r. ⌜ ((es : List Simplex) → EdgeTable (now (table .entry)) es → r ≡ (rising n (entries (now (triangles .entry)) (3 * t) 3) && sides-listed es (entries (now (triangles .entry)) (3 * t) 3))) ⌝ }
 {
     let a = byte(triangles[3 * t]);
     let b = byte(triangles[3 * t + 1]);
@@ -97,7 +97,7 @@ fn triangle_fits(triangles: &[u8; 768], n: usize, table: &[u16; 4096], t: usize)
 
 fn triangles_fit(triangles: &[u8; 768], n: usize, table: &[u16; 4096], t: usize) -> bool
     requires { ⌜ (t ≤ 256) × (n ≤ 64) ⌝ }
-    ensures { λ r. ⌜ ((es : List Simplex) → Indexed (now (table .entry)) es → r ≡ all (λ s. rising n s && sides-listed es s) (simplices 3 (now (triangles .entry)) t)) ⌝ }
+    ensures { λ r. ⌜ ((es : List Simplex) → EdgeTable (now (table .entry)) es → r ≡ all (λ s. rising n s && sides-listed es s) (simplices 3 (now (triangles .entry)) t)) ⌝ }
 {
     let mut so_far = true;
     for i in 0..t {

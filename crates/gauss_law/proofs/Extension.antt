@@ -7,7 +7,8 @@ use lib.IntN.{ℤ, pos, _*ℤ_}
 use lib.ListN.{getD, length, length-map}
 use Rattle.mathematics.specs.Integers.{sum}
 use Rattle.mathematics.specs.Counting.{below}
-use Rattle.mathematics.proofs.Ordered.{Each, Member, each-member}
+use Rattle.mathematics.specs.Entries.{Each}
+use Rattle.mathematics.proofs.Ordered.{Member, each-member}
 use Rattle.mathematics.proofs.Below.{length-below, map-below-at, listed-member}
 use Rattle.complex.specs.Complex.{Simplex, Complex}
 use Rattle.gauss_law.specs.Gauss.{gauss, Lawful}

@@ -11,7 +11,8 @@ use Rattle.mathematics.specs.Tests.{every}
 use Rattle.mathematics.specs.Counting.{below, keep}
 use Rattle.mathematics.proofs.Tests.{or-false}
 use Rattle.mathematics.proofs.Counting.{every-at}
-use Rattle.mathematics.proofs.Ordered.{Each, none, also, each-to, keep-each}
+use Rattle.mathematics.specs.Entries.{Each, none, also}
+use Rattle.mathematics.proofs.Ordered.{each-to, keep-each}
 use Rattle.mathematics.proofs.Below.{below-each, keep-next, keep-skip, keep-agree}
 use Rattle.mathematics.proofs.Integers.{equal-true, equal-self}
 use Rattle.complex.specs.Complex.{Complex}

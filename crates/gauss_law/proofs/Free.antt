@@ -12,7 +12,8 @@ use lib.ListN.{getD, length, List·getD-eq-default}
 use borrow.Author.Tests.{not-true}
 use Rattle.mathematics.specs.Lists.{listed}
 use Rattle.mathematics.specs.Counting.{below}
-use Rattle.mathematics.proofs.Ordered.{Each, Member, Ordered, each-to, ordered-to, keep-passes, keep-each, keep-ordered, keep-member}
+use Rattle.mathematics.specs.Entries.{Each}
+use Rattle.mathematics.proofs.Ordered.{Member, Ordered, each-to, ordered-to, keep-passes, keep-each, keep-ordered, keep-member}
 use Rattle.mathematics.proofs.Below.{below-each, below-ordered, below-member, member-listed, not-listed, member-not-listed}
 use Rattle.complex.specs.Complex.{Complex}
 use Rattle.gauss_law.specs.Gauss.{gauss}

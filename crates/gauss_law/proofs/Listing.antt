@@ -14,7 +14,8 @@ use lib.Seq.{ext-getD, getD-append-add}
 use Rattle.mathematics.specs.Lists.{listed, place}
 use Rattle.mathematics.specs.Counting.{below, counted}
 use Rattle.mathematics.proofs.Integers.{positive, negative, integral, parts, parts-size, one-part, the, _⊟_, less-by-parts, less-trans, less-apart}
-use Rattle.mathematics.proofs.Ordered.{Each, Member, Ordered, each-to, each-both, each-append, each-map, each-at, each-anywhere, at-each, member-map, member-left, member-right, member-place, place-member, ordered-append, ordered-map, ordered-to, ordered-at, at-ordered, keep-passes, keep-each, keep-ordered, keep-member, same-members}
+use Rattle.mathematics.specs.Entries.{Each}
+use Rattle.mathematics.proofs.Ordered.{Member, Ordered, each-to, each-both, each-append, each-map, each-at, each-anywhere, at-each, member-map, member-left, member-right, member-place, place-member, ordered-append, ordered-map, ordered-to, ordered-at, at-ordered, keep-passes, keep-each, keep-ordered, keep-member, same-members}
 use Rattle.mathematics.proofs.Below.{length-below, below-each, below-ordered, below-member, map-at, map-below-at, listed-member, member-listed, not-listed, place-at, complement}
 use Rattle.mathematics.proofs.Digits.{Smaller, counted-each, counted-member, counted-ordered}
 use Rattle.complex.specs.Complex.{Complex}

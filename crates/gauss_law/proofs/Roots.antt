@@ -9,7 +9,7 @@ use lib.IntN.{ℤ, pos, one, _+ℤ_, _-ℤ_, _*ℤ_, +ℤ-invr, *ℤ-one, *ℤ-c
 use Rattle.mathematics.specs.Integers.{sum}
 use Rattle.mathematics.proofs.Integers.{positive, negative, the, _⊟_, integral, parts, times-sum, times-difference}
 use Rattle.mathematics.proofs.Sums.{sum-same, sum-zero, sum-add, sum-difference, sum-one}
-use Rattle.mathematics.proofs.Ordered.{Each, none, also}
+use Rattle.mathematics.specs.Entries.{Each, none, also}
 use Rattle.complex.specs.Complex.{Simplex, start, end}
 use Rattle.gauss_law.specs.Gauss.{flow, gauss}
 use Rattle.gauss_law.proofs.Gauss.{pick-here, pick-elsewhere}

@@ -10,7 +10,8 @@ use lib.IntN.{ℤ, pos, _+ℤ_, _-ℤ_}
 use lib.ListN.{length, getD, set, length-set}
 use lib.Seq.{getD-set-same, getD-set-other, ext-getD}
 use Rattle.mathematics.proofs.Integers.{linear, the, _⊞_, _⊟_, integral, parts}
-use Rattle.mathematics.proofs.Ordered.{Each, none, also, Member, each-first, each-later}
+use Rattle.mathematics.specs.Entries.{Each, none, also}
+use Rattle.mathematics.proofs.Ordered.{Member, each-first, each-later}
 use Rattle.complex.specs.Complex.{Simplex}
 use Rattle.gauss_law.specs.Gauss.{flow, gauss}
 use Rattle.gauss_law.proofs.Gauss.{Meets, Misses, flow-once, turned, flow-turned, gauss-set, gauss-split, gauss-agree}

@@ -6,7 +6,8 @@ use mathlib.Core.Logic.{_≢_, inl, inr, _↔_}
 use native.Mathlib.Omega.{arith}
 use native.Mathlib.Decide.{ℕ-discrete}
 use lib.ListN.{length, getD}
-use Rattle.mathematics.proofs.Ordered.{Each, none, also, Member, front, behind, Ordered, at-each, member-place, place-member, at-ordered}
+use Rattle.mathematics.specs.Entries.{Each, none, also}
+use Rattle.mathematics.proofs.Ordered.{Member, front, behind, Ordered, at-each, member-place, place-member, at-ordered}
 use Rattle.complex.specs.Complex.{Simplex, Joins}
 use Rattle.complex.specs.Search.{Search, Spans}
 use Rattle.gauss_law.proofs.Gauss.{Meets, ends, starts, Misses}

@@ -20,7 +20,7 @@ gauss [] s v = pos 0
 gauss (e ∷ es) [] v = pos 0
 gauss (e ∷ es) (x ∷ s) v = flow e x v +ℤ gauss es s v
 
--- the law: the Gauss sum at every vertex, what ends there less what starts there, is its charge in this sign
+-- the law: the Gauss sum at every vertex, what ends there less what starts there, is the charge of the vertex
 abbrev pub Lawful : Complex → (ℕ → ℤ) → List ℤ → Type 0
 Lawful c q s = (v : ℕ) → v < c .vertices → gauss (c .edges) s v ≡ q v
 

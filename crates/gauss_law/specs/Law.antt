@@ -42,9 +42,13 @@ unfoldable pub lawAnswer : GaussCheck → Outcome Bool
 lawAnswer (Answer b) = value b
 lawAnswer (Refused n) = refused n
 
--- 4, 7 to 9, then 12 for a configuration that is not as long as the list of edges
+-- a configuration of n values is not as long as the list of edges
+abbrev pub length-test : Complex → ℕ → ℕ × Bool
+length-test c n = (12, not (eqb n (length (c .edges))))
+
+-- 4, 7 to 9, then 12 for a configuration of n values
 unfoldable pub law-refusal : Complex → ℕ → ℕ
-law-refusal c n = first ((counts-test c ∷ shape-tests c) ++ ((12, not (eqb n (length (c .edges)))) ∷ []))
+law-refusal c n = first ((counts-test c ∷ shape-tests c) ++ (length-test c n ∷ []))
 
 unfoldable pub lawOutcome : Complex → List ℤ → Outcome Bool
 lawOutcome c s = outcome (law-refusal c (length s)) (lawful c (λ v. pos 0) s)

@@ -5,6 +5,7 @@ use mathlib.Core.Bool.{_||_, cond}
 use mathlib.Core.Path.{_≡_}
 use lib.ListN.{getD, length, take, drop}
 use lib.Dec.{eqb, ltb}
+use Rattle.mathematics.specs.Writing.{front}
 use Rattle.mathematics.specs.Lists.{listed}
 use Rattle.mathematics.specs.Counting.{below, keep}
 use Rattle.mathematics.specs.Refusals.{first, Outcome, value, refused, outcome, written}
@@ -32,8 +33,8 @@ tree-refusal c tree-room free-room =
 -- the number of free edges is told, and the two lists begin with the tree edges and with the free edges
 pub record TreeTold (c : Complex) (tree free : List ℕ) (r : SpanningTreeAnswer) (tree′ free′ : List ℕ) : Type 0 where
   pub answer : treeAnswer r ≡ outcome (tree-refusal c (length tree) (length free)) (length (free-edges c))
-  pub tree-list : tree′ ≡ written (tree-refusal c (length tree) (length free)) (tree-edges c ++ drop (length (tree-edges c)) tree) tree
-  pub free-list : free′ ≡ written (tree-refusal c (length tree) (length free)) (free-edges c ++ drop (length (free-edges c)) free) free
+  pub tree-list : tree′ ≡ written (tree-refusal c (length tree) (length free)) (front (tree-edges c) tree) tree
+  pub free-list : free′ ≡ written (tree-refusal c (length tree) (length free)) (front (free-edges c) free) free
 
 -- ---- as the code keeps them
 -- the record is accepted, and t is its search

@@ -27,7 +27,7 @@ use Rattle.walker.specs.Enumeration.{states, limit-test, basis-tests, short, ba
 use Rattle.walker.proofs.Enumerating.{basis-goes-on}
 use Rattle.hilbert.specs.Basis.{within, place}
 use Rattle.hamiltonian.specs.Triangle.{triangleAnswer, shifted-state, sides-within, triangle-refusal, triangleOutcome, TriangleTold}
-use Rattle.hamiltonian.specs.Demand.{Leaves, Lists, ShiftTold, Shifts, Demand, Demand3}
+use Rattle.hamiltonian.specs.Demand.{OutOfBand, Lists, ShiftTold, Shifts, Demand, Demand3}
 use Rattle.hamiltonian.proofs.TriangleTelling.{state-there}
 
 -- ---- nothing is refused
@@ -55,19 +55,19 @@ module _ (c : Complex) (right : Accepted c) (L t : ℕ) (number : t < length (c 
   unfolding sides-within all side value-of
   three = rw (triangle-sides c right t number .numbers)
 
-  pub leaves : sides-within c L t s ≡ false → Leaves c L t s
+  pub leaves : sides-within c L t s ≡ false → OutOfBand c L t s
   unfolding within value-of
   leaves h = go (within L (value-of 0)) refl (within L (value-of 1)) refl (within L (value-of 2)) refl (sym three ∙ h)
     where
-      go : (a : Bool) → within L (value-of 0) ≡ a → (b : Bool) → within L (value-of 1) ≡ b → (d : Bool) → within L (value-of 2) ≡ d → (a && (b && (d && true))) ≡ false → Leaves c L t s
-      go false p b q d r k = record { edge = 0; one-of-three = omega arith; out = leb-false _ _ p }
-      go true p false q d r k = record { edge = 1; one-of-three = omega arith; out = leb-false _ _ q }
-      go true p true q false r k = record { edge = 2; one-of-three = omega arith; out = leb-false _ _ r }
+      go : (a : Bool) → within L (value-of 0) ≡ a → (b : Bool) → within L (value-of 1) ≡ b → (d : Bool) → within L (value-of 2) ≡ d → (a && (b && (d && true))) ≡ false → OutOfBand c L t s
+      go false p b q d r k = record { which = 0; one-of-three = omega arith; out = leb-false _ _ p }
+      go true p false q d r k = record { which = 1; one-of-three = omega arith; out = leb-false _ _ q }
+      go true p true q false r k = record { which = 2; one-of-three = omega arith; out = leb-false _ _ r }
       go true p true q true r k = absurd (false≢true (sym k))
 
-  pub left : Leaves c L t s → sides-within c L t s ≡ false
+  pub left : OutOfBand c L t s → sides-within c L t s ≡ false
   unfolding within value-of
-  left out = three ∙ go (out .edge) (out .one-of-three) (lt-leb _ _ (out .out))
+  left out = three ∙ go (out .which) (out .one-of-three) (lt-leb _ _ (out .out))
     where
       go : (k : ℕ) → k < 3 → within L (value-of k) ≡ false → (within L (value-of 0) && (within L (value-of 1) && (within L (value-of 2) && true))) ≡ false
       go zero b h = rw h
@@ -109,7 +109,7 @@ module _ (c : Complex) (right : Accepted c) (L : ℕ) (none : first (basis-tests
     shift-told old new r h long =
         record {
           sides = triangle-sides c right t number;
-          s = shifted-state c L t k;
+          after = shifted-state c L t k;
           shifted = triangle-shifted c right t number (getD (states c L) k []) (state-there c right L k state .sized);
           refused-only = λ e. leaves c right L t number (shifted-state c L t k) (only (sides-within c L t (shifted-state c L t k)) (sym (by-band) ∙ e));
           refused-then = λ out. by-band ∙ rw (left c right L t number (shifted-state c L t k) out);
@@ -136,7 +136,7 @@ demand-3 r L right few within =
     let c = complexOf r in
     let none = basis-none r L (accepted r .1 right) few within in
     record {
-      states = states c L;
+      list = states c L;
       complete = listing-complete c right (λ v. pos 0) L;
       lists = all-listed c right L none;
       shifts = λ t k number state. shift-told c right L none t k number state;

@@ -1,6 +1,6 @@
 -- What build_hamiltonian tells, by the test that decides it.
 use Prim.Native.Nat.{ℕ, _*_, _≤_}
-use mathlib.Core.List.{List, [], _∷_, _++_}
+use mathlib.Core.List.{List, [], _∷_, _++_, flatten}
 use mathlib.Core.Bool.{Bool, true, false, _||_, cond}
 use mathlib.Core.Path.{_≡_, refl, sym, ap, ap₂, _∙_}
 use native.Mathlib.Omega.{arith}
@@ -9,6 +9,7 @@ use lib.IntN.{ℤ}
 use lib.Ieee.{Float}
 use lib.ListN.{length, drop}
 use Rattle.mathematics.specs.Tests.{all}
+use Rattle.mathematics.specs.Writing.{front}
 use Rattle.mathematics.specs.Refusals.{first, value, refused, outcome, written}
 use Rattle.mathematics.proofs.Refusals.{numbered, first-stops, first-goes-on, refused-outcome, refused-kept}
 use Rattle.complex.specs.Complex.{Complex}
@@ -67,7 +68,7 @@ module _ (c : Complex) (L : ℕ) (p : KSParams) (given : Bool) (weights : List F
       pub room-refused : no-room ≡ true → Built c L p given weights work result (Refused 15) work result
       room-refused h = refused-told 15 (by-room ∙ rw h) (λ z. omega arith)
 
-      pub built : no-room ≡ false → n ≤ 1048576 → (r : ℕ) (work′ : List ℤ) (result′ : List Float) → r ≡ n → work′ ≡ basis-first c L work → result′ ≡ dense c L p (weight given weights) ++ drop (n * n) result
+      pub built : no-room ≡ false → n ≤ 1048576 → (r : ℕ) (work′ : List ℤ) (result′ : List Float) → r ≡ n → work′ ≡ basis-first c L work → result′ ≡ front (dense c L p (weight given weights)) result
           → Built c L p given weights work result (States r) work′ result′
       unfolding enumeratedAnswer outcome written
       built h few r work′ result′ number basis matrix =
@@ -87,7 +88,7 @@ basis-listed c L w blocks basis old new r h s e =
       count = made .0;
       few = rw (made .0) (basis .few);
       edges = basis .walks .edges;
-      rest = drop (length (states c L) * length (c .edges)) old;
+      rest = drop (length (flatten (states c L))) old;
       begins = made .1;
       free-count = basis .walks .count;
       free-few = basis .walks .few;

@@ -1,13 +1,14 @@
 -- The matrix that is written: zeros, then the electric term, then the triangles one after the other.
 use Prim.Native.Nat.{ℕ, _*_, _<_, _≤_}
-use mathlib.Core.List.{List, [], _++_}
+use mathlib.Core.List.{List, []}
 use mathlib.Core.Bool.{cond}
 use mathlib.Core.Path.{_≡_, sym, ap, _∙_}
 use native.Mathlib.Omega.{arith}
 use lib.Dec.{eqb}
 use lib.IntN.{ℤ, pos, natAbs}
 use lib.Ieee.{Float, binary64, add, mul}
-use lib.ListN.{getD, length, drop}
+use lib.ListN.{getD, length}
+use Rattle.mathematics.specs.Writing.{front}
 use Rattle.complex.specs.Complex.{Complex}
 use Rattle.walker.specs.Enumeration.{states}
 use Rattle.hilbert.specs.Search.{row}
@@ -47,8 +48,8 @@ module _ (c : Complex) (list : List ℤ) (s : Sizes) (free : List ℕ) (basis : 
     electric-written old new = matrix-same _ (entry c (s .lambda) p w 0) (s .states) old new (λ i j h k. electric-added i j h)
 
     pub dense-written : (old new : List Float) → s .states * s .states ≤ length old → Matrix (entry c (s .lambda) p w (length (c .triangles))) (s .states) old new
-        → new ≡ dense c (s .lambda) p w ++ drop (s .states * s .states) old
+        → new ≡ front (dense c (s .lambda) p w) old
     unfolding dense
     dense-written old new room m =
         matrix-is (entry c (s .lambda) p w (length (c .triangles))) (s .states) old new m room
-        ∙ ap (λ (n : ℕ). rows (entry c (s .lambda) p w (length (c .triangles))) n ++ drop (s .states * s .states) old) (basis .count)
+        ∙ ap (λ (n : ℕ). front (rows (entry c (s .lambda) p w (length (c .triangles))) n) old) (basis .count)

@@ -13,6 +13,7 @@ use lib.Ieee.{Float, nan, binary64, add}
 use lib.ListN.{getD, length, drop, set, length-set, length-map, length-append, length-drop}
 use lib.Seq.{getD-set-same, getD-set-other, getD-append-add, getD-drop, ext-getD}
 use Rattle.mathematics.specs.Counting.{below}
+use Rattle.mathematics.specs.Writing.{front}
 use Rattle.mathematics.proofs.Below.{length-below, map-below-at}
 use Rattle.mathematics.proofs.Flat.{flatten-length, flatten-at}
 use Rattle.hamiltonian.specs.Coupling.{whole}
@@ -86,8 +87,9 @@ module _ (f : ℕ → ℕ → Float) (n : ℕ) where
       ∙ flatten-at n nan lines rest line-long i j (rw lines-many h) k
       ∙ ap (λ (l : List Float). getD l j nan) (line-at i h) ∙ map-below-at (λ j. f i j) n j nan k
 
-  pub matrix-is : (old new : List Float) → Matrix f n old new → n * n ≤ length old → new ≡ rows f n ++ drop (n * n) old
-  matrix-is old new m room = ext-getD nan new (rows f n ++ drop (n * n) old) same (λ k h. each k h (decLt k (n * n)))
+  pub matrix-is : (old new : List Float) → Matrix f n old new → n * n ≤ length old → new ≡ front (rows f n) old
+  matrix-is old new m room =
+      ext-getD nan new (rows f n ++ drop (n * n) old) same (λ k h. each k h (decLt k (n * n))) ∙ ap (λ (k : ℕ). rows f n ++ drop k old) (sym rows-length)
     where
       same : length new ≡ length (rows f n ++ drop (n * n) old)
       same = m .long ∙ sym (length-append (rows f n) (drop (n * n) old) ∙ rw (rows-length, length-drop (n * n) old) (omega arith))

@@ -17,7 +17,7 @@ use Rattle.walker.specs.Enumeration.{states}
 use Rattle.hilbert.specs.Basis.{place}
 use Rattle.hamiltonian.specs.declared.coupling.KSParams.{KSParams}
 use Rattle.hamiltonian.specs.declared.walk.Sizes.{Sizes}
-use Rattle.hamiltonian.specs.Matrix.{Matrix, raised}
+use Rattle.hamiltonian.specs.Matrix.{Matrix, with-added}
 use Rattle.hamiltonian.specs.Triangle.{shifted-state, sides-within}
 use Rattle.hamiltonian.specs.Dense.{plaquette-term, hits, entry}
 use Rattle.hamiltonian.specs.Walk.{BasisList, SidesOf, target, part-entry, HitAdded, PlaquetteAdded}
@@ -147,7 +147,7 @@ module _ (c : Complex) (list : List ℤ) (s : Sizes) (free : List ℕ) (basis : 
             go (no d) e (no f) g = untouched a b (rw (ne-eqb a i d)) (rw (ne-eqb a q f)) (λ z. d (z .0)) (λ z. f (z .0))
 
       pub way-hit : target c L t i < n → n * n ≤ length old
-          → Way c s t x (i + 1) (target c L t i) old (raised n (target c L t i) i x (raised n i (target c L t i) x new))
+          → Way c s t x (i + 1) (target c L t i) old (with-added n (target c L t i) i x (with-added n i (target c L t i) x new))
       unfolding both-added first-added before
       way-hit hit room =
           record {
@@ -157,9 +157,9 @@ module _ (c : Complex) (list : List ℤ) (s : Sizes) (free : List ℕ) (basis : 
                 let enough : n * n ≤ length first = rw (← (m .long)) room in
                 let one = matrix-add (part-entry c L p w t i) n first new (way .entries p w e first m) enough i q h hit x in
                 matrix-same (both-added p w e q (there c list s free basis q hit) (hit-found i h hit)) (part-entry c L p w t (i + 1)) n first
-                (raised n q i x (raised n i q x new))
+                (with-added n q i x (with-added n i q x new))
                 (λ a b d f. hit-added p w e q (there c list s free basis q hit) (hit-found i h hit) a b)
-                (matrix-add (first-added p w e q (there c list s free basis q hit) (hit-found i h hit)) n first (raised n i q x new) one enough q i hit h x);
+                (matrix-add (first-added p w e q (there c list s free basis q hit) (hit-found i h hit)) n first (with-added n i q x new) one enough q i hit h x);
           }
 
       -- one state more, whether its target is a hit or not

@@ -1,9 +1,10 @@
 -- Demand 3, both halves: the list of states is complete, and a triangle's shift is refused exactly when it leaves the band.
 use Prim.Native.Nat.{ℕ, _+_, _*_, _^_, _≤_, _<_}
-use mathlib.Core.List.{List, [], _++_, flatten}
+use mathlib.Core.List.{List, [], flatten}
 use mathlib.Core.Path.{_≡_}
 use lib.IntN.{ℤ, pos, natAbs}
-use lib.ListN.{getD, length, drop}
+use lib.ListN.{getD, length}
+use Rattle.mathematics.specs.Writing.{front}
 use Rattle.mathematics.specs.Refusals.{value, refused}
 use Rattle.complex.specs.declared.SimplicialComplex.{SimplicialComplex}
 use Rattle.complex.specs.Complex.{Complex, complexOf}
@@ -16,28 +17,28 @@ use Rattle.walker.specs.Enumeration.{enumeratedAnswer, Listed}
 use Rattle.hamiltonian.specs.declared.triangle.TriangleShift.{TriangleShift}
 use Rattle.hamiltonian.specs.Triangle.{triangleAnswer, TriangleTold}
 
--- one of the three edges of triangle t has left -L to L
-pub record Leaves (c : Complex) (L t : ℕ) (s : List ℤ) : Type 0 where
-  pub edge : ℕ
-  pub one-of-three : edge < 3
-  pub out : L < natAbs (getD s (side c t edge) (pos 0))
+-- one of the three edges of triangle t has left -L to L: the first, second or third, counted from 0
+pub record OutOfBand (c : Complex) (L t : ℕ) (s : List ℤ) : Type 0 where
+  pub which : ℕ
+  pub one-of-three : which < 3
+  pub out : L < natAbs (getD s (side c t which) (pos 0))
 
 -- The listing: `Listed` is what enumerate_gauge_invariant ensures, so this holds of each of its runs with a list that is long enough for
 -- the states ss. Their number is told, and the list begins with them, state after state, and keeps what stood after them.
 abbrev pub Lists : Complex → ℕ → List (List ℤ) → Type 0
 Lists c L ss =
     (old new : List ℤ) (r : Enumerated) → Listed c L old new r → length ss * length (c .edges) ≤ length old
-    → (enumeratedAnswer r ≡ value (length ss)) × (new ≡ flatten ss ++ drop (length ss * length (c .edges)) old)
+    → (enumeratedAnswer r ≡ value (length ss)) × (new ≡ front (flatten ss) old)
 
--- The shift of triangle t on the state at place k: s is that state after the shift; the call is refused with 16 exactly when one of the
--- three edges has left -L to L, and otherwise answers the place of s.
+-- The shift of triangle t on the state at place k: `after` is that state after the shift; the call is refused with 16 exactly when one of the
+-- three edges has left -L to L, and otherwise answers the place of `after`.
 pub record ShiftTold (c : Complex) (L : ℕ) (ss : List (List ℤ)) (t k : ℕ) (r : TriangleShift) : Type 0 where
   pub sides : TriangleSides c t
-  pub s : List ℤ
-  pub shifted : TriangleShifted c t (getD ss k []) s
-  pub refused-only : triangleAnswer r ≡ refused 16 → Leaves c L t s
-  pub refused-then : Leaves c L t s → triangleAnswer r ≡ refused 16
-  pub placed : (Leaves c L t s → ⊥) → (p : ℕ) × (triangleAnswer r ≡ value p) × (p < length ss) × (getD ss p [] ≡ s)
+  pub after : List ℤ
+  pub shifted : TriangleShifted c t (getD ss k []) after
+  pub refused-only : triangleAnswer r ≡ refused 16 → OutOfBand c L t after
+  pub refused-then : OutOfBand c L t after → triangleAnswer r ≡ refused 16
+  pub placed : (OutOfBand c L t after → ⊥) → (p : ℕ) × (triangleAnswer r ≡ value p) × (p < length ss) × (getD ss p [] ≡ after)
 
 -- `TriangleTold` is what apply_triangle_shift ensures, so this holds of each of its runs with a list that is long enough, for every triangle
 -- and every place below the number of states.
@@ -48,10 +49,10 @@ Shifts c L ss =
 
 -- there is the list of all states, and both calls go by it
 pub record Demand (c : Complex) (L : ℕ) : Type 0 where
-  pub states : List (List ℤ)
-  pub complete : Complete c (λ v. pos 0) L states
-  pub lists : Lists c L states
-  pub shifts : Shifts c L states
+  pub list : List (List ℤ)
+  pub complete : Complete c (λ v. pos 0) L list
+  pub lists : Lists c L list
+  pub shifts : Shifts c L list
 
 -- for every accepted complex and truncation with the candidates within the limit
 abbrev pub Demand3 : Type 0

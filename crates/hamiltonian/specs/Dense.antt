@@ -6,7 +6,8 @@ use mathlib.Core.Path.{_≡_}
 use lib.Dec.{eqb, ltb}
 use lib.IntN.{ℤ, natAbs}
 use lib.Ieee.{Float, binary64, add, mul, div}
-use lib.ListN.{getD, length, drop}
+use lib.ListN.{getD, length}
+use Rattle.mathematics.specs.Writing.{front}
 use Rattle.mathematics.specs.Refusals.{first, outcome, written}
 use Rattle.complex.specs.Complex.{Complex}
 use Rattle.walker.specs.declared.enumerate.Enumerated.{Enumerated}
@@ -59,5 +60,5 @@ dense-refusal c L p given weights work-room result-room =
 pub record Built (c : Complex) (L : ℕ) (p : KSParams) (given : Bool) (weights : List Float) (work : List ℤ) (result : List Float) (r : Enumerated) (work′ : List ℤ) (result′ : List Float) : Type 0 where
   pub answer : enumeratedAnswer r ≡ outcome (dense-refusal c L p given weights (length work) (length result)) (length (states c L))
   pub work-list : work′ ≡ written (dense-refusal c L p given weights (length work) (length result)) (basis-first c L work) work
-  pub result-list : result′ ≡ written (dense-refusal c L p given weights (length work) (length result)) (dense c L p (weight given weights) ++ drop (length (states c L) * length (states c L)) result) result
+  pub result-list : result′ ≡ written (dense-refusal c L p given weights (length work) (length result)) (front (dense c L p (weight given weights)) result) result
   pub few : dense-refusal c L p given weights (length work) (length result) ≡ 0 → length (states c L) ≤ 1048576

@@ -20,8 +20,8 @@ pub record Matrix (f : ℕ → ℕ → Float) (n : ℕ) (old new : List Float) :
 
 -- ---- as the code keeps it
 -- a list with x added to entry (i, j) of the matrix of n columns at its beginning
-abbrev pub raised : ℕ → ℕ → ℕ → Float → List Float → List Float
-raised n i j x h = set h (i * n + j) (add binary64 (getD h (i * n + j) nan) x)
+abbrev pub with-added : ℕ → ℕ → ℕ → Float → List Float → List Float
+with-added n i j x h = set h (i * n + j) (add binary64 (getD h (i * n + j) nan) x)
 
 -- x i has been added to entry (i, g i) of the first k rows
 unfoldable pub passed : (ℕ → ℕ → Float) → (ℕ → ℕ) → (ℕ → Float) → ℕ → ℕ → ℕ → Float

@@ -19,7 +19,7 @@ use Rattle.hilbert.specs.Search.{row}
 use Rattle.hamiltonian.specs.declared.coupling.KSParams.{KSParams}
 use Rattle.hamiltonian.specs.declared.walk.Sizes.{Sizes}
 use Rattle.hamiltonian.specs.Coupling.{whole}
-use Rattle.hamiltonian.specs.Matrix.{Matrix, raised}
+use Rattle.hamiltonian.specs.Matrix.{Matrix, with-added}
 use Rattle.hamiltonian.specs.Triangle.{shifted-state, sides-within}
 use Rattle.hamiltonian.specs.Dense.{squares, plaquette-term, hits, entry}
 
@@ -77,7 +77,7 @@ part-entry c L p w t k i j = cond (under-way c L t k i j) (add binary64 (entry c
 
 -- a target j below n is a hit: x was added to (i, j) and (j, i), and the next target is not before j
 pub record HitAdded (n i j from : ℕ) (x : Float) (old new : List Float) (r : ℕ) : Type 0 where
-  pub hit : j < n → (r ≡ j) × (new ≡ raised n j i x (raised n i j x old))
+  pub hit : j < n → (r ≡ j) × (new ≡ with-added n j i x (with-added n i j x old))
   pub miss : n ≤ j → (r ≡ from) × (new ≡ old)
 
 -- the entries were those before triangle t, and are those after it, where it adds x

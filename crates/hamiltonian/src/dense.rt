@@ -17,11 +17,11 @@ use walker::tables::count_states;
 use walker::tables::write_states;
 ghost use mathlib.Core.Path.{_≡_};
 ghost use mathlib.Core.Bool.{true};
-ghost use mathlib.Core.List.{_++_};
 ghost use Prim.Native.Nat.{ℕ, _*_, _≤_};
 ghost use lib.Ieee.{Float};
 ghost use mathlib.Core.List.{List};
-ghost use lib.ListN.{length, drop};
+ghost use lib.ListN.{length};
+ghost use Rattle.mathematics.specs.Writing.{front};
 ghost use Rattle.complex.specs.Complex.{complexOf};
 ghost use Rattle.hamiltonian.specs.Weights.{weight};
 ghost use Rattle.hamiltonian.specs.Matrix.{Matrix, passed};
@@ -78,7 +78,7 @@ fn write_dense(
     h: &mut [f64],
 )
     requires { ⌜ BasisList (complexOf c) (now list) s (now free) × (given ≡ true → length (now weights) ≡ c .«n_triangles») × (s .states * s .states ≤ length (now h)) ⌝ }
-    ensures { λ _. ⌜ now (h .exit) ≡ dense (complexOf c) (s .lambda) p (weight given (now (weights .entry))) ++ drop (s .states * s .states) (now (h .entry)) ⌝ }
+    ensures { λ _. ⌜ now (h .exit) ≡ front (dense (complexOf c) (s .lambda) p (weight given (now (weights .entry)))) (now (h .entry)) ⌝ }
 {
     clear_matrix(h, s.states);
     add_electric(list, s.states, s.edges, p.electric, h);

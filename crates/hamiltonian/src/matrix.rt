@@ -3,7 +3,7 @@ ghost use mathlib.Core.Path.{_≡_};
 ghost use Prim.Native.Nat.{_*_, _^_, _<_, _≤_};
 ghost use lib.ListN.{length};
 ghost use Rattle.hamiltonian.specs.Coupling.{whole};
-ghost use Rattle.hamiltonian.specs.Matrix.{Matrix, raised};
+ghost use Rattle.hamiltonian.specs.Matrix.{Matrix, with-added};
 
 // The list begins with a matrix of zeros.
 pub fn clear_matrix(h: &mut [f64], n: usize)
@@ -18,7 +18,7 @@ pub fn clear_matrix(h: &mut [f64], n: usize)
 // x is added to entry (i, j).
 pub fn add_entry(h: &mut [f64], n: usize, i: usize, j: usize, x: f64)
     requires { ⌜ (n ≤ 2 ^ 20) × (n * n ≤ length (now h)) × (i < n) × (j < n) ⌝ }
-    ensures { λ _. ⌜ now (h .exit) ≡ raised n i j x (now (h .entry)) ⌝ }
+    ensures { λ _. ⌜ now (h .exit) ≡ with-added n i j x (now (h .entry)) ⌝ }
 {
     let at = i * n + j;
     h[at] = h[at] + x;

@@ -47,6 +47,6 @@ module _ (w : Walker) (L blocks : ℕ) (s : List ℤ) where
         list = made .1;
         found = λ q. k (place c L s)
             (rw (made .0, made .1, basis .walks .count)
-            (ranked c (basis .walks .accepted) L (drop (length (states c L) * length (c .edges)) old) (w .free) (λ j m. basis .walks .listed j (rw (basis .walks .count) m)) s (place c L s)
+            (ranked c (basis .walks .accepted) L (drop (length (flatten (states c L))) old) (w .free) (λ j m. basis .walks .listed j (rw (basis .walks .count) m)) s (place c L s)
             (in-basis-at c (basis .walks .accepted) L s (q .0) (q .1))));
       }

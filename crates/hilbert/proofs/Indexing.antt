@@ -12,6 +12,7 @@ use lib.ListN.{length}
 use Rattle.mathematics.specs.Refusals.{first, value, refused, outcome, written}
 use Rattle.mathematics.proofs.Refusals.{refused-outcome, refused-kept}
 use Rattle.complex.specs.Complex.{Complex}
+use Rattle.gauss_law.specs.Law.{length-test}
 use Rattle.walker.specs.declared.tables.Walker.{Walker}
 use Rattle.walker.specs.Enumeration.{basis-tests, short, basis-first, BasisWalks}
 use Rattle.walker.proofs.Enumerating.{basis-stops, basis-goes-on, basis-at-most}
@@ -19,7 +20,7 @@ use Rattle.hilbert.specs.declared.index.Index.{Index}
 use Rattle.hilbert.specs.declared.index.Index.the-variants.{Place, NotInBasis, Refused}
 use Rattle.hilbert.specs.Basis.{in-basis, place}
 use Rattle.hilbert.specs.Search.{FoundIn}
-use Rattle.hilbert.specs.Index.{indexAnswer, length-test, index-refusal, Indexed}
+use Rattle.hilbert.specs.Index.{indexAnswer, index-refusal, Indexed}
 use Rattle.hilbert.proofs.Order.{in-basis-at}
 
 -- the number in a refusal, and 0 in any other case
@@ -45,7 +46,7 @@ module _ (c : Complex) (L : ℕ) (s old : List ℤ) where
       }
 
   rest : List (ℕ × Bool)
-  rest = length-test c s ∷ (15, short c L (length old)) ∷ (17, not (in-basis c L s)) ∷ []
+  rest = length-test c (length s) ∷ (15, short c L (length old)) ∷ (17, not (in-basis c L s)) ∷ []
 
   pub basis-refused : (k : ℕ) → k ≡ first (basis-tests c L) → (k ≡ 0 → ⊥) → Indexed c L s old old (Refused k)
   unfolding index-refusal indexAnswer rest told-number

@@ -16,6 +16,7 @@ use Rattle.mathematics.proofs.Refusals.{refused-outcome, refused-kept}
 use Rattle.complex.specs.Complex.{Complex}
 use Rattle.gauss_law.specs.Shifts.{raised, shifted}
 use Rattle.gauss_law.proofs.Shifts.{shifted-length}
+use Rattle.gauss_law.specs.Law.{length-test}
 use Rattle.walker.specs.declared.tables.Walker.{Walker}
 use Rattle.walker.specs.Enumeration.{basis-tests, short, BasisWalks}
 use Rattle.walker.proofs.Enumerating.{basis-stops, basis-goes-on, basis-at-most}
@@ -23,7 +24,7 @@ use Rattle.hilbert.specs.declared.index.Index.{Index}
 use Rattle.hilbert.specs.declared.index.Index.the-variants.{Place, NotInBasis, Refused}
 use Rattle.hilbert.specs.Basis.{within, in-basis, place}
 use Rattle.hilbert.specs.Search.{FoundIn}
-use Rattle.hilbert.specs.Index.{indexAnswer, length-test}
+use Rattle.hilbert.specs.Index.{indexAnswer}
 use Rattle.hilbert.specs.Shift.{shift-refusal, Shifted}
 use Rattle.hilbert.proofs.Order.{in-basis-at}
 use Rattle.hilbert.proofs.Indexing.{told-number, own-case}
@@ -47,7 +48,7 @@ module _ (c : Complex) (L : ℕ) (s : List ℤ) (e : ℕ) (delta : ℤ) (work re
 
   rest : List (ℕ × Bool)
   rest =
-      length-test c s
+      length-test c (length s)
       ∷ (13, leb (length (c .edges)) e)
       ∷ (15, short c L (length work) || ltb (length result) (length (c .edges)))
       ∷ (16, not (within L (raised s e delta)))

@@ -4,11 +4,11 @@ use mathlib.Core.List.{List, [], _∷_, _++_}
 use mathlib.Core.Bool.{Bool, not}
 use mathlib.Core.Path.{_≡_}
 use mathlib.Core.Logic.{_≢_}
-use lib.Dec.{eqb}
 use lib.IntN.{ℤ}
 use lib.ListN.{length}
 use Rattle.mathematics.specs.Refusals.{first, Outcome, value, refused, outcome, written}
 use Rattle.complex.specs.Complex.{Complex}
+use Rattle.gauss_law.specs.Law.{length-test}
 use Rattle.walker.specs.Enumeration.{states, basis-tests, short, basis-first}
 use Rattle.hilbert.specs.declared.index.Index.{Index}
 use Rattle.hilbert.specs.declared.index.Index.the-variants.{Place, NotInBasis, Refused}
@@ -20,13 +20,9 @@ indexAnswer (Place p) = value p
 indexAnswer NotInBasis = refused 17
 indexAnswer (Refused n) = refused n
 
--- a configuration that is not as long as the list of edges
-abbrev pub length-test : Complex → List ℤ → ℕ × Bool
-length-test c s = (12, not (eqb (length s) (length (c .edges))))
-
 -- 4, 5, 7 to 10, then 12, 15 for a list that has too few entries for the basis, and 17
 unfoldable pub index-refusal : Complex → ℕ → List ℤ → ℕ → ℕ
-index-refusal c L s room = first (basis-tests c L ++ (length-test c s ∷ (15, short c L room) ∷ (17, not (in-basis c L s)) ∷ []))
+index-refusal c L s room = first (basis-tests c L ++ (length-test c (length s) ∷ (15, short c L room) ∷ (17, not (in-basis c L s)) ∷ []))
 
 -- the place of the configuration is told, 17 by a case of its own, and the list begins with the basis, which is no longer than the limit
 pub record Indexed (c : Complex) (L : ℕ) (s old new : List ℤ) (r : Index) : Type 0 where

@@ -10,11 +10,12 @@ use lib.ListN.{length, drop}
 use Rattle.mathematics.specs.Refusals.{first, outcome, written}
 use Rattle.complex.specs.Complex.{Complex}
 use Rattle.gauss_law.specs.Shifts.{raised, shifted}
+use Rattle.gauss_law.specs.Law.{length-test}
 use Rattle.walker.specs.Enumeration.{states, basis-tests, short, basis-first}
 use Rattle.hilbert.specs.declared.index.Index.{Index}
 use Rattle.hilbert.specs.declared.index.Index.the-variants.{Refused}
 use Rattle.hilbert.specs.Basis.{within, in-basis, place, At}
-use Rattle.hilbert.specs.Index.{indexAnswer, length-test}
+use Rattle.hilbert.specs.Index.{indexAnswer}
 
 -- 4, 5, 7 to 10, then 12, 13 for a number that is no edge's, 15 for a list that has too few entries for the basis or for the configuration,
 -- 16 where the edge's value leaves -L to L, and 17
@@ -22,7 +23,7 @@ unfoldable pub shift-refusal : Complex → ℕ → List ℤ → ℕ → ℤ → 
 shift-refusal c L s e delta work-room result-room =
     first (
     basis-tests c L
-    ++ (length-test c s
+    ++ (length-test c (length s)
     ∷ (13, leb (length (c .edges)) e)
     ∷ (15, short c L work-room || ltb result-room (length (c .edges)))
     ∷ (16, not (within L (raised s e delta)))

@@ -16,7 +16,8 @@ use Rattle.mathematics.specs.Counting.{below, keep}
 use Rattle.mathematics.proofs.Tests.{at-all}
 use Rattle.mathematics.proofs.Lists.{numbers-equal, listed-at, at-listed, at-distinct}
 use Rattle.mathematics.proofs.Counting.{tally, tally-listed}
-use Rattle.mathematics.proofs.Ordered.{Each, none, also, Member, front, behind, Ordered, empty, before, each-to, each-append, each-at, member-left, member-right, member-place, place-member, ordered-append, ordered-at}
+use Rattle.mathematics.specs.Entries.{Each, none, also}
+use Rattle.mathematics.proofs.Ordered.{Member, front, behind, Ordered, empty, before, each-to, each-append, each-at, member-left, member-right, member-place, place-member, ordered-append, ordered-at}
 
 -- ---- the numbers below n
 pub length-below : (n : ℕ) → length (below n) ≡ n

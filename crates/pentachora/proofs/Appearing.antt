@@ -17,7 +17,7 @@ use Rattle.mathematics.proofs.Firsts.{firsts-pass, firsts-have}
 use Rattle.mathematics.proofs.Flat.{flatMap-last, all-flatMap}
 use Rattle.complex.specs.Complex.{Simplex, start, end, entries, simplices}
 use Rattle.complex.specs.Judge.{rising, sides-listed}
-use Rattle.complex.specs.Numbering.{number, Numbered, key, Indexed, triangle-key, Keyed}
+use Rattle.complex.specs.Numbering.{number, Numbered, key, EdgeTable, triangle-key, Keyed}
 use Rattle.pentachora.specs.Pentachora.{pentachora, pentachoron-right, pentachora-right, sorted, faces}
 use Rattle.pentachora.specs.Faces.{all-faces, edge-of, triangle-of}
 use Rattle.complex.proofs.Simplices.{entries-length, simplices-length, simplex-at}
@@ -219,7 +219,7 @@ module _ (n : ℕ) (l : List ℕ) (h : Rises n l) where
         pub edges-back : map edge-of (take count keys) ≡ faces 2 l
         edges-back = rw edges-kept (map-back small-pair key edge-of edge-back (faces 2 l) faces-small)
 
-        pub edges-table : Indexed table (faces 2 l)
+        pub edges-table : EdgeTable table (faces 2 l)
         edges-table =
             record {
               long = edges-numbered .table-long;
@@ -230,7 +230,7 @@ module _ (n : ℕ) (l : List ℕ) (h : Rises n l) where
             }
 
     -- what the numbering of all triangles' keys says, over a table of the edges
-    module _ (short : length (faces 2 l) ≤ 63) (table : List ℕ) (i : Indexed table (faces 2 l)) where
+    module _ (short : length (faces 2 l) ≤ 63) (table : List ℕ) (i : EdgeTable table (faces 2 l)) where
       pub triangles-keyed : (p : ℕ) → p < length l / 5 → (j : ℕ) → j < length (choose 3 (sorted (entries l (5 * p) 5))) → Keyed table (getD (choose 3 (sorted (entries l (5 * p) 5))) j [])
       triangles-keyed p pl j jl =
           fitting-keyed n (faces 2 l) few short table i _

@@ -14,7 +14,7 @@ use Rattle.mathematics.specs.Lists.{firsts, choose}
 use Rattle.complex.specs.Complex.{entries}
 use Rattle.complex.specs.Search.{connected, Ends}
 use Rattle.complex.specs.Judge.{counts-right, rising}
-use Rattle.complex.specs.Numbering.{Numbered, key, Indexed, triangle-key, Keyed}
+use Rattle.complex.specs.Numbering.{Numbered, key, EdgeTable, triangle-key, Keyed}
 use Rattle.pentachora.specs.Pentachora.{pentachora, pentachora-right, sorted, faces, refusal-from}
 use Rattle.pentachora.specs.Faces.{all-faces, edge-of, JudgedFaces}
 use Rattle.pentachora.specs.declared.Faces.{Faces}
@@ -98,7 +98,7 @@ module _ (n : ℕ) (l : List ℕ) (edge-room triangle-room : ℕ) (some : 1 ≤ 
       short : length (faces 2 l) ≤ 63
       short = omega (arith, edges)
 
-      indexed : Indexed table (faces 2 l)
+      indexed : EdgeTable table (faces 2 l)
       indexed = edges-table n l rise few table keys count m within
 
       back : map edge-of (take count keys) ≡ faces 2 l

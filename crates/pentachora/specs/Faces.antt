@@ -46,7 +46,7 @@ outcomeOf (Counts e t) = value (e, t)
 outcomeOf (Refused k) = refused k
 
 -- from_pentachorons, in full: its answer, and what the two lent lists hold at the end
-pub record Listed (n : ℕ) (l edges₀ triangles₀ : List ℕ) (r : FromPentachorons) (edges₁ triangles₁ : List ℕ) : Type 0 where
+pub record FacesTold (n : ℕ) (l edges₀ triangles₀ : List ℕ) (r : FromPentachorons) (edges₁ triangles₁ : List ℕ) : Type 0 where
   pub answer : outcomeOf r ≡ outcome (refusal-from n l (length edges₀) (length triangles₀)) (length (faces 2 l), length (faces 3 l))
   pub edges : edges₁ ≡ written (refusal-from n l (length edges₀) (length triangles₀)) (flatten (faces 2 l) ++ drop (2 * length (faces 2 l)) edges₀) edges₀
   pub triangles : triangles₁ ≡ written (refusal-from n l (length edges₀) (length triangles₀)) (flatten (faces 3 l) ++ drop (3 * length (faces 3 l)) triangles₀) triangles₀

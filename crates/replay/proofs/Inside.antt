@@ -7,10 +7,10 @@ use borrow.Author.Tests.{leb-true}
 use lib.Dec.{eqb, leb}
 use Rattle.mathematics.proofs.Tests.{and-parts}
 use Rattle.replay.specs.declared.case.Case.{Case}
-use Rattle.replay.specs.Cases.{Laid, whole, Whole}
+use Rattle.replay.specs.Cases.{Laid, well-formed, Whole}
 
-pub inside : (n at : ℕ) (c : Case) → Laid at c → whole n c ≡ true → Whole n c × (at < c .next) × (c .next ≤ n)
-unfolding whole
+pub inside : (n at : ℕ) (c : Case) → Laid at c → well-formed n c ≡ true → Whole n c × (at < c .next) × (c .next ≤ n)
+unfolding well-formed
 inside n at c laid h =
     let p = and-parts (eqb (c .kind) 1 || eqb (c .kind) 2) (leb (c .«n_edges») 63 && (leb (c .«n_triangles») 256 && leb (c .next) n)) h in
     let q = and-parts (leb (c .«n_edges») 63) (leb (c .«n_triangles») 256 && leb (c .next) n) (p .1) in

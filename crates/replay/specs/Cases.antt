@@ -1,11 +1,18 @@
 -- How a case of the list of answers is laid out.
 use Prim.Native.Nat.{ℕ, _+_, _*_, _<_, _≤_}
-use mathlib.Core.Bool.{Bool, false, _&&_, _||_}
+use mathlib.Core.Bool.{Bool, true, false, _&&_, _||_}
 use mathlib.Core.Path.{_≡_}
 use mathlib.Core.List.{List}
 use lib.Dec.{eqb, leb}
+use lib.ListN.{take, drop}
+use Rattle.mathematics.specs.Tests.{every}
 use Rattle.mathematics.specs.Lists.{same}
 use Rattle.mathematics.specs.Refusals.{Outcome, value, refused}
+use Rattle.complex.specs.declared.SimplicialComplex.{SimplicialComplex}
+use Rattle.complex.specs.Complex.{complexOf, entries}
+use Rattle.complex.specs.Judge.{refusal}
+use Rattle.complex.specs.Sides.{sidesOutcome}
+use Rattle.sheet.specs.Sheet.{padded}
 use Rattle.replay.specs.declared.case.Case.{Case}
 use Rattle.replay.specs.declared.walk.Replayed.{Replayed}
 use Rattle.replay.specs.declared.walk.Replayed.the-variants.{Cases, Malformed}
@@ -20,8 +27,8 @@ pub record Laid (at : ℕ) (c : Case) : Type 0 where
   pub next : c .next ≡ c .sides + 3 * c .«n_triangles»
 
 -- there is such a kind, the counts are in their ranges, and the case ends within a list of the given length
-unfoldable pub whole : ℕ → Case → Bool
-whole n c = (eqb (c .kind) 1 || eqb (c .kind) 2) && (leb (c .«n_edges») 63 && (leb (c .«n_triangles») 256 && leb (c .next) n))
+unfoldable pub well-formed : ℕ → Case → Bool
+well-formed n c = (eqb (c .kind) 1 || eqb (c .kind) 2) && (leb (c .«n_edges») 63 && (leb (c .«n_triangles») 256 && leb (c .next) n))
 
 -- the fields lie within a list of the given length
 pub record Whole (n : ℕ) (c : Case) : Type 0 where
@@ -37,6 +44,22 @@ pub record Whole (n : ℕ) (c : Case) : Type 0 where
 unfoldable pub agrees : Outcome (List ℕ) → List ℕ → Bool
 agrees (value s) l = same s l
 agrees (refused n) l = false
+
+-- the complex of a case
+unfoldable pub complexAt : List ℕ → Case → SimplicialComplex
+complexAt list c =
+    record {
+      «n_vertices» = c .«n_vertices»;
+      «n_edges» = c .«n_edges»;
+      edges = padded 126 (take (2 * c .«n_edges») (drop (c .edges) list));
+      «n_triangles» = c .«n_triangles»;
+      triangles = padded 768 (take (3 * c .«n_triangles») (drop (c .triangles) list));
+    }
+
+-- what is told of a case that does not differ: its complex is accepted, and the edges of its triangles are the recorded ones
+pub record Agreed (list : List ℕ) (c : Case) : Type 0 where
+  pub accepted : refusal (complexOf (complexAt list c)) ≡ 0
+  pub sides : every (λ t. agrees (sidesOutcome (complexOf (complexAt list c)) t) (entries list (c .sides + 3 * t) 3)) (c .«n_triangles») ≡ true
 
 -- what the walk says of a list of the given length
 abbrev pub Told : ℕ → Replayed → Type 0

@@ -3,7 +3,7 @@ use complex::judge::byte;
 ghost use mathlib.Core.Path.{_≡_};
 ghost use Prim.Native.Nat.{ℕ, _+_, _<_, _≤_};
 ghost use lib.ListN.{length, getD};
-ghost use Rattle.replay.specs.Cases.{Laid, whole};
+ghost use Rattle.replay.specs.Cases.{Laid, well-formed};
 
 // Each list by its place and the number of its simplices; behind the triangles the numbers of their edges.
 pub struct Case {
@@ -76,7 +76,7 @@ pub fn case_at(list: &[u8], at: usize) -> Case
 
 // Whether there is such a kind, the counts are in their ranges and the case ends within the list.
 pub fn is_whole(list: &[u8], c: Case) -> bool
-    ensures { λ r. ⌜ r ≡ whole (length (now (list .entry))) c ⌝ }
+    ensures { λ r. ⌜ r ≡ well-formed (length (now (list .entry))) c ⌝ }
 {
     ((c.kind == 1) | (c.kind == 2))
         & ((c.n_edges <= 63) & ((c.n_triangles <= 256) & (c.next <= list.len())))

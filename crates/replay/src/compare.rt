@@ -11,12 +11,13 @@ use pentachora::from_pentachorons;
 use sheet::edges_in;
 use sheet::triangles_in;
 ghost use mathlib.Core.Path.{_≡_};
+ghost use mathlib.Core.Bool.{true};
 ghost use Prim.Native.Nat.{_+_, _*_, _≤_};
 ghost use lib.ListN.{length};
 ghost use Rattle.mathematics.specs.Tests.{every};
 ghost use Rattle.complex.specs.Complex.{complexOf, entries};
 ghost use Rattle.complex.specs.Sides.{sidesOutcome};
-ghost use Rattle.replay.specs.Cases.{agrees, Whole};
+ghost use Rattle.replay.specs.Cases.{agrees, Whole, Agreed};
 
 fn sides_same(c: SimplicialComplex, triangle: usize, list: &[u8], at: usize) -> bool
     requires { ⌜ at + 3 ≤ length (now list) ⌝ }
@@ -90,6 +91,7 @@ fn made_same(c: SimplicialComplex, list: &[u8], case: Case) -> bool
 // The complex is accepted, and every answer is the recorded one.
 pub fn case_same(list: &[u8], case: Case) -> bool
     requires { ⌜ Whole (length (now list)) case ⌝ }
+    ensures { λ r. ⌜ (r ≡ true → Agreed (now (list .entry)) case) ⌝ }
 {
     let edges = edges_in(list, case.edges, 2 * case.n_edges);
     let triangles = triangles_in(list, case.triangles, 3 * case.n_triangles);

@@ -22,6 +22,7 @@ use Rattle.complex.proofs.Judging.{truncated-passed}
 use Rattle.complex.proofs.Flattened.{flatten-simplices, simplices-flatten}
 use Rattle.sheet.specs.declared.Sheet.{Sheet}
 use Rattle.sheet.specs.declared.Reading.the-variants.{Accepted}
+use Rattle.sheet.specs.RoundTrips.{WrittenThenRead, ReadThenWritten}
 use Rattle.sheet.specs.Sheet.{word, padded, sheetIn, header-tests, reading-refusal, readAnswer, readOf, headerOf, sheetBytes}
 use Rattle.sheet.proofs.Sheets.{Header, header-of, of-header, read-accepted}
 
@@ -110,13 +111,7 @@ plain-of s h =
       truncation = p .1;
     }
 
--- what reading gives of the bytes of an accepted sheet
-pub record ReadBack (s : Sheet) (b : List ℕ) : Type 0 where
-  pub answer : readOf b .answer ≡ Accepted
-  pub complex : complexOf (readOf b .sheet .complex) ≡ complexOf (s .complex)
-  pub truncation : readOf b .sheet .lambda ≡ s .lambda
-
-pub read-written : (s : Sheet) → first (truncated-tests (complexOf (s .complex)) (s .lambda)) ≡ 0 → ReadBack s (sheetBytes (complexOf (s .complex)) (s .lambda))
+pub read-written : WrittenThenRead
 unfolding sheetIn
 read-written s h =
     let c = complexOf (s .complex) in
@@ -218,7 +213,7 @@ module _ (b : List ℕ) (bytes : (i : ℕ) → i < length b → getD b i 0 < 256
           )
 
 -- writing the sheet that was read gives the bytes again
-pub written-read : (b : List ℕ) → ((i : ℕ) → i < length b → getD b i 0 < 256) → readOf b .answer ≡ Accepted → sheetBytes (complexOf (readOf b .sheet .complex)) (readOf b .sheet .lambda) ≡ b
+pub written-read : ReadThenWritten
 unfolding readOf written sheetBytes complexOf sheetIn
 written-read b bytes h =
     let none : reading-refusal b ≡ 0 = accepted-none b h in

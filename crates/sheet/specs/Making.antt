@@ -5,6 +5,7 @@ use mathlib.Core.Bool.{Bool, not, _&&_}
 use mathlib.Core.Path.{_≡_}
 use lib.ListN.{length, drop}
 use lib.Dec.{eqb, ltb}
+use Rattle.mathematics.specs.Writing.{front}
 use Rattle.mathematics.specs.Refusals.{first, outcome, written}
 use Rattle.complex.specs.Complex.{Complex, simplices}
 use Rattle.complex.specs.Judge.{counts-right, shape-tests}
@@ -38,4 +39,4 @@ making-refusal n edges triangles lambda room =
 -- what making a sheet answers, and what it leaves in the lent list
 pub record Made (n : ℕ) (edges triangles : List ℕ) (lambda : ℕ) (before : List ℕ) (r : Written) (after : List ℕ) : Type 0 where
   pub answer : writtenAnswer r ≡ outcome (making-refusal n edges triangles lambda (length before)) (length (sheetBytes (flatComplex n edges triangles) lambda))
-  pub bytes : after ≡ written (making-refusal n edges triangles lambda (length before)) (sheetBytes (flatComplex n edges triangles) lambda ++ drop (length (sheetBytes (flatComplex n edges triangles) lambda)) before) before
+  pub bytes : after ≡ written (making-refusal n edges triangles lambda (length before)) (front (sheetBytes (flatComplex n edges triangles) lambda) before) before

@@ -6,6 +6,7 @@ use mathlib.Core.Bool.{Bool, not}
 use mathlib.Core.Path.{_≡_}
 use lib.ListN.{getD, length, take, drop, replicate}
 use lib.Dec.{eqb, ltb}
+use Rattle.mathematics.specs.Writing.{front}
 use Rattle.mathematics.specs.Lists.{same}
 use Rattle.mathematics.specs.Refusals.{first, Outcome, value, refused, outcome, written}
 use Rattle.complex.specs.declared.SimplicialComplex.{SimplicialComplex}
@@ -95,7 +96,7 @@ writtenAnswer (NotWritten n) = refused n
 -- what writing answers, and what it leaves in the lent list
 pub record WrittenOf (s : Sheet) (before : List ℕ) (r : Written) (after : List ℕ) : Type 0 where
   pub answer : writtenAnswer r ≡ outcome (writing-refusal (complexOf (s .complex)) (s .lambda) (length before)) (length (sheetBytes (complexOf (s .complex)) (s .lambda)))
-  pub bytes : after ≡ written (writing-refusal (complexOf (s .complex)) (s .lambda) (length before)) (sheetBytes (complexOf (s .complex)) (s .lambda) ++ drop (length (sheetBytes (complexOf (s .complex)) (s .lambda))) before) before
+  pub bytes : after ≡ written (writing-refusal (complexOf (s .complex)) (s .lambda) (length before)) (front (sheetBytes (complexOf (s .complex)) (s .lambda)) before) before
 
 -- what the writer of the bytes asks: counts in their ranges, and room
 pub record Writable (s : Sheet) (out : List ℕ) : Type 0 where

@@ -9,7 +9,8 @@ use lib.Count.{ones}
 use lib.Dec.{eqb}
 use lib.Ieee.{Float, binary64, add, mul}
 use lib.Pow.{pow-mono}
-use lib.ListN.{getD, length, drop, List·getD-append}
+use lib.ListN.{getD, length, List·getD-append}
+use Rattle.mathematics.specs.Writing.{front}
 use Rattle.complex.specs.Complex.{Complex}
 use Rattle.complex.specs.Judge.{Accepted}
 use Rattle.complex.specs.Sides.{sides}
@@ -85,6 +86,6 @@ module _ (c : Complex) (accepted : Accepted c) where
         ∙ ap (λ (m : ℕ). su2-entry c p w m i j) (sym (add-one t)))
 
     -- all entries
-    pub matrix-written : (w : ℕ → Float) → Matrix (su2-entry c p w (length (c .triangles))) n old new → n * n ≤ length old → new ≡ su2-dense c p w ++ drop (n * n) old
+    pub matrix-written : (w : ℕ → Float) → Matrix (su2-entry c p w (length (c .triangles))) n old new → n * n ≤ length old → new ≡ front (su2-dense c p w) old
     unfolding su2-dense
-    matrix-written w m room = matrix-is _ n old new m room ∙ ap (λ (k : ℕ). rows (su2-entry c p w (length (c .triangles))) k ++ drop (n * n) old) number
+    matrix-written w m room = matrix-is _ n old new m room ∙ ap (λ (k : ℕ). front (rows (su2-entry c p w (length (c .triangles))) k) old) number

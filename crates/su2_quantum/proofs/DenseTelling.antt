@@ -10,6 +10,7 @@ use lib.Ieee.{Float}
 use lib.Pow.{pow-mono}
 use lib.ListN.{length, drop}
 use Rattle.mathematics.specs.Tests.{all}
+use Rattle.mathematics.specs.Writing.{front}
 use Rattle.mathematics.specs.Refusals.{first, value, outcome, written}
 use Rattle.mathematics.proofs.Refusals.{numbered, first-stops, first-goes-on, refused-outcome, refused-kept}
 use Rattle.mathematics.proofs.Tests.{or-fell}
@@ -99,7 +100,7 @@ module _ (c : SimplicialComplex) (p : KSParams) (given : Bool) (weights : List F
         room-refused h = refused-built 15 (by-room ∙ rw h) (λ z. omega arith)
 
         pub matrix-built : (ltb (length work) (2 ^ f .count) || ltb (length result) (2 ^ f .count * 2 ^ f .count)) ≡ false → (r : ℕ) (work′ : List ℕ) (result′ : List Float) → r ≡ 2 ^ f .count
-            → work′ ≡ su2-states (complexOf c) ++ drop (2 ^ f .count) work → result′ ≡ su2-dense (complexOf c) p (weight given weights) ++ drop (2 ^ f .count * 2 ^ f .count) result
+            → work′ ≡ su2-states (complexOf c) ++ drop (2 ^ f .count) work → result′ ≡ front (su2-dense (complexOf c) p (weight given weights)) result
             → Su2Built (complexOf c) p given weights work result (States r) work′ result′
         unfolding enumeratedAnswer outcome written
         matrix-built room r work′ result′ number states entries =
@@ -108,6 +109,6 @@ module _ (c : SimplicialComplex) (p : KSParams) (given : Bool) (weights : List F
             record {
               answer = rw none-left (ap value (number ∙ sym many));
               work-list = rw (none-left, many) states;
-              result-list = rw (none-left, many) entries;
+              result-list = rw none-left entries;
               few = λ z. rw many (pow-mono few);
             }

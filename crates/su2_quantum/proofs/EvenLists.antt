@@ -14,7 +14,8 @@ use lib.ListN.{getD, length}
 use Rattle.mathematics.specs.Bits.{bit}
 use Rattle.mathematics.specs.Counting.{below, keep}
 use Rattle.mathematics.proofs.Bits.{bit-below, bit-of-zero, bit-xor, same-bits}
-use Rattle.mathematics.proofs.Ordered.{Each, Member, Ordered, each-member, member-place, place-member, ordered-at, at-ordered, keep-passes, keep-each, keep-ordered, keep-member, kept-front, same-members}
+use Rattle.mathematics.specs.Entries.{Each}
+use Rattle.mathematics.proofs.Ordered.{Member, Ordered, each-member, member-place, place-member, ordered-at, at-ordered, keep-passes, keep-each, keep-ordered, keep-member, kept-front, same-members}
 use Rattle.mathematics.proofs.Below.{below-each, below-ordered, below-member}
 use Rattle.complex.specs.Complex.{Complex}
 use Rattle.complex.specs.Judge.{Accepted}

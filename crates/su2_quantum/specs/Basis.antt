@@ -1,9 +1,11 @@
 -- What su2_basis tells, and what its list then holds.
 use Prim.Native.Nat.{ℕ, _^_, _≤_}
 use mathlib.Core.List.{List, [], _∷_, _++_}
+use mathlib.Core.Bool.{Bool}
 use mathlib.Core.Path.{_≡_}
 use lib.Dec.{ltb}
 use lib.ListN.{length, drop}
+use Rattle.mathematics.specs.Writing.{front}
 use Rattle.mathematics.specs.Refusals.{first, outcome, written}
 use Rattle.complex.specs.Complex.{Complex}
 use Rattle.complex.specs.Judge.{counts-test, shape-tests}
@@ -12,14 +14,17 @@ use Rattle.walker.specs.declared.enumerate.Enumerated.{Enumerated}
 use Rattle.walker.specs.Enumeration.{enumeratedAnswer}
 use Rattle.su2_quantum.specs.EvenSets.{su2-states, EvenComplete}
 
--- 4, 7 to 9, then 10 where 2 to the number of free edges is over the limit, and 15 where the list has too few entries
+-- what is judged before the masks are listed: 4, 7 to 9, and 10 where 2 to the number of free edges is over the limit
+abbrev pub su2-tests : Complex → List (ℕ × Bool)
+su2-tests c = (counts-test c ∷ shape-tests c) ++ ((10, ltb 1048576 (2 ^ length (free-edges c))) ∷ [])
+
+-- these, then 15 where the list has too few entries
 unfoldable pub su2-refusal : Complex → ℕ → ℕ
-su2-refusal c room =
-    first ((counts-test c ∷ shape-tests c) ++ ((10, ltb 1048576 (2 ^ length (free-edges c))) ∷ (15, ltb room (length (su2-states c))) ∷ []))
+su2-refusal c room = first (su2-tests c ++ ((15, ltb room (length (su2-states c))) ∷ []))
 
 -- the number of states is told, and the list begins with the masks, ascending; it is complete, and no longer than the limit
 pub record Su2Listed (c : Complex) (old new : List ℕ) (r : Enumerated) : Type 0 where
   pub answer : enumeratedAnswer r ≡ outcome (su2-refusal c (length old)) (length (su2-states c))
-  pub list : new ≡ written (su2-refusal c (length old)) (su2-states c ++ drop (length (su2-states c)) old) old
+  pub list : new ≡ written (su2-refusal c (length old)) (front (su2-states c) old) old
   pub complete : su2-refusal c (length old) ≡ 0 → EvenComplete c (su2-states c)
   pub few : su2-refusal c (length old) ≡ 0 → length (su2-states c) ≤ 1048576

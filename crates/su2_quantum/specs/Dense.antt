@@ -8,10 +8,9 @@ use lib.Count.{ones}
 use lib.Dec.{eqb, ltb}
 use lib.Ieee.{Float, binary64, add, mul}
 use lib.ListN.{getD, length, drop}
+use Rattle.mathematics.specs.Writing.{front}
 use Rattle.mathematics.specs.Refusals.{first, outcome, written}
 use Rattle.complex.specs.Complex.{Complex}
-use Rattle.complex.specs.Judge.{counts-test, shape-tests}
-use Rattle.gauss_law.specs.Listing.{free-edges}
 use Rattle.gauss_law.specs.Shifts.{side}
 use Rattle.walker.specs.declared.enumerate.Enumerated.{Enumerated}
 use Rattle.walker.specs.Enumeration.{enumeratedAnswer}
@@ -21,6 +20,7 @@ use Rattle.hamiltonian.specs.Weights.{weight, weights-tests}
 use Rattle.hamiltonian.specs.Matrix.{rows}
 use Rattle.su2_quantum.specs.declared.forest.Forest.{Forest}
 use Rattle.su2_quantum.specs.EvenSets.{su2-states, mask-place}
+use Rattle.su2_quantum.specs.Basis.{su2-tests}
 use Rattle.su2_quantum.specs.Place.{LoopsOf}
 
 -- the three edges of triangle t as a mask
@@ -44,23 +44,22 @@ su2-entry c p w (suc t) i j = cond (flips c t i j) (add binary64 (su2-entry c p 
 unfoldable pub su2-dense : Complex → KSParams → (ℕ → Float) → List Float
 su2-dense c p w = rows (su2-entry c p w (length (c .triangles))) (length (su2-states c))
 
--- 4, 7 to 10 as for the basis, then 12 and 14 for the weights and the coupling, and 15 where the list of states or that of entries is too short
+-- 4 and 7 to 10 as for the basis, then 12 and 14 for the weights and the coupling, and 15 where the list of states or that of entries is too short
 unfoldable pub su2-dense-refusal : Complex → KSParams → Bool → List Float → ℕ → ℕ → ℕ
 su2-dense-refusal c p given weights work-room result-room =
     first (
-    (counts-test c ∷ shape-tests c)
-    ++ ((10, ltb 1048576 (2 ^ length (free-edges c)))
-    ∷ (weights-tests (length (c .triangles)) (su2-right p) given weights
-    ++ ((15, ltb work-room (length (su2-states c)) || ltb result-room (length (su2-states c) * length (su2-states c))) ∷ [])))
+    su2-tests c
+    ++ (weights-tests (length (c .triangles)) (su2-right p) given weights
+    ++ ((15, ltb work-room (length (su2-states c)) || ltb result-room (length (su2-states c) * length (su2-states c))) ∷ []))
     )
 
 -- the number of states is told, one list begins with the states, ascending, and the other with the matrix; on a refusal both are as they were
 pub record Su2Built (c : Complex) (p : KSParams) (given : Bool) (weights : List Float) (work : List ℕ) (result : List Float) (r : Enumerated) (work′ : List ℕ) (result′ : List Float) : Type 0 where
   pub answer : enumeratedAnswer r ≡ outcome (su2-dense-refusal c p given weights (length work) (length result)) (length (su2-states c))
-  pub work-list : work′ ≡ written (su2-dense-refusal c p given weights (length work) (length result)) (su2-states c ++ drop (length (su2-states c)) work) work
+  pub work-list : work′ ≡ written (su2-dense-refusal c p given weights (length work) (length result)) (front (su2-states c) work) work
   pub result-list : result′
       ≡ written (su2-dense-refusal c p given weights (length work) (length result))
-      (su2-dense c p (weight given weights) ++ drop (length (su2-states c) * length (su2-states c)) result) result
+      (front (su2-dense c p (weight given weights)) result) result
   pub few : su2-dense-refusal c p given weights (length work) (length result) ≡ 0 → length (su2-states c) ≤ 1048576
 
 -- ---- as the code keeps it

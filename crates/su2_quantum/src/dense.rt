@@ -20,7 +20,8 @@ ghost use Prim.Native.Nat.{ℕ, _+_, _*_, _^_, _<_, _≤_};
 ghost use lib.Bits.{bitXor};
 ghost use lib.Count.{ones};
 ghost use lib.Ieee.{Float, binary64, mul};
-ghost use lib.ListN.{getD, length, drop};
+ghost use lib.ListN.{getD, length};
+ghost use Rattle.mathematics.specs.Writing.{front};
 ghost use Rattle.complex.specs.Complex.{complexOf};
 ghost use Rattle.hamiltonian.specs.declared.coupling.KSParams.{KSParams};
 ghost use Rattle.hamiltonian.specs.Coupling.{whole};
@@ -110,7 +111,7 @@ fn write_matrix(
     states: &[u64],
 )
     requires { ⌜ MatrixOf (complexOf c) f n (length (now h)) × Weighed (complexOf c) given (now weights) × ((rest : List ℕ) × (now states ≡ su2-states (complexOf c) ++ rest)) ⌝ }
-    ensures { λ _. ⌜ now (h .exit) ≡ su2-dense (complexOf c) p (weight given (now (weights .entry))) ++ drop (n * n) (now (h .entry)) ⌝ }
+    ensures { λ _. ⌜ now (h .exit) ≡ front (su2-dense (complexOf c) p (weight given (now (weights .entry)))) (now (h .entry)) ⌝ }
 {
     clear_matrix(h, n);
     add_energies(h, n, p.electric, states);

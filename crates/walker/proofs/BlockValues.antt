@@ -10,7 +10,8 @@ use lib.IntN.{ℤ, pos, natAbs}
 use lib.ListN.{getD, length, List·getD-eq-default}
 use borrow.Author.Tests.{leb-true}
 use Rattle.mathematics.proofs.Tests.{all-at}
-use Rattle.mathematics.proofs.Ordered.{Each, keep-passes, each-at}
+use Rattle.mathematics.specs.Entries.{Each}
+use Rattle.mathematics.proofs.Ordered.{keep-passes, each-at}
 use Rattle.walker.specs.Cycles.{added}
 use Rattle.walker.specs.Walker.{rows, block}
 use Rattle.walker.specs.Steps.{Small}

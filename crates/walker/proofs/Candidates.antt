@@ -16,7 +16,8 @@ use Rattle.mathematics.specs.Lists.{place}
 use Rattle.mathematics.specs.Tests.{all}
 use Rattle.mathematics.specs.Counting.{keep, counted}
 use Rattle.mathematics.proofs.Tests.{all-at, at-all}
-use Rattle.mathematics.proofs.Ordered.{Each, Member, Ordered, each-to, each-all, each-both, each-map, place-member, member-map, ordered-map, ordered-to, keep-passes, keep-each, keep-member, keep-ordered}
+use Rattle.mathematics.specs.Entries.{Each}
+use Rattle.mathematics.proofs.Ordered.{Member, Ordered, each-to, each-all, each-both, each-map, place-member, member-map, ordered-map, ordered-to, keep-passes, keep-each, keep-member, keep-ordered}
 use Rattle.mathematics.proofs.Below.{map-at, member-listed, same-place, place-at}
 use Rattle.mathematics.proofs.Digits.{Smaller, counted-each, counted-member, counted-ordered}
 use Rattle.complex.specs.Complex.{Complex}

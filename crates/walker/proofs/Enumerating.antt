@@ -85,14 +85,11 @@ module _ (c : Complex) (L : ℕ) where
     unfolding short
     short-told room = rw (basis .listed, basis .walks .edges)
 
-    states-flat : length (flatten (states c L)) ≡ length (states c L) * length (c .edges)
-    states-flat = rw (basis .listed, basis .walks .edges) at (states-of-long w L blocks (basis .fit))
-
     pub basis-written : (old new : List ℤ) (r : ℕ) → Written (states-of w L blocks) old new r → (r ≡ length (states c L)) × (new ≡ basis-first c L old)
     unfolding basis-first
     basis-written old new r h = (
       h .count ∙ ap length (basis .listed),
-      h .list ∙ ap (λ l. put old 0 (flatten l)) (basis .listed) ∙ put-front old (flatten (states c L)) ∙ ap (λ n. flatten (states c L) ++ drop n old) states-flat,
+      h .list ∙ ap (λ l. put old 0 (flatten l)) (basis .listed) ∙ put-front old (flatten (states c L)),
     )
 
   -- ---- the enumeration

@@ -5,7 +5,8 @@ use mathlib.Core.Bool.{Bool}
 use mathlib.Core.Path.{_≡_}
 use lib.Dec.{ltb}
 use lib.IntN.{ℤ, pos}
-use lib.ListN.{length, drop}
+use lib.ListN.{length}
+use Rattle.mathematics.specs.Writing.{front}
 use Rattle.mathematics.specs.Refusals.{first, Outcome, value, refused, outcome, written}
 use Rattle.complex.specs.Complex.{Complex}
 use Rattle.complex.specs.Judge.{truncated-tests}
@@ -39,7 +40,7 @@ short c L room = ltb room (length (states c L) * length (c .edges))
 
 -- what a list holds that begins with the basis
 unfoldable pub basis-first : Complex → ℕ → List ℤ → List ℤ
-basis-first c L old = flatten (states c L) ++ drop (length (states c L) * length (c .edges)) old
+basis-first c L old = front (flatten (states c L)) old
 
 -- 4, 5, 7 to 10, then 15 for a list that has too few entries
 unfoldable pub enumerated-refusal : Complex → ℕ → ℕ → ℕ

@@ -21,7 +21,7 @@ use Rattle.sheet.proofs.Makings.{made-small}
 use Rattle.pentachora.specs.declared.FromPentachorons.{FromPentachorons}
 use Rattle.pentachora.specs.declared.FromPentachorons.the-variants.{Counts, Refused as NoComplex}
 use Rattle.pentachora.specs.Pentachora.{faces, complexFrom, refusal-from}
-use Rattle.pentachora.specs.Faces.{outcomeOf, Listed}
+use Rattle.pentachora.specs.Faces.{outcomeOf, FacesTold}
 use Rattle.pentachora.proofs.Making.{from-accepted}
 use Rattle.gauss_law.specs.declared.spanning.SpanningTreeAnswer.{SpanningTreeAnswer}
 use Rattle.gauss_law.specs.declared.law.GaussCheck.{GaussCheck}
@@ -30,7 +30,7 @@ use Rattle.gauss_law.specs.Listing.{free-edges}
 use Rattle.gauss_law.specs.Spanning.{treeAnswer, tree-refusal, TreeTold}
 use Rattle.gauss_law.specs.Law.{lawAnswer, law-refusal, lawOutcome}
 use Rattle.walker.specs.declared.enumerate.Enumerated.{Enumerated}
-use Rattle.walker.specs.Enumeration.{enumeratedAnswer, Listed as AllListed}
+use Rattle.walker.specs.Enumeration.{enumeratedAnswer, Listed}
 use Rattle.zibrotka.specs.declared.Told.{Told}
 use Rattle.zibrotka.specs.declared.Opened.{Opened}
 use Rattle.zibrotka.specs.declared.Edges.{Edges}
@@ -106,7 +106,7 @@ module _ (b : List ℕ) (t : ℕ) (before : List ℕ) (o : Opened) (read : Opene
 
 -- ---- pentachora
 module _ (n : ℕ) (l es ts : List ℕ) (t : ℕ) (es′ ts′ : List ℕ) where
-  no-complex-of : (a : FromPentachorons) → Listed n l es ts a es′ ts′ → (numbersOf a .refusal ≡ 0 → ⊥) → (r : ℤ) → r ≡ negℤ (pos (numbersOf a .refusal)) → Pentachora n l es ts t r es′ ts′ t
+  no-complex-of : (a : FromPentachorons) → FacesTold n l es ts a es′ ts′ → (numbersOf a .refusal ≡ 0 → ⊥) → (r : ℤ) → r ≡ negℤ (pos (numbersOf a .refusal)) → Pentachora n l es ts t r es′ ts′ t
   unfolding numbersOf outcomeOf
   no-complex-of (Counts e f) h some r is = absurd (some refl)
   no-complex-of (NoComplex k) h some r is =
@@ -118,7 +118,7 @@ module _ (n : ℕ) (l es ts : List ℕ) (t : ℕ) (es′ ts′ : List ℕ) where
         triangle-count = refused-kept (refusal-from n l (length es) (length ts)) k (length (faces 3 l)) t (sym e) some;
       }
 
-  counts-told : (a : FromPentachorons) → Listed n l es ts a es′ ts′ → numbersOf a .refusal ≡ 0 → (refusal-from n l (length es) (length ts) ≡ 0) × (numbersOf a .edges ≡ length (faces 2 l)) × (numbersOf a .triangles ≡ length (faces 3 l))
+  counts-told : (a : FromPentachorons) → FacesTold n l es ts a es′ ts′ → numbersOf a .refusal ≡ 0 → (refusal-from n l (length es) (length ts) ≡ 0) × (numbersOf a .edges ≡ length (faces 2 l)) × (numbersOf a .triangles ≡ length (faces 3 l))
   unfolding numbersOf outcomeOf
   counts-told (Counts e f) h none =
       let p = value-none (e, f) (refusal-from n l (length es) (length ts)) (length (faces 2 l), length (faces 3 l)) (h .answer) in
@@ -126,12 +126,12 @@ module _ (n : ℕ) (l es ts : List ℕ) (t : ℕ) (es′ ts′ : List ℕ) where
   counts-told (NoComplex k) h none =
       absurd (refused-some k (refusal-from n l (length es) (length ts)) (length (faces 2 l), length (faces 3 l)) (h .answer) none)
 
-  pub no-complex : (a : FromPentachorons) → Listed n l es ts a es′ ts′ → (s : Numbers) → s ≡ numbersOf a → (s .refusal ≡ 0 → ⊥) → (r : ℤ) → r ≡ negℤ (pos (s .refusal)) → Pentachora n l es ts t r es′ ts′ t
+  pub no-complex : (a : FromPentachorons) → FacesTold n l es ts a es′ ts′ → (s : Numbers) → s ≡ numbersOf a → (s .refusal ≡ 0 → ⊥) → (r : ℤ) → r ≡ negℤ (pos (s .refusal)) → Pentachora n l es ts t r es′ ts′ t
   no-complex a h s is some r told =
       let k : s .refusal ≡ numbersOf a .refusal = ap (λ (q : Numbers). q .refusal) is in
       no-complex-of a h (λ (z : numbersOf a .refusal ≡ 0). some (k ∙ z)) r (told ∙ ap (λ (n : ℕ). negℤ (pos n)) k)
 
-  pub few-edges : (a : FromPentachorons) → Listed n l es ts a es′ ts′ → (s : Numbers) → s ≡ numbersOf a → s .refusal ≡ 0 → s .edges < 2 ^ 31
+  pub few-edges : (a : FromPentachorons) → FacesTold n l es ts a es′ ts′ → (s : Numbers) → s ≡ numbersOf a → s .refusal ≡ 0 → s .edges < 2 ^ 31
   unfolding complexFrom
   few-edges a h s is none =
       let p = counts-told a h (sym (ap (λ (q : Numbers). q .refusal) is) ∙ none) in
@@ -140,7 +140,7 @@ module _ (n : ℕ) (l es ts : List ℕ) (t : ℕ) (es′ ts′ : List ℕ) where
       let e : s .edges ≡ length (faces 2 l) = ap (λ (q : Numbers). q .edges) is ∙ p .1 in
       omega arith
 
-  pub complex-told : (a : FromPentachorons) → Listed n l es ts a es′ ts′ → (s : Numbers) → s ≡ numbersOf a → s .refusal ≡ 0 → (r : ℤ) → r ≡ pos (s .edges) → Pentachora n l es ts t r es′ ts′ (s .triangles)
+  pub complex-told : (a : FromPentachorons) → FacesTold n l es ts a es′ ts′ → (s : Numbers) → s ≡ numbersOf a → s .refusal ≡ 0 → (r : ℤ) → r ≡ pos (s .edges) → Pentachora n l es ts t r es′ ts′ (s .triangles)
   unfolding signed outcome written
   complex-told a h s is none r told =
       let p = counts-told a h (sym (ap (λ (q : Numbers). q .refusal) is) ∙ none) in
@@ -212,8 +212,8 @@ module _ (b : List ℕ) (old : List ℤ) (o : Opened) (read : OpenedOf b o) wher
         complete = λ z. absurd (stopped b o read some _ z);
       }
 
-  module _ (none : o .refusal ≡ 0) (a : Enumerated) (new : List ℤ) (given : AllListed (complexOf (o .sheet .complex)) (o .sheet .lambda) old new a) where
-    states-held : AllListed (complexIn b) (sheetIn b .lambda) old new a
+  module _ (none : o .refusal ≡ 0) (a : Enumerated) (new : List ℤ) (given : Listed (complexOf (o .sheet .complex)) (o .sheet .lambda) old new a) where
+    states-held : Listed (complexIn b) (sheetIn b .lambda) old new a
     states-held = rw (sheet-held b o read none) at given
 
     pub states-told : (t : Told) → t ≡ toldOf (enumeratedAnswer a) → (r : ℤ) → r ≡ signedOf t → States b old r new

@@ -7,6 +7,7 @@ use lib.IntN.{ℤ, pos, negℤ}
 use lib.Ieee.{Float}
 use lib.ListN.{length, drop}
 use lib.Dec.{eqb}
+use Rattle.mathematics.specs.Writing.{front}
 use Rattle.mathematics.specs.Refusals.{Outcome, value, refused, outcome, written}
 use Rattle.complex.specs.declared.triangle.TriEdgeIndices.{TriEdgeIndices as Indexes}
 use Rattle.complex.specs.declared.triangle.TriEdgeIndices.the-variants.{Indices, Refused as NoTriangle}
@@ -82,7 +83,7 @@ numbersOf (NoComplex n) = record { refusal = n; edges = 0; triangles = 0 }
 -- zibrotka_make_sheet
 pub record MakeSheet (n : ℕ) (edges triangles : List ℕ) (lambda : ℕ) (before : List ℕ) (r : ℤ) (after : List ℕ) : Type 0 where
   pub answer : r ≡ signed (outcome (making-refusal n edges triangles lambda (length before)) (length (sheetBytes (flatComplex n edges triangles) lambda)))
-  pub bytes : after ≡ written (making-refusal n edges triangles lambda (length before)) (sheetBytes (flatComplex n edges triangles) lambda ++ drop (length (sheetBytes (flatComplex n edges triangles) lambda)) before) before
+  pub bytes : after ≡ written (making-refusal n edges triangles lambda (length before)) (front (sheetBytes (flatComplex n edges triangles) lambda) before) before
 
 -- zibrotka_read_sheet: the numbers and lists hold the sheet's, or on a refusal what they held
 pub record ReadSheet (b : List ℕ) (v e t l : ℕ) (edges triangles : List ℕ) (r : ℤ) (v′ e′ t′ l′ : ℕ) (edges′ triangles′ : List ℕ) : Type 0 where
@@ -117,8 +118,8 @@ pub record Pentachora (n : ℕ) (l edges triangles : List ℕ) (t : ℕ) (r : �
 -- zibrotka_spanning_tree
 pub record SpanningTree (b tree free : List ℕ) (r : ℤ) (tree′ free′ : List ℕ) : Type 0 where
   pub answer : r ≡ signed (outcome (after-sheet b (tree-refusal (complexIn b) (length tree) (length free))) (length (free-edges (complexIn b))))
-  pub tree-list : tree′ ≡ written (after-sheet b (tree-refusal (complexIn b) (length tree) (length free))) (tree-edges (complexIn b) ++ drop (length (tree-edges (complexIn b))) tree) tree
-  pub free-list : free′ ≡ written (after-sheet b (tree-refusal (complexIn b) (length tree) (length free))) (free-edges (complexIn b) ++ drop (length (free-edges (complexIn b))) free) free
+  pub tree-list : tree′ ≡ written (after-sheet b (tree-refusal (complexIn b) (length tree) (length free))) (front (tree-edges (complexIn b)) tree) tree
+  pub free-list : free′ ≡ written (after-sheet b (tree-refusal (complexIn b) (length tree) (length free))) (front (free-edges (complexIn b)) free) free
 
 -- zibrotka_check_gauss_law
 pub record GaussLaw (b : List ℕ) (s : List ℤ) (r : ℤ) : Type 0 where
@@ -152,7 +153,7 @@ pub record TrianglePlaces (b : List ℕ) (t k : ℕ) (old : List ℤ) (r : ℤ) 
 -- zibrotka_su2_basis: the list begins with all masks, ascending
 pub record Masks (b old : List ℕ) (r : ℤ) (new : List ℕ) : Type 0 where
   pub answer : r ≡ signed (outcome (after-sheet b (su2-refusal (complexIn b) (length old))) (length (su2-states (complexIn b))))
-  pub list : new ≡ written (after-sheet b (su2-refusal (complexIn b) (length old))) (su2-states (complexIn b) ++ drop (length (su2-states (complexIn b))) old) old
+  pub list : new ≡ written (after-sheet b (su2-refusal (complexIn b) (length old))) (front (su2-states (complexIn b)) old) old
   pub complete : after-sheet b (su2-refusal (complexIn b) (length old)) ≡ 0 → EvenComplete (complexIn b) (su2-states (complexIn b))
 
 -- 0 for a record
@@ -178,10 +179,10 @@ pub record Params (g² : Float) (own : KSParams) (before : List Float) (r : ℤ)
 pub record Matrices (b : List ℕ) (p : KSParams) (given : Bool) (weights : List Float) (work : List ℤ) (result : List Float) (r : ℤ) (work′ : List ℤ) (result′ : List Float) : Type 0 where
   pub answer : r ≡ signed (outcome (after-sheet b (dense-refusal (complexIn b) (sheetIn b .lambda) p given weights (length work) (length result))) (length (states (complexIn b) (sheetIn b .lambda))))
   pub work-list : work′ ≡ written (after-sheet b (dense-refusal (complexIn b) (sheetIn b .lambda) p given weights (length work) (length result))) (basis-first (complexIn b) (sheetIn b .lambda) work) work
-  pub result-list : result′ ≡ written (after-sheet b (dense-refusal (complexIn b) (sheetIn b .lambda) p given weights (length work) (length result))) (dense (complexIn b) (sheetIn b .lambda) p (weight given weights) ++ drop (length (states (complexIn b) (sheetIn b .lambda)) * length (states (complexIn b) (sheetIn b .lambda))) result) result
+  pub result-list : result′ ≡ written (after-sheet b (dense-refusal (complexIn b) (sheetIn b .lambda) p given weights (length work) (length result))) (front (dense (complexIn b) (sheetIn b .lambda) p (weight given weights)) result) result
 
 -- zibrotka_build_su2_hamiltonian: the number of states, and the lists begin with all masks and with the matrix
 pub record Su2Matrices (b : List ℕ) (p : KSParams) (given : Bool) (weights : List Float) (work : List ℕ) (result : List Float) (r : ℤ) (work′ : List ℕ) (result′ : List Float) : Type 0 where
   pub answer : r ≡ signed (outcome (after-sheet b (su2-dense-refusal (complexIn b) p given weights (length work) (length result))) (length (su2-states (complexIn b))))
-  pub work-list : work′ ≡ written (after-sheet b (su2-dense-refusal (complexIn b) p given weights (length work) (length result))) (su2-states (complexIn b) ++ drop (length (su2-states (complexIn b))) work) work
-  pub result-list : result′ ≡ written (after-sheet b (su2-dense-refusal (complexIn b) p given weights (length work) (length result))) (su2-dense (complexIn b) p (weight given weights) ++ drop (length (su2-states (complexIn b)) * length (su2-states (complexIn b))) result) result
+  pub work-list : work′ ≡ written (after-sheet b (su2-dense-refusal (complexIn b) p given weights (length work) (length result))) (front (su2-states (complexIn b)) work) work
+  pub result-list : result′ ≡ written (after-sheet b (su2-dense-refusal (complexIn b) p given weights (length work) (length result))) (front (su2-dense (complexIn b) p (weight given weights)) result) result

@@ -10,7 +10,7 @@ use Rattle.lines.specs.Lines.{stateLines}
 use Rattle.walker.specs.Cycles.{added}
 use Rattle.walker.specs.Walker.{rows}
 use Rattle.walker.proofs.Adding.{added-length}
-use Rattle.walker.proofs.Puts.{rows-none, rows-same}
+use Rattle.walker.proofs.BlockRows.{rows-none, rows-same}
 use Rattle.basis.specs.Printing.{Printed}
 use Rattle.basis.proofs.BlockLines.{lines-none, row-more}
 use borrow.Author.Needs.{needs}

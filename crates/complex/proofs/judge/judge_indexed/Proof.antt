@@ -6,7 +6,7 @@ use borrow.Author.Tests.{not-true, not-false}
 use Rattle.mathematics.specs.Tests.{all}
 use Rattle.complex.specs.declared.SimplicialComplex.{SimplicialComplex}
 use Rattle.complex.specs.Judge.{rising, simplices-right, sides-listed}
-use Rattle.complex.specs.Numbering.{Indexed, Judged}
+use Rattle.complex.specs.Numbering.{EdgeTable, Judged}
 use Rattle.complex.proofs.Accepting.{counts}
 use Rattle.complex.proofs.Judging.{counts-of, edges-of, triangles-of, wrong-counts, falling-edge, repeated-edge, edges-right, wrong-triangle, all-keyed, repeated-triangle, last-test, small-ends, searchable}
 use borrow.Author.Needs.{needs}
@@ -47,7 +47,7 @@ passed-3 : (c : tie.Else3) → simplices-right (judged-1 (to-1 (to-2 c)) .«n_ve
 passed-3 c =
     edges-right (judged-1 (to-1 (to-2 c))) (c .before .number-edges .last .1 .1 .0) (passed-1 (to-1 (to-2 c))) (passed-2 (to-2 c)) _ (c .before .number-edges .ensures .0) (c .if3 .left)
 
-index-3 : (c : tie.Else3) → Indexed (c .before .number-edges .last .1 .1 .0) (edges-of (judged-1 (to-1 (to-2 c))))
+index-3 : (c : tie.Else3) → EdgeTable (c .before .number-edges .last .1 .1 .0) (edges-of (judged-1 (to-1 (to-2 c))))
 index-3 c = c .before .number-edges .ensures .1 (c .if3 .left)
 
 passed-4 : (c : tie.Else4) → all (λ s. rising (judged-1 (to-1 (to-2 (to-3 c))) .«n_vertices») s && sides-listed (edges-of (judged-1 (to-1 (to-2 (to-3 c))))) s) (triangles-of (judged-1 (to-1 (to-2 (to-3 c))))) ≡ true

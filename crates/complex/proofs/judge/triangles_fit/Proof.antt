@@ -7,7 +7,7 @@ use native.Mathlib.Omega.{arith}
 use Rattle.mathematics.specs.Tests.{all}
 use Rattle.complex.specs.Complex.{Simplex, simplices}
 use Rattle.complex.specs.Judge.{rising, sides-listed}
-use Rattle.complex.specs.Numbering.{Indexed}
+use Rattle.complex.specs.Numbering.{EdgeTable}
 use Rattle.complex.proofs.Indexes.{all-next}
 use Rattle.complex.proofs.judge.triangles_fit.Statement.{statement}
 use Rattle.complex.proofs.judge.triangles_fit.Tie as tie
@@ -16,7 +16,7 @@ use Rattle.complex.proofs.judge.triangles_fit.Lts as lts
 use Rattle.complex.proofs.judge.triangle_fits.Reads as triangle-fits-reads
 
 abbrev Inv-loop : tie.InvT-loop
-Inv-loop triangles n table t so-far₀ i₀ so-far i = (i ≤ t) × ((es : List Simplex) → Indexed table es → so-far ≡ all (λ s. rising n s && sides-listed es s) (simplices 3 triangles i))
+Inv-loop triangles n table t so-far₀ i₀ so-far i = (i ≤ t) × ((es : List Simplex) → EdgeTable table es → so-far ≡ all (λ s. rising n s && sides-listed es s) (simplices 3 triangles i))
 
 abbrev μ-loop : tie.MeasureT-loop
 μ-loop triangles n table t so-far₀ i₀ so-far i = t - i

@@ -2,7 +2,7 @@ use Prim.Native.Nat.{_≤_, _+_, _*_, _<_}
 use mathlib.Core.Path.{_≡_, refl, sym, _∙_}
 use Rattle.complex.specs.Complex.{complexOf}
 use Rattle.complex.specs.Judge.{refusal}
-use Rattle.complex.specs.Numbering.{Indexed}
+use Rattle.complex.specs.Numbering.{EdgeTable}
 use Rattle.complex.specs.Sides.{sidesAnswer}
 use Rattle.complex.proofs.SidesFound.{record-refused, number-refused, small-triangle, sided, sides-told}
 use borrow.Author.Needs.{needs}
@@ -21,7 +21,7 @@ judge-indexed-requires c κs = search needs
 none : (c : tie.Else1) → refusal (complexOf (c .before .before .before .args .t1)) ≡ 0
 none c = sym (c .before .judge-indexed .ensures .number) ∙ c .if1 .left
 
-index-at : (c : tie.Else1) → Indexed (c .before .judge-indexed .last .1 .0) (complexOf (c .before .before .before .args .t1) .edges)
+index-at : (c : tie.Else1) → EdgeTable (c .before .judge-indexed .last .1 .0) (complexOf (c .before .before .before .args .t1) .edges)
 index-at c = c .before .judge-indexed .ensures .index (c .if1 .left)
 
 -- src/triangle.rt:45:9

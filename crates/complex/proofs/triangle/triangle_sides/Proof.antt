@@ -1,6 +1,6 @@
 use mathlib.Core.Path.{refl}
 use Rattle.complex.specs.Complex.{complexOf}
-use Rattle.complex.specs.Numbering.{Indexed}
+use Rattle.complex.specs.Numbering.{EdgeTable}
 use Rattle.complex.proofs.Accepting.{counts-own}
 use Rattle.complex.proofs.Judging.{ends-own, numbers-own}
 use Rattle.complex.proofs.SidesFound.{small-triangle, sided, sides-read}
@@ -18,7 +18,7 @@ number-edges-requires c κs =
     (counts-own _ accepted .edges, refl, ends-own _ accepted)
 
 -- the table is the index of the edges
-index-at : (c : tie.After-number-edges) → Indexed (c .number-edges .last .1 .1 .0) (complexOf (c .before .before .before .before .args .t1) .edges)
+index-at : (c : tie.After-number-edges) → EdgeTable (c .number-edges .last .1 .1 .0) (complexOf (c .before .before .before .before .args .t1) .edges)
 unfolding complexOf
 index-at c = c .number-edges .ensures .1 (numbers-own _ (c .before .before .before .before .pre .0) _ (c .number-edges .ensures .0))
 

@@ -8,7 +8,7 @@ use lib.ListN.{length, length-take}
 use Rattle.hilbert.specs.Search.{row}
 use Rattle.hilbert.proofs.Searching.{row-part}
 use Rattle.hamiltonian.specs.Coupling.{whole}
-use Rattle.hamiltonian.specs.Matrix.{Matrix, raised, passed}
+use Rattle.hamiltonian.specs.Matrix.{Matrix, with-added, passed}
 use Rattle.hamiltonian.specs.Walk.{electric-term}
 use Rattle.hamiltonian.proofs.Matrices.{matrix-same, passed-none, passed-more}
 use borrow.Author.Needs.{needs}
@@ -87,7 +87,7 @@ loop-again c =
       omega arith,
       made .add-entry .kept .0 ∙ at-loop .loop .inv .1,
       λ f old m.
-          rw (made .add-entry .ensures ∙ ap (λ (v : Float). raised (s .args .n) i i v (at-loop .loop .h)) value)
+          rw (made .add-entry .ensures ∙ ap (λ (v : Float). with-added (s .args .n) i i v (at-loop .loop .h)) value)
           (passed-more f (λ i. i) (electric-term (s .args .factor) (s .args .m) (s .args .list .now)) (s .args .n) old (at-loop .loop .h) i (at-loop .loop .inv .2 f old m) (rw (← (m .long)) (s .pre .1)) (omega arith) (omega arith)),
     )
 

@@ -119,7 +119,7 @@ returns-4 c =
     let here = passed (enough .before) in
     let many = counted (enough .before) in
     built _ _ _ _ _ _ _ (none (here .before .before .before)) (right here) (no-room (enough .before) ∙ enough .if3 .left) (basis here .few) _ _ _ many
-    (basis-written _ _ _ _ (basis here) _ _ _ (listed .write-states .ensures) .1) (rw (number listed ∙ many) at (c .before .before .write-dense .ensures))
+    (basis-written _ _ _ _ (basis here) _ _ _ (listed .write-states .ensures) .1) (c .before .before .write-dense .ensures)
 
 pub build-hamiltonian-spec : {M : Type 1} → statement M
 build-hamiltonian-spec =

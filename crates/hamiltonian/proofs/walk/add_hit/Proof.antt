@@ -1,6 +1,6 @@
 use mathlib.Core.Path.{_≡_, refl, sym, ap, _∙_}
 use native.Mathlib.Omega.{arith}
-use Rattle.hamiltonian.specs.Matrix.{raised}
+use Rattle.hamiltonian.specs.Matrix.{with-added}
 use borrow.Author.Needs.{needs}
 use Rattle.hamiltonian.proofs.walk.add_hit.Statement.{statement}
 use Rattle.hamiltonian.proofs.walk.add_hit.Tie as tie
@@ -21,7 +21,7 @@ returns-2 : tie.Need-returns-2
 returns-2 c =
     let one = c .before .before .before .before .before .before in
     record {
-      hit = λ k. (refl, c .before .before .add-entry2 .ensures ∙ ap (raised _ _ _ _) (one .add-entry .ensures));
+      hit = λ k. (refl, c .before .before .add-entry2 .ensures ∙ ap (with-added _ _ _ _) (one .add-entry .ensures));
       miss = λ k. absurd (omega (arith, one .before .before .if1 .left));
     }
 

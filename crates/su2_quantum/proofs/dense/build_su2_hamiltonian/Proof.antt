@@ -115,7 +115,7 @@ returns-5 c =
     let enough = c .before .before .before .before .before .before .before .before .before .before .before in
     let right = enough .before in
     let small = right .before .before .before in
-    matrix-built _ _ _ _ _ _ _ (loops small) (few small) (weighed right) (not-short enough) _ _ _ (number small) (rw (masks-are _ _ (loops small)) at (c .before .before .before .before .before .before .before .write-masks .ensures)) (rw (number small) at (c .before .before .write-matrix .ensures))
+    matrix-built _ _ _ _ _ _ _ (loops small) (few small) (weighed right) (not-short enough) _ _ _ (number small) (rw (masks-are _ _ (loops small)) at (c .before .before .before .before .before .before .before .write-masks .ensures)) (c .before .before .write-matrix .ensures)
 
 pub build-su2-hamiltonian-spec : {M : Type 1} → statement M
 build-su2-hamiltonian-spec =
