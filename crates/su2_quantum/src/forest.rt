@@ -4,14 +4,14 @@ use complex::judge::byte;
 ghost use mathlib.Core.Path.{_≡_};
 ghost use mathlib.Core.List.{[], _∷_};
 ghost use mathlib.Core.Bool.{cond};
-ghost use Prim.Native.Nat.{_+_, _<_, _≤_};
+ghost use Prim.Native.Nat.{_<_, _≤_};
 ghost use lib.Dec.{eqb};
 ghost use lib.Bits.{bitXor};
-ghost use lib.ListN.{getD, length, set};
+ghost use lib.ListN.{length};
 ghost use Rattle.complex.specs.Complex.{complexOf};
 ghost use Rattle.complex.specs.Judge.{refusal};
-ghost use Rattle.su2_quantum.specs.Loops.{separate, grown};
-ghost use Rattle.su2_quantum.specs.Forest.{Mapped, Keeps, Sized, JoinedTables, Grows};
+ghost use Rattle.su2_quantum.specs.Loops.{grown};
+ghost use Rattle.su2_quantum.specs.Forest.{Mapped, Keeps, forestOf, Sized, Joined, Grows};
 
 // The part of each vertex, named after one vertex of it, the edges on the way there, and the first count closing edges and loops.
 pub struct Forest {
@@ -29,18 +29,6 @@ fn moved(part: u8, from: u8, to: u8) -> u8
     if part == from { to } else { part }
 }
 
-// The part of each vertex where one part goes over into another.
-fn join_parts(part: &[u8; 64], from: u8, to: u8) -> [u8; 64]
-    requires { ⌜ length (now part) ≡ 64 ⌝ }
-    ensures { λ r. ⌜ Mapped (λ v. cond (eqb (getD (now (part .entry)) v 0) from) to (getD (now (part .entry)) v 0)) 64 r ⌝ }
-{
-    let mut next = [0u8; 64];
-    for v in 0..64 {
-        next[v] = moved(part[v], from, to);
-    }
-    next
-}
-
 // A path with a loop added, where its vertex is of the part that goes over.
 fn lengthened(path: u64, part: u8, from: u8, cycle: u64) -> u64
     ensures { λ r. ⌜ r ≡ cond (eqb part from) (bitXor path cycle) path ⌝ }
@@ -48,75 +36,54 @@ fn lengthened(path: u64, part: u8, from: u8, cycle: u64) -> u64
     if part == from { path ^ cycle } else { path }
 }
 
-// The paths where one part goes over into another.
-fn join_paths(part: &[u8; 64], path: &[u64; 64], from: u8, cycle: u64) -> [u64; 64]
-    requires { ⌜ (length (now part) ≡ 64) × (length (now path) ≡ 64) ⌝ }
-    ensures { λ r. ⌜ Mapped (λ v. cond (eqb (getD (now (part .entry)) v 0) from) (bitXor (getD (now (path .entry)) v 0) cycle) (getD (now (path .entry)) v 0)) 64 r ⌝ }
+// One part goes over into another: the part and the path of each vertex.
+fn join(part: &mut [u8; 64], path: &mut [u64; 64], n_vertices: usize, from: u8, to: u8, cycle: u64)
+    requires { ⌜ (length (now part) ≡ 64) × (length (now path) ≡ 64) × («n_vertices» ≤ 64) ⌝ }
+    ensures { λ _. ⌜ Joined (now (part .entry)) (now (path .entry)) from to cycle «n_vertices» (now (part .exit)) (now (path .exit)) ⌝ }
 {
-    let mut next = [0u64; 64];
-    for v in 0..64 {
-        next[v] = lengthened(path[v], part[v], from, cycle);
+    for v in 0..n_vertices {
+        let p = part[v];
+        path[v] = lengthened(path[v], p, from, cycle);
+        part[v] = moved(p, from, to);
     }
-    next
 }
 
-// Edge e closes a loop.
-fn close(f: Forest, e: usize, cycle: u64) -> Forest
-    requires { ⌜ Sized f × (f .count < 63) × (e < 63) ⌝ }
-    ensures { λ r. ⌜ r ≡ record { part = f .part; path = f .path; count = f .count + 1; closing = set (f .closing) (f .count) e; loops = set (f .loops) (f .count) cycle } ⌝ }
+// Edge e from a to b closes a loop, or joins two parts: the number of closing edges.
+fn grow(
+    part: &mut [u8; 64],
+    path: &mut [u64; 64],
+    closing: &mut [u8; 63],
+    loops: &mut [u64; 63],
+    count: usize,
+    n_vertices: usize,
+    a: usize,
+    b: usize,
+    e: usize,
+) -> usize
+    requires { ⌜ Sized (forestOf (now part) (now path) (now closing) (now loops) count) × (count ≤ e) × (e < 63) × (a < «n_vertices») × (b < «n_vertices») × («n_vertices» ≤ 64) ⌝ }
+    ensures { λ r. ⌜ Grows «n_vertices» (forestOf (now (part .entry)) (now (path .entry)) (now (closing .entry)) (now (loops .entry)) count) (a ∷ b ∷ []) e (forestOf (now (part .exit)) (now (path .exit)) (now (closing .exit)) (now (loops .exit)) r) ⌝ }
 {
-    let at = f.count;
-    let mut more = f;
-    more.closing[at] = e as u8;
-    more.loops[at] = cycle;
-    more.count = at + 1;
-    more
-}
-
-// One part goes over into another.
-fn join(f: Forest, from: u8, to: u8, cycle: u64) -> Forest
-    requires { ⌜ Sized f ⌝ }
-    ensures { λ r. ⌜ JoinedTables f from to cycle r ⌝ }
-{
-    let part = f.part;
-    let path = f.path;
-    let parts = join_parts(&part, from, to);
-    let paths = join_paths(&part, &path, from, cycle);
-    let mut next = f;
-    next.part = parts;
-    next.path = paths;
-    next
-}
-
-// Edge e from a to b closes a loop, or joins two parts.
-fn grow(f: Forest, a: usize, b: usize, e: usize) -> Forest
-    requires { ⌜ Sized f × (f .count ≤ e) × (e < 63) × (a < 64) × (b < 64) ⌝ }
-    ensures { λ r. ⌜ Grows f (a ∷ b ∷ []) e r ⌝ }
-{
-    let from = f.part[b];
-    let to = f.part[a];
-    let cycle = f.path[a] ^ f.path[b] ^ (1 << e);
+    let from = part[b];
+    let to = part[a];
+    let cycle = path[a] ^ path[b] ^ (1 << e);
     if from == to {
-        return close(f, e, cycle);
+        closing[count] = e as u8;
+        loops[count] = cycle;
+        return count + 1;
     }
-    join(f, from, to, cycle)
+    join(part, path, n_vertices, from, to, cycle);
+    count
 }
 
 // Each vertex is a part of its own.
-fn separate() -> Forest
-    ensures { λ r. ⌜ Keeps separate r ⌝ }
+fn separate() -> [u8; 64]
+    ensures { λ r. ⌜ Mapped (λ v. v) 64 r ⌝ }
 {
     let mut part = [0u8; 64];
     for v in 0..64 {
         part[v] = v as u8;
     }
-    Forest {
-        part: part,
-        path: [0; 64],
-        count: 0,
-        closing: [0; 63],
-        loops: [0; 63],
-    }
+    part
 }
 
 // The closing edges of an accepted record and their loops.
@@ -125,9 +92,31 @@ pub fn closing_loops(c: SimplicialComplex) -> Forest
     ensures { λ r. ⌜ Keeps (grown (complexOf c .edges) (c .«n_edges»)) r ⌝ }
 {
     let edges = c.edges;
-    let mut f = separate();
+    let mut part = separate();
+    let mut path = [0; 64];
+    let mut closing = [0; 63];
+    let mut loops = [0; 63];
+    let mut count = 0;
     for e in 0..c.n_edges {
-        f = grow(f, byte(edges[2 * e]), byte(edges[2 * e + 1]), e);
+        let a = byte(edges[2 * e]);
+        let b = byte(edges[2 * e + 1]);
+        count = grow(
+            &mut part,
+            &mut path,
+            &mut closing,
+            &mut loops,
+            count,
+            c.n_vertices,
+            a,
+            b,
+            e,
+        );
     }
-    f
+    Forest {
+        part: part,
+        path: path,
+        count: count,
+        closing: closing,
+        loops: loops,
+    }
 }

@@ -1,49 +1,41 @@
-use Prim.Native.Nat.{_+_, _*_, _<_, _≤_, _-_}
+use Prim.Native.Nat.{_<_, _≤_, _-_}
 use mathlib.Core.List.{[], _∷_}
-use mathlib.Core.Path.{_≡_, refl, sym, ap, _∙_}
+use mathlib.Core.Path.{_≡_, _∙_}
 use native.Mathlib.Omega.{arith}
 use native.Mathlib.Numerals.{add-one}
 use lib.ListN.{getD}
 use Rattle.complex.specs.Complex.{entries, simplices, complexOf}
-use Rattle.complex.proofs.Simplices.{simplex-at}
+use Rattle.complex.specs.Tree.{Searchable}
+use Rattle.complex.proofs.Simplices.{simplices-length, simplex-at}
 use Rattle.gauss_law.proofs.Spanned.{accepted-searchable}
-use Rattle.gauss_law.proofs.Summed.{edge-ends}
-use Rattle.gauss_law.proofs.LawTold.{accepted-ends}
-use Rattle.su2_quantum.specs.Forest.{Keeps}
+use Rattle.su2_quantum.specs.Forest.{forestOf, Keeps}
 use Rattle.su2_quantum.specs.Loops.{separate, grown}
-use Rattle.su2_quantum.proofs.Tables.{keeps-sized}
+use Rattle.su2_quantum.proofs.Tables.{separate-kept, keeps-sized, grown-within}
 use borrow.Author.Needs.{needs}
 use Rattle.su2_quantum.proofs.forest.closing_loops.Statement.{statement}
 use Rattle.su2_quantum.proofs.forest.closing_loops.Tie as tie
 
 abbrev Inv-loop : tie.InvT-loop
-Inv-loop edges f₀ e₀ e-end f e = (e ≤ e-end) × (f .count ≤ e) × Keeps (grown (simplices 2 edges e-end) e) f
+Inv-loop c edges part₀ path₀ closing₀ loops₀ count₀ e₀ e-end part path closing loops count e = (e ≤ e-end) × (count ≤ e) × Keeps (grown (simplices 2 edges e-end) e) (forestOf part path closing loops count)
 
 abbrev μ-loop : tie.MeasureT-loop
-μ-loop edges f₀ e₀ e-end f e = e-end - e
+μ-loop c edges part₀ path₀ closing₀ loops₀ count₀ e₀ e-end part path closing loops count e = e-end - e
 
--- an edge of the record
 abbrev Turn : Type 0
 Turn = tie.In-loop Inv-loop μ-loop
 
+searchable : (c : Turn) → Searchable (c .before .before .before .before .args .c .edges) (c .before .before .before .before .args .c .«n_vertices») (c .before .before .before .before .args .c .«n_edges»)
+searchable c = accepted-searchable (c .before .before .before .before .args .c) (c .before .before .before .before .pre)
+
 few : (c : Turn) → c .before .loop .e < 63
-few c = omega (arith, accepted-searchable (c .before .before .before .before .args .c) (c .before .before .before .before .pre) .edges-fit)
+few c = omega (arith, searchable c .edges-fit)
 
 separate-requires : tie.Need-separate-requires Inv-loop μ-loop
 separate-requires c κs = search needs
 
 loop-holds : tie.Need-loop-holds Inv-loop μ-loop
 unfolding grown separate
-loop-holds c =
-    let none : c .separate .result .count ≡ 0 = c .separate .ensures .closing .count in
-    (omega arith, omega arith, c .separate .ensures)
-
--- its ends, as the code reads them
-edge-here : (c : Turn) → (getD (c .before .before .before .before .args .c .edges) (2 * c .before .loop .e) 0 < getD (c .before .before .before .before .args .c .edges) (2 * c .before .loop .e + 1) 0) × (getD (c .before .before .before .before .args .c .edges) (2 * c .before .loop .e + 1) 0 < 64)
-unfolding entries
-edge-here c =
-    let start = c .before .before .before .before in
-    edge-ends (start .args .c .edges) (start .args .c .«n_edges») (accepted-ends (start .args .c) (start .pre)) (c .before .loop .e) (omega arith)
+loop-holds c = (omega arith, omega arith, separate-kept _ (c .separate .ensures))
 
 mul-byte : tie.Need-mul-byte Inv-loop μ-loop
 mul-byte c = let h = few c in search needs
@@ -67,10 +59,21 @@ byte-requires-2 : tie.Need-byte-requires-2 Inv-loop μ-loop
 byte-requires-2 c κs = search needs
 
 grow-requires : tie.Need-grow-requires Inv-loop μ-loop
+unfolding entries
 grow-requires c κs =
-    let turn = c .before .before in
-    let r = edge-here turn in
-    (keeps-sized _ _ (turn .before .loop .inv .2), turn .before .loop .inv .1, few turn, rw (c .before .byte .ensures) (omega (arith, r .0, r .1)), rw (c .byte2 .ensures) (r .1))
+    let at-b = c .before .before .before .before in
+    let at-a = at-b .before in
+    let turn = at-a .before in
+    let e = turn .before .loop .e in
+    let r = turn .before .before .before .before .args .c in
+    let ends = rw (simplex-at 2 (r .edges) (r .«n_edges») e (omega arith)) at (searchable turn .ends e (rw (simplices-length 2 (r .edges) (r .«n_edges»)) (omega arith))) in (
+      keeps-sized _ _ (turn .before .loop .inv .2),
+      turn .before .loop .inv .1,
+      few turn,
+      rw (at-a .byte .ensures) (omega (arith, ends .0, ends .1)),
+      rw (at-b .byte2 .ensures) (ends .1),
+      searchable turn .vertices-fit,
+    )
 
 add-e : tie.Need-add-e Inv-loop μ-loop
 add-e c = search needs
@@ -81,13 +84,19 @@ loop-less c = search needs
 loop-again : tie.Need-loop-again Inv-loop μ-loop
 unfolding grown entries
 loop-again c =
-    let turn = c .before .before .before in
+    let at-b = c .before .before .before .before .before in
+    let at-a = at-b .before in
+    let turn = at-a .before in
     let e = turn .before .loop .e in
-    let start = turn .before .before .before .before in
-    let es = simplices 2 (start .args .c .edges) (start .args .c .«n_edges») in
-    let one : getD es e [] ≡ c .before .before .byte .result ∷ c .before .byte2 .result ∷ [] =
-    simplex-at 2 (start .args .c .edges) (start .args .c .«n_edges») e (omega arith) ∙ rw (c .before .before .byte .ensures, c .before .byte2 .ensures) in
-    (omega arith, omega (arith, c .grow .ensures .few, turn .before .loop .inv .1), rw (add-one e, one) (c .grow .ensures .keeps (grown es e) (turn .before .loop .inv .2)))
+    let r = turn .before .before .before .before .args .c in
+    let es = simplices 2 (r .edges) (r .«n_edges») in
+    let one : getD es e [] ≡ at-a .byte .result ∷ at-b .byte2 .result ∷ [] =
+    simplex-at 2 (r .edges) (r .«n_edges») e (omega arith) ∙ rw (at-a .byte .ensures, at-b .byte2 .ensures) in
+    let within = grown-within (r .«n_vertices») es (searchable turn .ends) e (rw (simplices-length 2 (r .edges) (r .«n_edges»)) (turn .before .loop .inv .0)) in (
+      omega arith,
+      omega (arith, c .grow .ensures .few, turn .before .loop .inv .1),
+      rw (add-one e, one) (c .grow .ensures .keeps (grown es e) (turn .before .loop .inv .2) within),
+    )
 
 returns : tie.Need-returns Inv-loop μ-loop
 unfolding complexOf

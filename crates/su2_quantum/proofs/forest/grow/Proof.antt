@@ -1,10 +1,11 @@
-use Prim.Native.Nat.{ℕ, _+_, _*_, _%_, _^_}
-use mathlib.Core.Path.{_≡_, refl, sym, ap, _∙_}
+use Prim.Native.Nat.{ℕ, _*_, _%_, _^_}
+use mathlib.Core.Path.{_≡_}
 use native.Mathlib.Omega.{arith}
 use lib.Bits.{bitXor}
 use lib.ListN.{getD}
 use Rattle.mathematics.proofs.Bits.{power-shifted}
 use Rattle.su2_quantum.specs.declared.forest.Forest.{Forest}
+use Rattle.su2_quantum.specs.Forest.{forestOf}
 use Rattle.su2_quantum.proofs.Tables.{closed-kept, joined-kept}
 use borrow.Author.Needs.{needs}
 use Rattle.su2_quantum.proofs.forest.grow.Statement.{statement}
@@ -31,24 +32,38 @@ element-copy-out-cycle-2 c = search needs
 shl-cycle : tie.Need-shl-cycle
 shl-cycle c = search needs
 
-close-requires : tie.Need-close-requires
-close-requires c κs = search needs
+cast-closing : tie.Need-cast-closing
+cast-closing c = search needs
 
--- the loop as the code makes it
-abbrev made : tie.Start → ℕ
-made s = bitXor (bitXor (getD (s .args .t1 .path) (s .args .a) 0) (getD (s .args .t1 .path) (s .args .b) 0)) (1 * 2 ^ s .args .e % 2 ^ 64)
+element-write-closing : tie.Need-element-write-closing
+element-write-closing c = search needs
 
-made-is : (s : tie.Start) → made s ≡ bitXor (bitXor (getD (s .args .t1 .path) (s .args .a) 0) (getD (s .args .t1 .path) (s .args .b) 0)) (2 ^ s .args .e)
+mul-loops : tie.Need-mul-loops
+mul-loops c = search needs
+
+element-write-loops : tie.Need-element-write-loops
+element-write-loops c = search needs
+
+add-result : tie.Need-add-result
+add-result c = search needs
+
+-- the tables at first, and the loop as the code makes it
+abbrev tables : tie.Start → Forest
+tables s = forestOf (s .args .part .now) (s .args .path .now) (s .args .closing .now) (s .args .loops .now) (s .args .count)
+
+abbrev paths : tie.Start → ℕ
+paths s = bitXor (getD (s .args .path .now) (s .args .a) 0) (getD (s .args .path .now) (s .args .b) 0)
+
+made-is : (s : tie.Start) → bitXor (paths s) (1 * 2 ^ s .args .e % 2 ^ 64) ≡ bitXor (paths s) (2 ^ s .args .e)
 made-is s = rw (power-shifted (s .args .e) (omega (arith, s .pre .2)))
 
 returns : tie.Need-returns
 returns c =
-    let start = c .before .before .before .before .before .before in
+    let start = c .before .before .before .before .before in
     record {
-      keeps = λ g k.
-          rw (c .close .ensures)
-          (closed-kept g (start .args .t1) k (start .args .a) (start .args .b) (start .args .e) (start .pre .3) (start .pre .4) (made start) (made-is start) (c .before .if1 .taken) (omega (arith, start .pre .1, start .pre .2)));
-      few = omega (arith, ap (λ (f : Forest). f .count) (c .close .ensures));
+      keeps = λ g k w.
+          closed-kept g (tables start) k (start .args .a) (start .args .b) (start .args .e) (omega (arith, start .pre .3, start .pre .5)) (omega (arith, start .pre .4, start .pre .5)) _ (made-is start) (c .if1 .taken) (omega (arith, start .pre .1, start .pre .2));
+      few = omega arith;
     }
 
 join-requires : tie.Need-join-requires
@@ -56,11 +71,11 @@ join-requires c κs = search needs
 
 returns-2 : tie.Need-returns-2
 returns-2 c =
-    let start = c .before .before .before .before .before .before in
+    let start = c .before .before .before .before .before .before .before .before in
     record {
-      keeps = λ g k.
-          joined-kept g (start .args .t1) k (start .args .a) (start .args .b) (start .args .e) (start .pre .3) (start .pre .4) (made start) (made-is start) (c .before .if1 .left) _ (c .join .ensures);
-      few = omega (arith, c .join .ensures .count);
+      keeps = λ g k w.
+          joined-kept g (tables start) k (start .args .a) (start .args .b) (start .args .e) (omega (arith, start .pre .3, start .pre .5)) (omega (arith, start .pre .4, start .pre .5)) _ (made-is start) (c .before .before .before .if1 .left) (start .args .n-vertices) (start .pre .4) w _ _ (c .join .ensures);
+      few = omega arith;
     }
 
 pub grow-spec : {M : Type 1} → statement M
@@ -74,7 +89,11 @@ grow-spec =
     mul-cycle-2
     element-copy-out-cycle-2
     shl-cycle
-    close-requires
+    cast-closing
+    element-write-closing
+    mul-loops
+    element-write-loops
+    add-result
     returns
     join-requires
     returns-2)

@@ -2,8 +2,7 @@ use Prim.Native.Nat.{_≤_, _-_}
 use mathlib.Core.Path.{_≡_, refl}
 use native.Mathlib.Omega.{arith}
 use Rattle.su2_quantum.specs.Forest.{Mapped}
-use Rattle.su2_quantum.specs.Loops.{separate}
-use Rattle.su2_quantum.proofs.Tables.{mapped-none, mapped-more, separate-kept}
+use Rattle.su2_quantum.proofs.Tables.{mapped-none, mapped-more}
 use borrow.Author.Needs.{needs}
 use Rattle.su2_quantum.proofs.forest.separate.Statement.{statement}
 use Rattle.su2_quantum.proofs.forest.separate.Tie as tie
@@ -37,7 +36,7 @@ loop-again c =
 returns : tie.Need-returns Inv-loop μ-loop
 returns c =
     let past : c .before .loop .v ≡ 64 = omega arith in
-    separate-kept (c .before .loop .part) (rw past at (c .before .loop .inv .1))
+    rw past at (c .before .loop .inv .1)
 
 pub separate-spec : {M : Type 1} → statement M
 separate-spec =
