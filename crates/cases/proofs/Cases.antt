@@ -20,10 +20,11 @@ use Rattle.gauss_law.specs.Listing.{tree-edges, free-edges, values, placed, lis
 use Rattle.gauss_law.specs.Shifts.{raised, shifted, side, triangle-shift}
 use Rattle.walker.specs.Enumeration.{states, short}
 use Rattle.hilbert.specs.Basis.{within, decided, smaller, comes-before, place as place-of}
-use Rattle.hamiltonian.specs.Coupling.{whole, u1-params, su2-params}
-use Rattle.hamiltonian.specs.Weights.{weight}
-use Rattle.hamiltonian.specs.Matrix.{rows}
-use Rattle.hamiltonian.specs.Dense.{squares, plaquette-term, hits, electric-entry, entry, dense}
+use Rattle.matrices.specs.Coupling.{whole, u1-params, su2-params}
+use Rattle.matrices.specs.Weights.{weight}
+use Rattle.matrices.specs.Matrix.{rows}
+use Rattle.matrices.specs.Squares.{squares}
+use Rattle.hamiltonian.specs.Dense.{plaquette-term, hits, electric-entry, entry, dense}
 use Rattle.hamiltonian.specs.Triangle.{shifted-state, sides-within, triangle-refusal, triangleOutcome}
 use Rattle.su2_quantum.specs.EvenSets.{chosen, meeting, even, su2-states, mask-place}
 use Rattle.su2_quantum.specs.Dense.{triangle-mask, flips, su2-electric-entry, su2-entry, su2-dense}

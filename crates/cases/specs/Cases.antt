@@ -12,8 +12,8 @@ use Rattle.mathematics.specs.Entries.{Each}
 use Rattle.complex.specs.Complex.{Complex, complexOf}
 use Rattle.sheet.specs.Sheet.{sheetIn, reading-refusal}
 use Rattle.gauss_law.specs.Listing.{tree-edges, free-edges}
-use Rattle.hamiltonian.specs.Coupling.{whole, u1-params, su2-params}
-use Rattle.hamiltonian.specs.Weights.{weight}
+use Rattle.matrices.specs.Coupling.{whole, u1-params, su2-params}
+use Rattle.matrices.specs.Weights.{weight}
 use Rattle.hamiltonian.specs.Triangle.{triangleOutcome}
 use Rattle.hamiltonian.specs.Dense.{dense}
 use Rattle.su2_quantum.specs.EvenSets.{su2-states}

@@ -19,10 +19,10 @@ use Rattle.walker.specs.Blocks.{Written}
 use Rattle.walker.specs.Tables.{states-of}
 use Rattle.walker.specs.Enumeration.{states, enumeratedAnswer, basis-tests, short, basis-first, BasisWalks}
 use Rattle.walker.proofs.Enumerating.{basis-stops, basis-goes-on, basis-written}
-use Rattle.hamiltonian.specs.declared.coupling.KSParams.{KSParams}
+use Rattle.matrices.specs.declared.coupling.KSParams.{KSParams}
 use Rattle.hamiltonian.specs.declared.walk.Sizes.{Sizes}
-use Rattle.hamiltonian.specs.Coupling.{u1-right}
-use Rattle.hamiltonian.specs.Weights.{weight, weights-tests}
+use Rattle.matrices.specs.Coupling.{u1-right}
+use Rattle.matrices.specs.Weights.{weight, weights-tests}
 use Rattle.hamiltonian.specs.Dense.{dense, dense-refusal, Built}
 use Rattle.hamiltonian.specs.Walk.{BasisList}
 

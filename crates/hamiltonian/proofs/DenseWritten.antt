@@ -12,13 +12,14 @@ use Rattle.mathematics.specs.Writing.{front}
 use Rattle.complex.specs.Complex.{Complex}
 use Rattle.walker.specs.Enumeration.{states}
 use Rattle.hilbert.specs.Search.{row}
-use Rattle.hamiltonian.specs.declared.coupling.KSParams.{KSParams}
+use Rattle.matrices.specs.declared.coupling.KSParams.{KSParams}
 use Rattle.hamiltonian.specs.declared.walk.Sizes.{Sizes}
-use Rattle.hamiltonian.specs.Coupling.{whole}
-use Rattle.hamiltonian.specs.Matrix.{rows, Matrix, passed}
-use Rattle.hamiltonian.specs.Dense.{squares, electric-entry, entry, dense}
+use Rattle.matrices.specs.Coupling.{whole}
+use Rattle.matrices.specs.Matrix.{rows, Matrix, passed}
+use Rattle.matrices.specs.Squares.{squares}
+use Rattle.hamiltonian.specs.Dense.{electric-entry, entry, dense}
 use Rattle.hamiltonian.specs.Walk.{BasisList, SmallRows, electric-term}
-use Rattle.hamiltonian.proofs.Matrices.{matrix-same, matrix-is, passed-all}
+use Rattle.matrices.proofs.Matrices.{matrix-same, matrix-is, passed-all}
 use Rattle.hamiltonian.proofs.TriangleTelling.{state-there}
 use Rattle.hamiltonian.proofs.Targets.{edges-few, there, list-long, row-is}
 

@@ -1,7 +1,7 @@
 -- Where the order of the float operations shows: a tiny weight, and a weight of zero.
 use mathlib.Core.Path.{_≡_, refl}
 use lib.Ieee.{binary64, ofInt, ofBits, add, mul, div, neg}
-use Rattle.hamiltonian.specs.Coupling.{whole, u1-params}
+use Rattle.matrices.specs.Coupling.{whole, u1-params}
 use Rattle.hamiltonian.specs.Dense.{plaquette-term}
 
 -- g² 3 and the weight 2^-1071 give -2^-1073

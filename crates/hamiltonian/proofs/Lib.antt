@@ -1,10 +1,6 @@
 pub mod TriangleRows
 pub mod TriangleTelling
 pub mod Demands
-pub mod Literals
-pub mod Couplings
-pub mod Squares
-pub mod Weighing
 pub mod Examples
 pub mod Rising
 pub mod PartWay
@@ -12,4 +8,3 @@ pub mod Targets
 pub mod Plaquettes
 pub mod DenseWritten
 pub mod DenseTelling
-pub mod Matrices

@@ -18,14 +18,14 @@ use Rattle.gauss_law.proofs.Shifts.{triangle-long}
 use Rattle.walker.specs.Enumeration.{states}
 use Rattle.hilbert.specs.Basis.{place, At}
 use Rattle.hilbert.proofs.Order.{in-basis-at}
-use Rattle.hamiltonian.specs.declared.coupling.KSParams.{KSParams}
+use Rattle.matrices.specs.declared.coupling.KSParams.{KSParams}
 use Rattle.hamiltonian.specs.Triangle.{shifted-state, sides-within}
 use Rattle.hamiltonian.specs.Dense.{plaquette-term, hits, entry}
 use Rattle.hamiltonian.specs.Walk.{under-way, part-entry}
 use Rattle.hamiltonian.proofs.TriangleRows.{shifted-state-in-basis}
 use Rattle.hamiltonian.proofs.TriangleTelling.{state-there}
 use Rattle.hamiltonian.proofs.Rising.{never-itself, never-back}
-use Rattle.hamiltonian.proofs.Matrices.{one-higher}
+use Rattle.matrices.proofs.Matrices.{one-higher}
 
 -- ---- tests
 and-none : (a : Bool) → (a && false) ≡ false

@@ -15,13 +15,13 @@ use Rattle.complex.specs.declared.triangle.Sides.{Sides}
 use Rattle.complex.specs.Complex.{Complex}
 use Rattle.walker.specs.Enumeration.{states}
 use Rattle.hilbert.specs.Basis.{place}
-use Rattle.hamiltonian.specs.declared.coupling.KSParams.{KSParams}
+use Rattle.matrices.specs.declared.coupling.KSParams.{KSParams}
 use Rattle.hamiltonian.specs.declared.walk.Sizes.{Sizes}
-use Rattle.hamiltonian.specs.Matrix.{Matrix, with-added}
+use Rattle.matrices.specs.Matrix.{Matrix, with-added}
 use Rattle.hamiltonian.specs.Triangle.{shifted-state, sides-within}
 use Rattle.hamiltonian.specs.Dense.{plaquette-term, hits, entry}
 use Rattle.hamiltonian.specs.Walk.{BasisList, SidesOf, target, part-entry, HitAdded, PlaquetteAdded}
-use Rattle.hamiltonian.proofs.Matrices.{matrix-add, matrix-same}
+use Rattle.matrices.proofs.Matrices.{matrix-add, matrix-same}
 use Rattle.hamiltonian.proofs.Rising.{targets-rise}
 use Rattle.hamiltonian.proofs.PartWay.{elsewhere, way-none, way-there, way-back, way-elsewhere, part-none, part-all}
 use Rattle.hamiltonian.proofs.Targets.{there, target-none, target-at}

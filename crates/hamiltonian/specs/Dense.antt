@@ -4,7 +4,7 @@ use mathlib.Core.List.{List, [], _∷_, _++_}
 use mathlib.Core.Bool.{Bool, _&&_, _||_, cond}
 use mathlib.Core.Path.{_≡_}
 use lib.Dec.{eqb, ltb}
-use lib.IntN.{ℤ, natAbs}
+use lib.IntN.{ℤ}
 use lib.Ieee.{Float, binary64, add, mul, div}
 use lib.ListN.{getD, length}
 use Rattle.mathematics.specs.Writing.{front}
@@ -13,16 +13,12 @@ use Rattle.complex.specs.Complex.{Complex}
 use Rattle.walker.specs.declared.enumerate.Enumerated.{Enumerated}
 use Rattle.walker.specs.Enumeration.{states, enumeratedAnswer, basis-tests, short, basis-first}
 use Rattle.hilbert.specs.Basis.{place}
-use Rattle.hamiltonian.specs.declared.coupling.KSParams.{KSParams}
-use Rattle.hamiltonian.specs.Coupling.{whole, u1-right}
-use Rattle.hamiltonian.specs.Weights.{weight, weights-tests}
-use Rattle.hamiltonian.specs.Matrix.{rows}
+use Rattle.matrices.specs.declared.coupling.KSParams.{KSParams}
+use Rattle.matrices.specs.Coupling.{whole, u1-right}
+use Rattle.matrices.specs.Weights.{weight, weights-tests}
+use Rattle.matrices.specs.Matrix.{rows}
+use Rattle.matrices.specs.Squares.{squares}
 use Rattle.hamiltonian.specs.Triangle.{shifted-state, sides-within}
-
--- the sum of the squares of a state's values, a whole number
-unfoldable pub squares : List ℤ → ℕ
-squares [] = 0
-squares (x ∷ s) = natAbs x * natAbs x + squares s
 
 -- what the plaquette of a triangle with a weight adds: (magnetic factor × weight) × 0.5
 unfoldable pub plaquette-term : KSParams → Float → Float

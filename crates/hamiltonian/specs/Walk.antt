@@ -16,12 +16,13 @@ use Rattle.walker.specs.Steps.{FreeFit}
 use Rattle.walker.specs.Enumeration.{states}
 use Rattle.hilbert.specs.Basis.{place}
 use Rattle.hilbert.specs.Search.{row}
-use Rattle.hamiltonian.specs.declared.coupling.KSParams.{KSParams}
+use Rattle.matrices.specs.declared.coupling.KSParams.{KSParams}
 use Rattle.hamiltonian.specs.declared.walk.Sizes.{Sizes}
-use Rattle.hamiltonian.specs.Coupling.{whole}
-use Rattle.hamiltonian.specs.Matrix.{Matrix, with-added}
+use Rattle.matrices.specs.Coupling.{whole}
+use Rattle.matrices.specs.Matrix.{Matrix, with-added}
 use Rattle.hamiltonian.specs.Triangle.{shifted-state, sides-within}
-use Rattle.hamiltonian.specs.Dense.{squares, plaquette-term, hits, entry}
+use Rattle.matrices.specs.Squares.{squares}
+use Rattle.hamiltonian.specs.Dense.{plaquette-term, hits, entry}
 
 -- a list that begins with the basis, its sizes, and the free edges, which order it
 pub record BasisList (c : Complex) (list : List ℤ) (s : Sizes) (free : List ℕ) : Type 0 where

@@ -1,16 +1,16 @@
 // The dense Hamiltonian of U(1).
-use crate::coupling::KSParams;
-use crate::coupling::is_u1;
-use crate::electric::energy;
-use crate::electric::squares;
-use crate::matrix::add_entry;
-use crate::matrix::clear_matrix;
 use crate::walk::Sizes;
 use crate::walk::add_plaquette;
-use crate::weights::judge_weights;
-use crate::weights::weight_of;
 use complex::SimplicialComplex;
 use complex::triangle::triangle_sides;
+use matrices::coupling::KSParams;
+use matrices::coupling::is_u1;
+use matrices::electric::energy;
+use matrices::electric::squares;
+use matrices::matrix::add_entry;
+use matrices::matrix::clear_matrix;
+use matrices::weights::judge_weights;
+use matrices::weights::weight_of;
 use walker::enumerate::Enumerated;
 use walker::enumerate::prepare_basis;
 use walker::tables::count_states;
@@ -23,8 +23,8 @@ ghost use mathlib.Core.List.{List};
 ghost use lib.ListN.{length};
 ghost use Rattle.mathematics.specs.Writing.{front};
 ghost use Rattle.complex.specs.Complex.{complexOf};
-ghost use Rattle.hamiltonian.specs.Weights.{weight};
-ghost use Rattle.hamiltonian.specs.Matrix.{Matrix, passed};
+ghost use Rattle.matrices.specs.Weights.{weight};
+ghost use Rattle.matrices.specs.Matrix.{Matrix, passed};
 ghost use Rattle.hamiltonian.specs.Dense.{plaquette-term, entry, dense, Built};
 ghost use Rattle.hamiltonian.specs.Walk.{BasisList, SmallRows, electric-term};
 

@@ -1,9 +1,9 @@
 // The plaquettes of a triangle: one walk over the states finds all hits.
-use crate::matrix::add_entry;
 use crate::triangle::shift_row;
 use crate::triangle::three_within;
 use complex::triangle::Sides;
 use hilbert::search::advance;
+use matrices::matrix::add_entry;
 ghost use mathlib.Core.Path.{_≡_};
 ghost use Prim.Native.Nat.{ℕ, _*_, _^_, _<_, _≤_};
 ghost use lib.ListN.{length, take};

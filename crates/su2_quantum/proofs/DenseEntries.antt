@@ -16,10 +16,10 @@ use Rattle.complex.specs.Judge.{Accepted}
 use Rattle.complex.specs.Sides.{sides}
 use Rattle.complex.proofs.TriangleEdges.{triangle-sides}
 use Rattle.gauss_law.specs.Shifts.{side}
-use Rattle.hamiltonian.specs.declared.coupling.KSParams.{KSParams}
-use Rattle.hamiltonian.specs.Coupling.{whole}
-use Rattle.hamiltonian.specs.Matrix.{rows, Matrix, passed}
-use Rattle.hamiltonian.proofs.Matrices.{matrix-is, matrix-same, passed-all}
+use Rattle.matrices.specs.declared.coupling.KSParams.{KSParams}
+use Rattle.matrices.specs.Coupling.{whole}
+use Rattle.matrices.specs.Matrix.{rows, Matrix, passed}
+use Rattle.matrices.proofs.Matrices.{matrix-is, matrix-same, passed-all}
 use Rattle.su2_quantum.specs.declared.forest.Forest.{Forest}
 use Rattle.su2_quantum.specs.EvenSets.{su2-states, mask-place}
 use Rattle.su2_quantum.specs.Place.{LoopsOf}

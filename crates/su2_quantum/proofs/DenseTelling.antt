@@ -21,10 +21,10 @@ use Rattle.complex.proofs.Accepting.{accepted}
 use Rattle.complex.proofs.Refusing.{refused-first, accepted-next}
 use Rattle.complex.proofs.SidesFound.{triangles-long}
 use Rattle.gauss_law.specs.Listing.{free-edges}
-use Rattle.hamiltonian.specs.declared.coupling.KSParams.{KSParams}
-use Rattle.hamiltonian.specs.Coupling.{su2-right}
-use Rattle.hamiltonian.specs.Weights.{weight, weights-tests}
-use Rattle.hamiltonian.proofs.Weighing.{weights-fit}
+use Rattle.matrices.specs.declared.coupling.KSParams.{KSParams}
+use Rattle.matrices.specs.Coupling.{su2-right}
+use Rattle.matrices.specs.Weights.{weight, weights-tests}
+use Rattle.matrices.proofs.Weighing.{weights-fit}
 use Rattle.su2_quantum.specs.declared.forest.Forest.{Forest}
 use Rattle.walker.specs.declared.enumerate.Enumerated.the-variants.{States, Refused}
 use Rattle.walker.specs.Enumeration.{enumeratedAnswer}

@@ -14,10 +14,10 @@ use Rattle.complex.specs.Complex.{Complex}
 use Rattle.gauss_law.specs.Shifts.{side}
 use Rattle.walker.specs.declared.enumerate.Enumerated.{Enumerated}
 use Rattle.walker.specs.Enumeration.{enumeratedAnswer}
-use Rattle.hamiltonian.specs.declared.coupling.KSParams.{KSParams}
-use Rattle.hamiltonian.specs.Coupling.{whole, su2-right}
-use Rattle.hamiltonian.specs.Weights.{weight, weights-tests}
-use Rattle.hamiltonian.specs.Matrix.{rows}
+use Rattle.matrices.specs.declared.coupling.KSParams.{KSParams}
+use Rattle.matrices.specs.Coupling.{whole, su2-right}
+use Rattle.matrices.specs.Weights.{weight, weights-tests}
+use Rattle.matrices.specs.Matrix.{rows}
 use Rattle.su2_quantum.specs.declared.forest.Forest.{Forest}
 use Rattle.su2_quantum.specs.EvenSets.{su2-states, mask-place}
 use Rattle.su2_quantum.specs.Basis.{su2-tests}

@@ -11,8 +11,8 @@ use Rattle.complex.specs.Complex.{complexOf}
 use Rattle.sheet.specs.Sheet.{sheetIn}
 use Rattle.walker.specs.declared.enumerate.Enumerated.{Enumerated}
 use Rattle.walker.specs.Enumeration.{enumeratedAnswer}
-use Rattle.hamiltonian.specs.declared.coupling.KSParams.{KSParams}
-use Rattle.hamiltonian.specs.Coupling.{coupling-refusal, couplingOutcome}
+use Rattle.matrices.specs.declared.coupling.KSParams.{KSParams}
+use Rattle.matrices.specs.Coupling.{coupling-refusal, couplingOutcome}
 use Rattle.hamiltonian.specs.Dense.{Built}
 use Rattle.su2_quantum.specs.Dense.{Su2Built}
 use Rattle.zibrotka.specs.declared.Told.{Told}

@@ -24,9 +24,9 @@ use Rattle.walker.specs.Enumeration.{states, basis-first, enumerated-refusal}
 use Rattle.hilbert.specs.Basis.{place, At}
 use Rattle.hilbert.specs.Index.{index-refusal}
 use Rattle.hilbert.specs.Shift.{shift-refusal}
-use Rattle.hamiltonian.specs.declared.coupling.KSParams.{KSParams}
-use Rattle.hamiltonian.specs.Coupling.{coupling-refusal}
-use Rattle.hamiltonian.specs.Weights.{weight}
+use Rattle.matrices.specs.declared.coupling.KSParams.{KSParams}
+use Rattle.matrices.specs.Coupling.{coupling-refusal}
+use Rattle.matrices.specs.Weights.{weight}
 use Rattle.hamiltonian.specs.Dense.{dense, dense-refusal}
 use Rattle.hamiltonian.specs.Triangle.{shifted-state, triangle-refusal}
 use Rattle.su2_quantum.specs.EvenSets.{su2-states, EvenComplete}

@@ -1,8 +1,8 @@
 use mathlib.Core.Path.{sym, ap, _∙_}
 use Rattle.mathematics.proofs.Signed.{back64}
 use Rattle.mathematics.specs.Refusals.{Outcome}
-use Rattle.hamiltonian.specs.declared.coupling.KSParams.{KSParams}
-use Rattle.hamiltonian.specs.Coupling.{couplingAnswer}
+use Rattle.matrices.specs.declared.coupling.KSParams.{KSParams}
+use Rattle.matrices.specs.Coupling.{couplingAnswer}
 use Rattle.zibrotka.specs.Exports.{signed, zeroOf, threeOf}
 use borrow.Author.Needs.{needs}
 use Rattle.zibrotka.proofs.store.Statement.{statement}

@@ -7,10 +7,10 @@ use lib.Ieee.{Float, binary64, mul}
 use lib.ListN.{length, length-take}
 use Rattle.hilbert.specs.Search.{row}
 use Rattle.hilbert.proofs.Searching.{row-part}
-use Rattle.hamiltonian.specs.Coupling.{whole}
-use Rattle.hamiltonian.specs.Matrix.{Matrix, with-added, passed}
+use Rattle.matrices.specs.Coupling.{whole}
+use Rattle.matrices.specs.Matrix.{Matrix, with-added, passed}
 use Rattle.hamiltonian.specs.Walk.{electric-term}
-use Rattle.hamiltonian.proofs.Matrices.{matrix-same, passed-none, passed-more}
+use Rattle.matrices.proofs.Matrices.{matrix-same, passed-none, passed-more}
 use borrow.Author.Needs.{needs}
 use Rattle.hamiltonian.proofs.dense.add_electric.Statement.{statement}
 use Rattle.hamiltonian.proofs.dense.add_electric.Tie as tie

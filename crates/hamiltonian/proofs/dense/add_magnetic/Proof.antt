@@ -6,8 +6,8 @@ use lib.Ieee.{Float}
 use lib.ListN.{length}
 use Rattle.complex.specs.Complex.{complexOf}
 use Rattle.complex.proofs.Accepting.{accepted}
-use Rattle.hamiltonian.specs.Weights.{weight}
-use Rattle.hamiltonian.specs.Matrix.{Matrix}
+use Rattle.matrices.specs.Weights.{weight}
+use Rattle.matrices.specs.Matrix.{Matrix}
 use Rattle.hamiltonian.specs.Dense.{plaquette-term, entry}
 use Rattle.hamiltonian.specs.Walk.{SidesOf}
 use Rattle.complex.proofs.SidesFound.{triangles-long}

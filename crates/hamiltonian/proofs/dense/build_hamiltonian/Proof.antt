@@ -12,10 +12,10 @@ use Rattle.complex.specs.Complex.{complexOf}
 use Rattle.walker.specs.Tables.{Fit, states-of}
 use Rattle.walker.specs.Enumeration.{states, basis-tests, short, BasisWalks}
 use Rattle.walker.proofs.Enumerating.{short-told, basis-written}
-use Rattle.hamiltonian.specs.Coupling.{u1-right}
-use Rattle.hamiltonian.specs.Weights.{weights-tests}
+use Rattle.matrices.specs.Coupling.{u1-right}
+use Rattle.matrices.specs.Weights.{weights-tests}
 use Rattle.complex.proofs.SidesFound.{triangles-long}
-use Rattle.hamiltonian.proofs.Weighing.{weights-fit}
+use Rattle.matrices.proofs.Weighing.{weights-fit}
 use Rattle.hamiltonian.proofs.DenseTelling.{basis-refused, weights-refused, room-refused, built, basis-listed}
 use borrow.Author.Needs.{needs}
 use Rattle.hamiltonian.proofs.dense.build_hamiltonian.Statement.{statement}

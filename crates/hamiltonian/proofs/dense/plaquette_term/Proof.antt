@@ -1,5 +1,5 @@
 use Rattle.hamiltonian.specs.Dense.{plaquette-term}
-use Rattle.hamiltonian.proofs.Literals.{half}
+use Rattle.matrices.proofs.Literals.{half}
 use Rattle.hamiltonian.proofs.dense.plaquette_term.Statement.{statement}
 use Rattle.hamiltonian.proofs.dense.plaquette_term.Tie as tie
 

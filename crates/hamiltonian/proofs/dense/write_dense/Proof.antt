@@ -1,4 +1,4 @@
-use Rattle.hamiltonian.specs.Weights.{weight}
+use Rattle.matrices.specs.Weights.{weight}
 use Rattle.complex.proofs.SidesFound.{triangles-long}
 use Rattle.hamiltonian.proofs.DenseWritten.{small-rows, electric-written, dense-written}
 use borrow.Author.Needs.{needs}

@@ -1,6 +1,6 @@
 use mathlib.Core.Path.{_≡_, refl, sym, ap, _∙_}
 use native.Mathlib.Omega.{arith}
-use Rattle.hamiltonian.specs.Matrix.{with-added}
+use Rattle.matrices.specs.Matrix.{with-added}
 use borrow.Author.Needs.{needs}
 use Rattle.hamiltonian.proofs.walk.add_hit.Statement.{statement}
 use Rattle.hamiltonian.proofs.walk.add_hit.Tie as tie

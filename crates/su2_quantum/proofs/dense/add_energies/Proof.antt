@@ -5,9 +5,9 @@ use native.Mathlib.Omega.{arith}
 use lib.Count.{ones}
 use lib.Ieee.{Float, binary64, mul}
 use lib.ListN.{getD, length}
-use Rattle.hamiltonian.specs.Coupling.{whole}
-use Rattle.hamiltonian.specs.Matrix.{Matrix, passed}
-use Rattle.hamiltonian.proofs.Matrices.{matrix-same, passed-none, passed-more}
+use Rattle.matrices.specs.Coupling.{whole}
+use Rattle.matrices.specs.Matrix.{Matrix, passed}
+use Rattle.matrices.proofs.Matrices.{matrix-same, passed-none, passed-more}
 use borrow.Author.Needs.{needs}
 use Rattle.su2_quantum.proofs.dense.add_energies.Statement.{statement}
 use Rattle.su2_quantum.proofs.dense.add_energies.Tie as tie

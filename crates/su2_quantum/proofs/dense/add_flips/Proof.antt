@@ -5,8 +5,8 @@ use native.Mathlib.Omega.{arith}
 use lib.Bits.{bitXor}
 use lib.Ieee.{Float}
 use lib.ListN.{length}
-use Rattle.hamiltonian.specs.Matrix.{Matrix, passed}
-use Rattle.hamiltonian.proofs.Matrices.{matrix-same, passed-none, passed-more}
+use Rattle.matrices.specs.Matrix.{Matrix, passed}
+use Rattle.matrices.proofs.Matrices.{matrix-same, passed-none, passed-more}
 use borrow.Author.Needs.{needs}
 use Rattle.su2_quantum.proofs.dense.add_flips.Statement.{statement}
 use Rattle.su2_quantum.proofs.dense.add_flips.Tie as tie

@@ -6,8 +6,8 @@ use lib.Ieee.{Float, binary64, mul}
 use lib.ListN.{length}
 use Rattle.complex.specs.Complex.{complexOf}
 use Rattle.complex.proofs.SidesFound.{triangles-long}
-use Rattle.hamiltonian.specs.Weights.{weight}
-use Rattle.hamiltonian.specs.Matrix.{Matrix}
+use Rattle.matrices.specs.Weights.{weight}
+use Rattle.matrices.specs.Matrix.{Matrix}
 use Rattle.su2_quantum.specs.Dense.{su2-electric-entry, su2-entry}
 use borrow.Author.Needs.{needs}
 use Rattle.su2_quantum.proofs.dense.add_triangles.Statement.{statement}

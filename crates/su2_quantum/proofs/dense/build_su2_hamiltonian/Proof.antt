@@ -10,8 +10,8 @@ use Rattle.mathematics.specs.Refusals.{first}
 use Rattle.mathematics.proofs.Bits.{power-shifted}
 use Rattle.complex.specs.Complex.{complexOf}
 use Rattle.complex.specs.Judge.{refusal}
-use Rattle.hamiltonian.specs.Coupling.{su2-right}
-use Rattle.hamiltonian.specs.Weights.{weights-tests}
+use Rattle.matrices.specs.Coupling.{su2-right}
+use Rattle.matrices.specs.Weights.{weights-tests}
 use Rattle.su2_quantum.specs.Place.{LoopsOf}
 use Rattle.su2_quantum.proofs.Placing.{loops-of, masks-are}
 use Rattle.su2_quantum.proofs.DenseTelling.{weights-many, long-enough, record-refused, limit-refused, weights-refused, room-refused, matrix-built}

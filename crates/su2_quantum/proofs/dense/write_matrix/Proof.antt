@@ -3,7 +3,7 @@ use mathlib.Core.Path.{ap}
 use native.Mathlib.Omega.{arith}
 use lib.ListN.{length, length-append}
 use Rattle.complex.specs.Complex.{complexOf}
-use Rattle.hamiltonian.specs.Coupling.{whole}
+use Rattle.matrices.specs.Coupling.{whole}
 use Rattle.su2_quantum.specs.EvenSets.{su2-states}
 use Rattle.su2_quantum.proofs.DenseEntries.{rows-number, rows-few, electric-matrix, matrix-written}
 use borrow.Author.Needs.{needs}

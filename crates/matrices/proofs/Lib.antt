@@ -1,0 +1,5 @@
+pub mod Literals
+pub mod Couplings
+pub mod Weighing
+pub mod Squares
+pub mod Matrices

@@ -1,0 +1,4 @@
+pub mod Coupling
+pub mod Weights
+pub mod Matrix
+pub mod Squares

@@ -1,0 +1,35 @@
+// The electric term: a factor times a whole number of each state, for U(1) the sum of its squares.
+ghost use mathlib.Core.Path.{_≡_};
+ghost use Prim.Native.Nat.{ℕ, _*_, _^_, _<_, _≤_};
+ghost use lib.IntN.{pos, natAbs};
+ghost use lib.Ieee.{binary64, mul};
+ghost use lib.ListN.{getD, length};
+ghost use Rattle.matrices.specs.Coupling.{whole};
+ghost use Rattle.matrices.specs.Squares.{squares};
+
+fn square(x: i32) -> usize
+    requires { ⌜ natAbs x ≤ 1000 ⌝ }
+    ensures { λ r. ⌜ r ≡ natAbs x * natAbs x ⌝ }
+{
+    (x * x) as usize
+}
+
+// The sum of the squares of a state's values.
+pub fn squares(state: &[i32]) -> usize
+    requires { ⌜ (length (now state) ≤ 63) × ((e : ℕ) → e < length (now state) → natAbs (getD (now state) e (pos 0)) ≤ 1000) ⌝ }
+    ensures { λ r. ⌜ (r ≡ squares (now (state .entry))) × (r ≤ 63000000) ⌝ }
+{
+    let mut sum = 0;
+    for e in 0..state.len() {
+        sum += square(state[e]);
+    }
+    sum
+}
+
+// A factor times a whole number.
+pub fn energy(factor: f64, count: usize) -> f64
+    requires { ⌜ count ≤ 2 ^ 53 ⌝ }
+    ensures { λ r. ⌜ r ≡ mul binary64 factor (whole count) ⌝ }
+{
+    factor * (count as f64)
+}

@@ -1,0 +1,50 @@
+// The weights of the triangles: given, or 1 everywhere.
+ghost use mathlib.Core.Path.{_≡_};
+ghost use mathlib.Core.Bool.{true};
+ghost use Prim.Native.Nat.{_<_};
+ghost use lib.ListN.{length};
+ghost use Rattle.mathematics.specs.Tests.{all};
+ghost use Rattle.mathematics.specs.Refusals.{first};
+ghost use Rattle.matrices.specs.Weights.{bounded, weight, weights-tests};
+
+// Whether a float is from -2^32 to 2^32; the tests are written so that what is not a number fails.
+fn bounded(x: f64) -> bool
+    ensures { λ r. ⌜ r ≡ bounded x ⌝ }
+{
+    (-4294967296.0 <= x) & (x <= 4294967296.0)
+}
+
+fn all_bounded(list: &[f64]) -> bool
+    ensures { λ r. ⌜ r ≡ all bounded (now (list .entry)) ⌝ }
+{
+    let mut so_far = true;
+    for i in 0..list.len() {
+        so_far = so_far & bounded(list[i]);
+    }
+    so_far
+}
+
+// 12 for the number of the given weights, 14 for a coupling that is not right or a weight out of its range, 0 for neither. Weights
+// that are not given are not read.
+pub fn judge_weights(n_triangles: usize, right: bool, given: bool, weights: &[f64]) -> u8
+    ensures { λ r. ⌜ r ≡ first (weights-tests «n_triangles» right given (now (weights .entry))) ⌝ }
+{
+    if given & (weights.len() != n_triangles) {
+        return 12;
+    }
+    if !right {
+        return 14;
+    }
+    if !given {
+        return 0;
+    }
+    if all_bounded(weights) { 0 } else { 14 }
+}
+
+// The weight of triangle t.
+pub fn weight_of(given: bool, weights: &[f64], t: usize) -> f64
+    requires { ⌜ (given ≡ true → t < length (now weights)) ⌝ }
+    ensures { λ r. ⌜ r ≡ weight given (now (weights .entry)) t ⌝ }
+{
+    if given { weights[t] } else { 1.0 }
+}
