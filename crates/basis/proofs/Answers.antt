@@ -7,7 +7,7 @@ use native.Mathlib.Omega.{arith}
 use lib.Dec.{ltb}
 use lib.ListN.{length}
 use borrow.Author.Tests.{ltb-false}
-use Rattle.mathematics.specs.Tests.{all}
+use Rattle.mathematics.specs.Tests.{every-entry}
 use Rattle.mathematics.specs.Refusals.{first, written}
 use Rattle.mathematics.proofs.Refusals.{numbered, first-stops, first-goes-on, refused-kept}
 use Rattle.complex.specs.declared.SimplicialComplex.{SimplicialComplex}
@@ -18,17 +18,18 @@ use Rattle.complex.proofs.Accepting.{accepted}
 use Rattle.gauss_law.proofs.Spanned.{edges-long}
 use Rattle.sheet.specs.declared.SheetRead.{SheetRead}
 use Rattle.sheet.specs.declared.Reading.the-variants.{Accepted, Refused}
-use Rattle.sheet.specs.Sheet.{sheetIn, blank, header-tests, reading-refusal, readAnswer, readOf}
+use Rattle.sheet.specs.Sheet.{sheetIn, header-tests, reading-refusal, readAnswer, readOf}
 use Rattle.sheet.proofs.Sheets.{header-of, shape-decides}
 use Rattle.sheet.proofs.RoundTrips.{header-none}
 use Rattle.walker.specs.declared.tables.Walker.{Walker}
 use Rattle.walker.specs.Tables.{Walks, states-of, Fit}
-use Rattle.walker.proofs.Limits.{power-less}
+use Rattle.enumeration.proofs.Limits.{power-less}
 use Rattle.walker.proofs.Fitting.{walks-fit, walks-states}
 use Rattle.lines.specs.Lines.{firstLine, stateLines, refusedLine}
 use Rattle.lines.specs.Printed.{printed}
 use Rattle.lines.proofs.Lengths.{first-line-long}
-use Rattle.walker.specs.Enumeration.{limit-test}
+use Rattle.enumeration.specs.Enumeration.{limit-test}
+use Rattle.gauss_law.specs.Listing.{states}
 use Rattle.basis.specs.Text.{told, basisText}
 
 -- the first line is short enough
@@ -36,9 +37,9 @@ pub first-line-short : (c : SimplicialComplex) (L dim : ℕ) → refusal (comple
 unfolding complexOf
 first-line-short c L dim good truncation few =
     let a = accepted c .0 good in
-    let vertices : c .«n_vertices» ≤ 64 = a .vertices in
-    let edges : c .«n_edges» ≤ 63 = rw (simplices-length 2 (c .edges) (c .«n_edges»)) at (a .edges) in
-    let triangles : c .«n_triangles» ≤ 256 = rw (simplices-length 3 (c .triangles) (c .«n_triangles»)) at (a .triangles) in
+    let vertices : c .«n_vertices» ≤ 64 = a .few-vertices in
+    let edges : c .«n_edges» ≤ 63 = rw (simplices-length 2 (c .edges) (c .«n_edges»)) at (a .few-edges) in
+    let triangles : c .«n_triangles» ≤ 256 = rw (simplices-length 3 (c .triangles) (c .«n_triangles»)) at (a .few-triangles) in
     omega (arith, first-line-long (c .«n_vertices») (c .«n_edges») (c .«n_triangles») L dim (omega arith) (omega arith) (omega arith) (omega arith) few)
 
 -- ---- the candidates
@@ -57,7 +58,7 @@ module _ (c : SimplicialComplex) (L : ℕ) (w : Walker) (walks : Walks (complexO
 
       pub under-told : told (first (limit-test (complexOf c) L ∷ [])) (complexOf c) L
           ≡ firstLine (c .«n_vertices») (c .«n_edges») (c .«n_triangles») L (length (states-of w L blocks)) ++ stateLines 0 (states-of w L blocks)
-      unfolding told first written printed complexOf
+      unfolding told first written printed complexOf states
       under-told =
           rw (← (walks .count), under, number, walks-states (complexOf c) w walks L, edges-long c, simplices-length 3 (c .triangles) (c .«n_triangles»))
 
@@ -80,7 +81,7 @@ module _ (b : List ℕ) where
   in-range h = let header = header-none b h in (sym (shape-decides b header) ∙ h, header-of b header .truncation)
 
   read-told : reading-refusal b ≡ 0 → told (first (limit-test (complexOf (sheetIn b .complex)) (sheetIn b .lambda) ∷ [])) (complexOf (sheetIn b .complex)) (sheetIn b .lambda) ≡ basisText b
-  unfolding basisText reading-refusal header-tests numbered all
+  unfolding basisText reading-refusal header-tests numbered every-entry
   read-told h =
       let c = complexOf (sheetIn b .complex) in
       let L = sheetIn b .lambda in

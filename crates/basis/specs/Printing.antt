@@ -5,7 +5,7 @@ use mathlib.Core.Path.{_≡_}
 use lib.IntN.{ℤ, pos}
 use lib.ListN.{length, take}
 use Rattle.walker.specs.declared.blocks.Span.{Span}
-use Rattle.walker.specs.Cycles.{added}
+use Rattle.cycles.specs.Cycles.{with-cycle}
 use Rattle.walker.specs.Steps.{Small, Addable}
 
 -- The text goes behind what stands before a place. What has gone out, and then what stands before the next place, is just that.
@@ -24,4 +24,4 @@ pub record Printable (config cycle : List ℤ) (span : Span) : Type 0 where
   pub edges : length config ≤ 63
   pub addable : Addable config (pos 0) cycle
   pub few : span .to ≤ 2001
-  pub small : (d : ℕ) → span .from ≤ d → d < span .to → Small 1000 (added config (pos d) cycle)
+  pub small : (d : ℕ) → span .from ≤ d → d < span .to → Small 1000 (with-cycle config (pos d) cycle)

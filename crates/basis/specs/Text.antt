@@ -3,9 +3,8 @@ use Prim.Native.Nat.{ℕ}
 use mathlib.Core.List.{List, [], _∷_, _++_}
 use Rattle.mathematics.specs.Refusals.{first, written}
 use Rattle.complex.specs.Complex.{Complex, complexOf}
-use Rattle.complex.specs.Judge.{shape-tests}
-use Rattle.walker.specs.Enumeration.{limit-test}
-use Rattle.sheet.specs.Sheet.{sheetIn, header-tests}
+use Rattle.enumeration.specs.Enumeration.{limit-test}
+use Rattle.sheet.specs.Sheet.{sheetIn, reading-tests}
 use Rattle.lines.specs.Lines.{refusedLine}
 use Rattle.lines.specs.Printed.{printed}
 
@@ -17,4 +16,4 @@ unfoldable pub basisText : List ℕ → List ℕ
 basisText bytes =
     let c = complexOf (sheetIn bytes .complex) in
     let lambda = sheetIn bytes .lambda in
-    told (first (header-tests bytes ++ shape-tests c ++ (limit-test c lambda ∷ []))) c lambda
+    told (first (reading-tests bytes ++ (limit-test c lambda ∷ []))) c lambda

@@ -1,13 +1,13 @@
 // What is printed for a sheet, through a lent list.
 use crate::print::print_states;
-use complex::judge::byte;
+use complex::numbering::byte;
+use enumeration::count_of_blocks;
+use enumeration::too_many;
 use lines::write_first_line;
 use lines::write_refused_line;
 use sheet::Reading;
 use sheet::Sheet;
 use sheet::read_sheet;
-use walker::enumerate::count_of_blocks;
-use walker::enumerate::too_many;
 use walker::tables::count_states;
 use walker::tables::prepare;
 ghost use mathlib.Core.Path.{_≡_};
@@ -18,7 +18,7 @@ ghost use Rattle.mathematics.specs.Refusals.{first};
 ghost use Rattle.complex.specs.Complex.{complexOf};
 ghost use Rattle.complex.specs.Judge.{refusal};
 ghost use Rattle.basis.specs.Printing.{Printed};
-ghost use Rattle.walker.specs.Enumeration.{limit-test};
+ghost use Rattle.enumeration.specs.Enumeration.{limit-test};
 ghost use Rattle.basis.specs.Text.{told, basisText};
 
 // The states of a sheet that was read, or 10.

@@ -29,5 +29,7 @@ fn main() {
     let mut out = buffer();
     let length = io::read_full(0, &mut input);
     let end = print_answer(&mut out, &input[..length]);
-    io::write_all(1, &out[..end]);
+    if !io::write_all(1, &out[..end]) {
+        io::write_all(2, b"basis: the answer could not be written to its end\n");
+    }
 }

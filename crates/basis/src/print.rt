@@ -11,8 +11,8 @@ use walker::tables::Walker;
 ghost use mathlib.Core.List.{[]};
 ghost use Prim.Native.Nat.{_+_, _^_, _≤_};
 ghost use lib.ListN.{length};
-ghost use Rattle.walker.specs.Cycles.{row};
-ghost use Rattle.walker.specs.Walker.{rows, walked-states};
+ghost use Rattle.cycles.specs.Cycles.{row};
+ghost use Rattle.walker.specs.Walker.{block-rows, walked-states};
 ghost use Rattle.walker.specs.Steps.{Small, Walkable};
 ghost use Rattle.walker.specs.Tables.{states-of, Fit};
 ghost use Rattle.lines.specs.Lines.{stateLine, stateLines};
@@ -48,7 +48,7 @@ fn print_block(
     span: Span,
 ) -> usize
     requires { ⌜ Roomy (now out) at × Printable (now config) (now cycle) span × (place ≤ 2 ^ 40) ⌝ }
-    ensures { λ r. ⌜ Printed (stateLines place (rows (now (config .entry)) (now (cycle .entry)) (span .from) (span .to))) (now (out .entry)) at (now (out .exit)) r ⌝ }
+    ensures { λ r. ⌜ Printed (stateLines place (block-rows (now (config .entry)) (now (cycle .entry)) (span .from) (span .to))) (now (out .entry)) at (now (out .exit)) r ⌝ }
 {
     let m = config.len();
     let mut space = [0i32; 63];

@@ -1,22 +1,22 @@
 -- What it means that a complex is not refused.
-use Prim.Native.Nat.{ℕ, zero, suc, _+_, _-_, _*_, _<_, _≤_}
-use mathlib.Core.List.{List, [], _∷_, _++_}
-use mathlib.Core.Path.{_≡_, refl, sym, ap, subst, _∙_}
+use Prim.Native.Nat.{ℕ, _*_, _<_, _≤_}
+use mathlib.Core.List.{List, [], _∷_}
+use mathlib.Core.Path.{_≡_, refl}
 use mathlib.Core.Bool.{Bool, true, false, not, _&&_, cond}
 use mathlib.Core.Logic.{_↔_}
 use native.Mathlib.Omega.{arith}
-use borrow.Author.Tests.{eq-eqb, eqb-true, ltb-true, lt-ltb, leb-true, le-leb}
+use borrow.Author.Tests.{eq-eqb, ltb-true, lt-ltb, leb-true, le-leb}
 use lib.ListN.{getD, length}
-use lib.Dec.{eqb, ltb, leb}
-use Rattle.mathematics.specs.Lists.{same, listed, distinct, choose}
-use Rattle.mathematics.specs.Tests.{all}
+use lib.Dec.{ltb, leb}
+use Rattle.mathematics.specs.Lists.{same, listed, distinct, choose, In}
+use Rattle.mathematics.specs.Tests.{every-entry}
 use Rattle.mathematics.specs.Refusals.{first}
-use Rattle.mathematics.proofs.Tests.{and-parts, and-both, all-at, at-all, all-and}
+use Rattle.mathematics.proofs.Tests.{and-parts, all-at, at-all}
 use Rattle.mathematics.proofs.Lists.{lists-equal, listed-at, at-listed, distinct-at, at-distinct}
 use Rattle.complex.specs.declared.SimplicialComplex.{SimplicialComplex}
-use Rattle.complex.specs.Complex.{Simplex, Complex, start, end, entries, simplices, complexOf, Path}
+use Rattle.complex.specs.Complex.{Simplex, Complex, start, end, entries, simplices, complexOf}
 use Rattle.complex.specs.Search.{connected, Ends}
-use Rattle.complex.specs.Judge.{counts-right, rising, simplices-right, sides-listed, triangles-right, refusal, In, Accepted}
+use Rattle.complex.specs.Judge.{counts-right, rising, simplices-right, sides-listed, triangles-right, refusal, Accepted}
 use Rattle.complex.proofs.Simplices.{entries-length, simplices-length, simplex-at}
 use Rattle.complex.proofs.Indexes.{two}
 use Rattle.complex.proofs.Triangles.{fitting, fits}
@@ -40,7 +40,7 @@ simplices-sized k l n i h =
     rw (simplex-at k l n i il) (entries-length l (k * i) k)
 
 -- rising edges have their ends in order
-pub rising-ends : (n : ℕ) (es : List Simplex) → Sized 2 es → all (rising n) es ≡ true → Ends n es
+pub rising-ends : (n : ℕ) (es : List Simplex) → Sized 2 es → every-entry (rising n) es ≡ true → Ends n es
 rising-ends n es two-long h e el =
     let p = rising-pair n (getD es e []) (two-long e el) (all-at (rising n) [] es h e el) in
     (p .1, p .2)
@@ -91,10 +91,10 @@ counts-own c h =
     rw (simplices-length 2 (c .edges) (c .«n_edges»), simplices-length 3 (c .triangles) (c .«n_triangles»)) at
     (counts (c .«n_vertices») (length (simplices 2 (c .edges) (c .«n_edges»))) (length (simplices 3 (c .triangles) (c .«n_triangles»))) (passed (complexOf c) h .counts))
 
-in-at : (s : Simplex) (l : List Simplex) → listed same s l ≡ true → In s l
+in-at : (s : Simplex) (l : List Simplex) → listed same s l ≡ true → In [] s l
 in-at s l h = listed-at same lists-equal [] s l h
 
-pub at-in : (s : Simplex) (l : List Simplex) → In s l → listed same s l ≡ true
+pub at-in : (s : Simplex) (l : List Simplex) → In [] s l → listed same s l ≡ true
 at-in s l p = at-listed same lists-equal [] s l (p .0) (p .1) (p .2)
 
 module _ (c : Complex) (two-long : Sized 2 (c .edges)) (three-long : Sized 3 (c .triangles)) where
@@ -102,8 +102,8 @@ module _ (c : Complex) (two-long : Sized 2 (c .edges)) (three-long : Sized 3 (c 
   pub triangle-fits : triangles-right c ≡ true → (t : ℕ) → t < length (c .triangles) → fitting (c .vertices) (c .edges) (getD (c .triangles) t []) ≡ true
   unfolding triangles-right simplices-right fitting
   triangle-fits h t tl =
-      let p = and-parts (all (rising (c .vertices)) (c .triangles) && distinct same (c .triangles)) (all (sides-listed (c .edges)) (c .triangles)) h in
-      let q = and-parts (all (rising (c .vertices)) (c .triangles)) (distinct same (c .triangles)) (p .0) in
+      let p = and-parts (every-entry (rising (c .vertices)) (c .triangles) && distinct same (c .triangles)) (every-entry (sides-listed (c .edges)) (c .triangles)) h in
+      let q = and-parts (every-entry (rising (c .vertices)) (c .triangles)) (distinct same (c .triangles)) (p .0) in
       rw (eq-eqb (length (getD (c .triangles) t [])) 3 (three-long t tl), all-at (rising (c .vertices)) [] (c .triangles) (q .0) t tl, all-at (sides-listed (c .edges)) [] (c .triangles) (p .1) t tl)
 
   to-accepted : refusal c ≡ 0 → Accepted c
@@ -114,57 +114,57 @@ module _ (c : Complex) (two-long : Sized 2 (c .edges)) (three-long : Sized 3 (c 
       let n = c .vertices in
       let p = passed c h in
       let k = counts n (length es) (length ts) (p .counts) in
-      let e = and-parts (all (rising n) es) (distinct same es) (p .edges) in
-      let t = and-parts (all (rising n) ts && distinct same ts) (all (sides-listed es) ts) (p .triangles) in
+      let e = and-parts (every-entry (rising n) es) (distinct same es) (p .edges) in
+      let t = and-parts (every-entry (rising n) ts && distinct same ts) (every-entry (sides-listed es) ts) (p .triangles) in
       record {
         some-vertex = k .some-vertex;
-        vertices = k .vertices;
-        edges = k .edges;
-        triangles = k .triangles;
+        few-vertices = k .vertices;
+        few-edges = k .edges;
+        few-triangles = k .triangles;
         edge-is = λ s at. edge-plain s at (e .0);
         edge-once = distinct-at same lists-equal [] es (e .1);
         triangle-is = λ s at. triangle-plain s at (p .triangles);
-        triangle-once = distinct-at same lists-equal [] ts (and-parts (all (rising n) ts) (distinct same ts) (t .0) .1);
+        triangle-once = distinct-at same lists-equal [] ts (and-parts (every-entry (rising n) ts) (distinct same ts) (t .0) .1);
         reached = connected-reached es n (k .some-vertex) (rising-ends n es two-long (e .0)) .0 (p .joined);
       }
     where
-      edge-plain : (s : Simplex) → In s (c .edges) → all (rising (c .vertices)) (c .edges) ≡ true → (a b : ℕ) × (s ≡ a ∷ b ∷ []) × (a < b) × (b < c .vertices)
+      edge-plain : (s : Simplex) → In [] s (c .edges) → every-entry (rising (c .vertices)) (c .edges) ≡ true → (a b : ℕ) × (s ≡ a ∷ b ∷ []) × (a < b) × (b < c .vertices)
       edge-plain s at h =
           let long : length s ≡ 2 = rw (at .2) at (two-long (at .0) (at .1)) in
           let rise : rising (c .vertices) s ≡ true = rw (at .2) at (all-at (rising (c .vertices)) [] (c .edges) h (at .0) (at .1)) in
           let p = rising-pair (c .vertices) s long rise in
           (start s, end s, p .0, p .1, p .2)
 
-      triangle-plain : (s : Simplex) → In s (c .triangles) → triangles-right c ≡ true → (x y z : ℕ) × (s ≡ x ∷ y ∷ z ∷ []) × (x < y) × (y < z) × (z < c .vertices) × In (x ∷ y ∷ []) (c .edges) × In (x ∷ z ∷ []) (c .edges) × In (y ∷ z ∷ []) (c .edges)
+      triangle-plain : (s : Simplex) → In [] s (c .triangles) → triangles-right c ≡ true → (x y z : ℕ) × (s ≡ x ∷ y ∷ z ∷ []) × (x < y) × (y < z) × (z < c .vertices) × In [] (x ∷ y ∷ []) (c .edges) × In [] (x ∷ z ∷ []) (c .edges) × In [] (y ∷ z ∷ []) (c .edges)
       triangle-plain s at h =
           let fit : fitting (c .vertices) (c .edges) s ≡ true = rw (at .2) at (triangle-fits h (at .0) (at .1)) in
           let f = fits (c .vertices) (c .edges) s fit in
           (start s, end s, getD s 2 0, f .is, f .first, f .second, f .third, in-at _ (c .edges) (f .first-side), in-at _ (c .edges) (f .second-side), in-at _ (c .edges) (f .third-side))
 
   from-accepted : Accepted c → refusal c ≡ 0
-  unfolding counts-right simplices-right triangles-right rising sides-listed all choose
+  unfolding counts-right simplices-right triangles-right rising sides-listed every-entry choose
   from-accepted a =
       let es = c .edges in
       let ts = c .triangles in
       let n = c .vertices in
-      let rise : all (rising n) es ≡ true =
+      let rise : every-entry (rising n) es ≡ true =
       at-all (rising n) [] es
       (λ i il.
       let p = a .edge-is (getD es i []) (i, il, refl) in
       rw (p .2, lt-ltb (p .0) (p .1) (p .3), lt-ltb (p .1) n (p .4))) in
-      let triangles-rise : all (rising n) ts ≡ true =
+      let triangles-rise : every-entry (rising n) ts ≡ true =
       at-all (rising n) [] ts
       (λ i il.
       let p = a .triangle-is (getD ts i []) (i, il, refl) in
       rw (p .3, lt-ltb (p .0) (p .1) (p .4), lt-ltb (p .1) (p .2) (p .5), lt-ltb (p .2) n (p .6))) in
-      let sides : all (sides-listed es) ts ≡ true =
+      let sides : every-entry (sides-listed es) ts ≡ true =
       at-all (sides-listed es) [] ts
       (λ i il.
       let p = a .triangle-is (getD ts i []) (i, il, refl) in
       rw (p .3, at-in (p .0 ∷ p .1 ∷ []) es (p .7), at-in (p .0 ∷ p .2 ∷ []) es (p .8), at-in (p .1 ∷ p .2 ∷ []) es (p .9))) in
       pass c
       (record {
-        counts = rw (le-leb 1 n (a .some-vertex), le-leb n 64 (a .vertices), le-leb (length es) 63 (a .edges), le-leb (length ts) 256 (a .triangles));
+        counts = rw (le-leb 1 n (a .some-vertex), le-leb n 64 (a .few-vertices), le-leb (length es) 63 (a .few-edges), le-leb (length ts) 256 (a .few-triangles));
         edges = rw (rise, at-distinct same lists-equal [] es (a .edge-once));
         triangles = rw (triangles-rise, at-distinct same lists-equal [] ts (a .triangle-once), sides);
         joined = connected-reached es n (a .some-vertex) (rising-ends n es two-long rise) .1 (a .reached);

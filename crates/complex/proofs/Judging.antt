@@ -1,26 +1,25 @@
 -- The judge's answer at each of its tests.
-use Prim.Native.Nat.{ℕ, zero, suc, _+_, _*_, _<_, _≤_}
-use mathlib.Core.List.{List, [], _∷_, map}
-use mathlib.Core.Path.{_≡_, refl, sym, ap, _∙_}
+use Prim.Native.Nat.{ℕ, _+_, _*_, _<_, _≤_}
+use mathlib.Core.List.{List, [], map}
+use mathlib.Core.Path.{_≡_, refl, sym, _∙_}
 use mathlib.Core.Bool.{Bool, true, false, not, _&&_, cond}
 use native.Mathlib.Omega.{arith}
-use borrow.Author.Tests.{eq-eqb, ne-eqb, eqb-true, ltb-false}
+use borrow.Author.Tests.{eq-eqb, ltb-false}
 use lib.ListN.{getD, length}
 use lib.Dec.{eqb, ltb}
-use Rattle.mathematics.specs.Lists.{same, distinct, firsts}
-use Rattle.mathematics.specs.Tests.{all}
+use Rattle.mathematics.specs.Lists.{same, distinct}
+use Rattle.mathematics.specs.Tests.{every-entry}
 use Rattle.mathematics.specs.Refusals.{first}
 use Rattle.mathematics.proofs.Tests.{and-parts, all-at, at-all, all-and}
-use Rattle.mathematics.proofs.Lists.{lists-equal, distinct-firsts}
 use Rattle.complex.specs.declared.SimplicialComplex.{SimplicialComplex}
-use Rattle.complex.specs.Complex.{Simplex, start, end, entries, simplices, complexOf}
+use Rattle.complex.specs.Complex.{Simplex, entries, simplices, complexOf}
 use Rattle.complex.specs.Search.{connected}
 use Rattle.complex.specs.Tree.{Searchable}
 use Rattle.complex.specs.Judge.{counts-right, rising, simplices-right, sides-listed, triangles-right, refusal, truncated-tests}
 use Rattle.complex.specs.Numbering.{triangle-key, Keyed, EdgeTable, Judged}
-use Rattle.complex.proofs.Simplices.{entries-length, simplices-length, simplex-at, start-at, end-at}
-use Rattle.complex.proofs.Triangles.{fitting, fitting-keyed, triangles-counted}
-use Rattle.complex.proofs.Accepting.{Counts, counts, Passed, passed, simplices-sized, rising-ends}
+use Rattle.complex.proofs.Simplices.{simplices-length, simplex-at, start-at, end-at}
+use Rattle.complex.proofs.Triangles.{fitting, fitting-keyed, triangles-differ}
+use Rattle.complex.proofs.Accepting.{counts, Passed, passed, simplices-sized, rising-ends}
 
 abbrev pub edges-of : SimplicialComplex → List Simplex
 edges-of c = simplices 2 (c .edges) (c .«n_edges»)
@@ -46,28 +45,23 @@ module _ (c : SimplicialComplex) (table : List ℕ) where
   wrong-counts h = refused-by c table 4 (λ z. omega arith) (rw (by-tests c, h))
 
   module _ (right : counts-of c ≡ true) where
-    pub falling-edge : all (rising (c .«n_vertices»)) (edges-of c) ≡ false → Judged c table 7
+    pub falling-edge : every-entry (rising (c .«n_vertices»)) (edges-of c) ≡ false → Judged c table 7
     unfolding simplices-right
     falling-edge h = refused-by c table 7 (λ z. omega arith) (rw (by-tests c, right, h))
 
-    -- how many different edges there are says whether one is listed twice
-    edges-differ : (k : ℕ) → k ≡ length (firsts same (edges-of c)) → distinct same (edges-of c) ≡ eqb k (c .«n_edges»)
-    edges-differ k e = distinct-firsts same lists-equal [] (edges-of c) ∙ rw (e, simplices-length 2 (c .edges) (c .«n_edges»))
-
-    pub repeated-edge : all (rising (c .«n_vertices»)) (edges-of c) ≡ true → (k : ℕ) → k ≡ length (firsts same (edges-of c)) → (k ≡ c .«n_edges» → ⊥) → Judged c table 7
+    pub repeated-edge : every-entry (rising (c .«n_vertices»)) (edges-of c) ≡ true → distinct same (edges-of c) ≡ false → Judged c table 7
     unfolding simplices-right
-    repeated-edge rise k e h =
-        refused-by c table 7 (λ z. omega arith) (rw (by-tests c, right, rise, edges-differ k e, ne-eqb k (c .«n_edges») h))
+    repeated-edge rise h = refused-by c table 7 (λ z. omega arith) (rw (by-tests c, right, rise, h))
 
-    pub edges-right : all (rising (c .«n_vertices»)) (edges-of c) ≡ true → (k : ℕ) → k ≡ length (firsts same (edges-of c)) → k ≡ c .«n_edges» → simplices-right (c .«n_vertices») (edges-of c) ≡ true
+    pub edges-right : every-entry (rising (c .«n_vertices»)) (edges-of c) ≡ true → distinct same (edges-of c) ≡ true → simplices-right (c .«n_vertices») (edges-of c) ≡ true
     unfolding simplices-right
-    edges-right rise k e h = rw (rise, edges-differ k e, eq-eqb k (c .«n_edges») h)
+    edges-right rise h = rw (rise, h)
 
     module _ (edges : simplices-right (c .«n_vertices») (edges-of c) ≡ true) where
-      pub wrong-triangle : all (λ s. rising (c .«n_vertices») s && sides-listed (edges-of c) s) (triangles-of c) ≡ false → Judged c table 8
+      pub wrong-triangle : every-entry (λ s. rising (c .«n_vertices») s && sides-listed (edges-of c) s) (triangles-of c) ≡ false → Judged c table 8
       unfolding triangles-right simplices-right complexOf
       wrong-triangle h =
-          let e : (all (rising (c .«n_vertices»)) (triangles-of c) && all (sides-listed (edges-of c)) (triangles-of c)) ≡ false =
+          let e : (every-entry (rising (c .«n_vertices»)) (triangles-of c) && every-entry (sides-listed (edges-of c)) (triangles-of c)) ≡ false =
           sym (all-and (rising (c .«n_vertices»)) (sides-listed (edges-of c)) (triangles-of c)) ∙ h in
           refused-by c table 8 (λ z. omega arith) (rw (by-tests c, right, edges, falls _ (distinct same (triangles-of c)) _ e))
         where
@@ -76,13 +70,13 @@ module _ (c : SimplicialComplex) (table : List ℕ) where
           falls true false b h = refl
           falls false d b h = refl
 
-      module _ (fit : all (λ s. rising (c .«n_vertices») s && sides-listed (edges-of c) s) (triangles-of c) ≡ true) (index : EdgeTable table (edges-of c)) where
-        fit-parts : (all (rising (c .«n_vertices»)) (triangles-of c) ≡ true) × (all (sides-listed (edges-of c)) (triangles-of c) ≡ true)
+      module _ (fit : every-entry (λ s. rising (c .«n_vertices») s && sides-listed (edges-of c) s) (triangles-of c) ≡ true) (index : EdgeTable table (edges-of c)) where
+        fit-parts : (every-entry (rising (c .«n_vertices»)) (triangles-of c) ≡ true) × (every-entry (sides-listed (edges-of c)) (triangles-of c) ≡ true)
         fit-parts =
-            and-parts (all (rising (c .«n_vertices»)) (triangles-of c)) (all (sides-listed (edges-of c)) (triangles-of c))
+            and-parts (every-entry (rising (c .«n_vertices»)) (triangles-of c)) (every-entry (sides-listed (edges-of c)) (triangles-of c))
             (sym (all-and (rising (c .«n_vertices»)) (sides-listed (edges-of c)) (triangles-of c)) ∙ fit)
 
-        all-fitting : all (fitting (c .«n_vertices») (edges-of c)) (triangles-of c) ≡ true
+        all-fitting : every-entry (fitting (c .«n_vertices») (edges-of c)) (triangles-of c) ≡ true
         unfolding fitting
         all-fitting =
             at-all (fitting (c .«n_vertices») (edges-of c)) [] (triangles-of c)
@@ -99,24 +93,22 @@ module _ (c : SimplicialComplex) (table : List ℕ) where
             (fitting-keyed (c .«n_vertices») (edges-of c) (counts _ _ _ right .vertices) short table index (getD (triangles-of c) i [])
             (all-at (fitting (c .«n_vertices») (edges-of c)) [] (triangles-of c) all-fitting i (rw (simplices-length 3 (c .triangles) (c .«n_triangles»)) il)))
 
-        triangles-differ : (k : ℕ) → k ≡ length (firsts eqb (map (triangle-key table) (triangles-of c))) → distinct same (triangles-of c) ≡ eqb k (c .«n_triangles»)
-        triangles-differ k e =
-            let f : k ≡ length (firsts same (triangles-of c)) =
-            e ∙ triangles-counted (c .«n_vertices») (edges-of c) (counts _ _ _ right .vertices) short table index (triangles-of c) all-fitting in
-            distinct-firsts same lists-equal [] (triangles-of c) ∙ rw (f, simplices-length 3 (c .triangles) (c .«n_triangles»))
+        -- the triangles differ where their keys do
+        by-keys : (b : Bool) → b ≡ distinct eqb (map (triangle-key table) (triangles-of c)) → distinct same (triangles-of c) ≡ b
+        by-keys b e =
+            sym (triangles-differ (c .«n_vertices») (edges-of c) (counts _ _ _ right .vertices) short table index (triangles-of c) all-fitting) ∙ sym e
 
-        pub repeated-triangle : (k : ℕ) → k ≡ length (firsts eqb (map (triangle-key table) (triangles-of c))) → (k ≡ c .«n_triangles» → ⊥) → Judged c table 8
+        pub repeated-triangle : false ≡ distinct eqb (map (triangle-key table) (triangles-of c)) → Judged c table 8
         unfolding triangles-right simplices-right complexOf
-        repeated-triangle k e h =
-            refused-by c table 8 (λ z. omega arith)
-            (rw (by-tests c, right, edges, fit-parts .0, triangles-differ k e, ne-eqb k (c .«n_triangles») h))
+        repeated-triangle e =
+            refused-by c table 8 (λ z. omega arith) (rw (by-tests c, right, edges, fit-parts .0, by-keys false e))
 
         -- the last test decides
-        pub last-test : (k : ℕ) → k ≡ length (firsts eqb (map (triangle-key table) (triangles-of c))) → k ≡ c .«n_triangles» → (b : Bool) → b ≡ connected (edges-of c) (c .«n_vertices») → Judged c table (cond b 0 9)
+        pub last-test : true ≡ distinct eqb (map (triangle-key table) (triangles-of c)) → (b : Bool) → b ≡ connected (edges-of c) (c .«n_vertices») → Judged c table (cond b 0 9)
         unfolding triangles-right simplices-right complexOf
-        last-test k e h b joined =
+        last-test e b joined =
             record {
-              number = rw (by-tests c, right, edges, fit-parts .0, triangles-differ k e, eq-eqb k (c .«n_triangles») h, fit-parts .1, ← joined) (go b);
+              number = rw (by-tests c, right, edges, fit-parts .0, by-keys true e, fit-parts .1, ← joined) (go b);
               index = λ z. index;
             }
           where
@@ -125,7 +117,7 @@ module _ (c : SimplicialComplex) (table : List ℕ) where
             go false = refl
 
 -- what the later functions ask of a record whose counts are right and whose edges rise
-module _ (c : SimplicialComplex) (right : counts-of c ≡ true) (rise : all (rising (c .«n_vertices»)) (edges-of c) ≡ true) where
+module _ (c : SimplicialComplex) (right : counts-of c ≡ true) (rise : every-entry (rising (c .«n_vertices»)) (edges-of c) ≡ true) where
   pub small-ends : (e : ℕ) → e < c .«n_edges» → (getD (c .edges) (2 * e) 0 < 64) × (getD (c .edges) (2 * e + 1) 0 < 64)
   small-ends e el =
       let p = rising-ends (c .«n_vertices») (edges-of c) (simplices-sized 2 (c .edges) (c .«n_edges»)) rise e (rw (simplices-length 2 (c .edges) (c .«n_edges»)) el) in
@@ -144,7 +136,7 @@ module _ (c : SimplicialComplex) (right : counts-of c ≡ true) (rise : all (ris
         ends = rising-ends (c .«n_vertices») (edges-of c) (simplices-sized 2 (c .edges) (c .«n_edges»)) rise;
       }
 
--- the edges of an accepted record can be numbered, and each has its own number
+-- the edges of an accepted record can be indexed, and none is listed twice
 module _ (c : SimplicialComplex) (h : refusal (complexOf c) ≡ 0) where
   tests : Passed (complexOf c)
   tests = passed (complexOf c) h
@@ -153,15 +145,15 @@ module _ (c : SimplicialComplex) (h : refusal (complexOf c) ≡ 0) where
   unfolding complexOf
   right-own = rw (simplices-length 2 (c .edges) (c .«n_edges»), simplices-length 3 (c .triangles) (c .«n_triangles»)) at (tests .counts)
 
-  edges-own : (all (rising (c .«n_vertices»)) (edges-of c) ≡ true) × (distinct same (edges-of c) ≡ true)
+  edges-own : (every-entry (rising (c .«n_vertices»)) (edges-of c) ≡ true) × (distinct same (edges-of c) ≡ true)
   unfolding complexOf simplices-right
-  edges-own = and-parts (all (rising (c .«n_vertices»)) (edges-of c)) (distinct same (edges-of c)) (tests .edges)
+  edges-own = and-parts (every-entry (rising (c .«n_vertices»)) (edges-of c)) (distinct same (edges-of c)) (tests .edges)
 
   pub ends-own : (e : ℕ) → e < c .«n_edges» → (getD (c .edges) (2 * e) 0 < 64) × (getD (c .edges) (2 * e + 1) 0 < 64)
   ends-own = small-ends c right-own (edges-own .0)
 
-  pub numbers-own : (k : ℕ) → k ≡ length (firsts same (edges-of c)) → k ≡ c .«n_edges»
-  numbers-own k e = eqb-true k (c .«n_edges») (sym (edges-differ c [] right-own k e) ∙ edges-own .1)
+  pub once-own : distinct same (edges-of c) ≡ true
+  once-own = edges-own .1
 
 -- 5 has its place after 4
 pub with-truncation : (c : SimplicialComplex) (lambda : ℕ) → first (truncated-tests (complexOf c) lambda) ≡ cond (eqb (refusal (complexOf c)) 4) 4 (cond (ltb 1000 lambda) 5 (refusal (complexOf c)))

@@ -9,5 +9,4 @@ pub mod Accepting
 pub mod Judging
 pub mod Refusing
 pub mod TriangleEdges
-pub mod SidesFound
 pub mod Flattened

@@ -3,7 +3,7 @@ use Prim.Native.Nat.{ℕ}
 use mathlib.Core.List.{List, _∷_, _++_}
 use mathlib.Core.Path.{_≡_, refl, sym, _∙_}
 use mathlib.Core.Bool.{Bool}
-use Rattle.mathematics.specs.Tests.{all}
+use Rattle.mathematics.specs.Tests.{every-entry}
 use Rattle.mathematics.specs.Refusals.{first}
 use Rattle.mathematics.proofs.Refusals.{first-stops, first-goes-on, numbered}
 use Rattle.complex.specs.Complex.{Complex}
@@ -17,5 +17,5 @@ module _ (c : Complex) (tests : List (ℕ × Bool)) where
 
   -- the complex is accepted
   pub accepted-next : refusal c ≡ 0 → first ((counts-test c ∷ shape-tests c) ++ tests) ≡ first tests
-  unfolding refusal numbered all
+  unfolding refusal numbered every-entry
   accepted-next h = first-goes-on (counts-test c ∷ shape-tests c) tests refl h

@@ -12,12 +12,12 @@ use lib.ListN.{getD, length, length-append, List·getD-append}
 use lib.Seq.{getD-append-seam, getD-at}
 use lib.Dec.{eqb, ltb}
 use Rattle.mathematics.specs.Lists.{listed, distinct}
-use Rattle.mathematics.specs.Tests.{all}
+use Rattle.mathematics.specs.Tests.{every-entry}
 use Rattle.mathematics.proofs.Tests.{all-at}
 use Rattle.mathematics.proofs.Lists.{numbers-equal, listed-at, at-listed, distinct-at}
 use Rattle.mathematics.proofs.Counting.{every-at, at-every, different-few, different-all, more-below, more-different}
-use Rattle.complex.specs.Complex.{Simplex, Joins, Path, here, over}
-use Rattle.complex.specs.Search.{Search, across, look, scan, serve, served, search, connected, Ends, Spans}
+use Rattle.complex.specs.Complex.{Simplex, Joins, EdgePath, here, over}
+use Rattle.complex.specs.Search.{Search, across, look, scan, serve, served, search, connected, Ends, SpansReached}
 use Rattle.complex.proofs.Looks.{found, across-joins, joins-across, joins-touches, across-below, look-cases, serve-filled, serve-past}
 
 -- what holds of each entry at its place, and of one more, holds of each of the longer list
@@ -34,11 +34,11 @@ module _ {A : Type 0} (P : ℕ → A → Type 0) (d : A) where
 record Grown (es : List Simplex) (n : ℕ) (s : Search) : Type 0 where
   root : getD (s .seen) 0 0 ≡ 0
   sizes : length (s .seen) ≡ suc (length (s .tree))
-  below : all (λ v. ltb v n) (s .seen) ≡ true
+  below : every-entry (λ v. ltb v n) (s .seen) ≡ true
   different : distinct eqb (s .seen) ≡ true
   numbered : (i : ℕ) → i < length (s .tree) → getD (s .tree) i 0 < length es
   joined : (i : ℕ) → i < length (s .tree) → (h : ℕ) × (h ≤ i) × Joins (getD es (getD (s .tree) i 0) []) (getD (s .seen) h 0) (getD (s .seen) (suc i) 0)
-  paths : (i : ℕ) → i < length (s .seen) → Path es 0 (getD (s .seen) i 0)
+  paths : (i : ℕ) → i < length (s .seen) → EdgePath es 0 (getD (s .seen) i 0)
 
 -- a search is another with more seen
 record Grows (s t : Search) : Type 0 where
@@ -98,7 +98,7 @@ module _ (s : Search) (w e : ℕ) where
             let b = t .1 in
             (t .0, t .1, rw (grows .kept (t .0) (omega arith), grows .kept (suc i) (omega arith)) (t .2)))
             (h, (let f = at .filled in let z = g .sizes in omega arith), rw (grows .kept h (at .filled), at .holds, getD-at (s .seen) w [] 0 (suc (length (s .tree))) (g .sizes)) jo);
-        paths = each-last (λ i x. Path es 0 x) 0 (s .seen) w (g .paths) (over e (subst (Path es 0) (at .holds) (g .paths h (at .filled))) l jo);
+        paths = each-last (λ i x. EdgePath es 0 x) 0 (s .seen) w (g .paths) (over e (subst (EdgePath es 0) (at .holds) (g .paths h (at .filled))) l jo);
       }
 
 -- from s to t the first k edges were looked at from v
@@ -181,7 +181,7 @@ module _ (es : List Simplex) (n : ℕ) (ends : Ends n es) where
   served-closed s g (suc k) = serve-closed (served es s k) k (served-closed s g k)
 
   search-closed : 1 ≤ n → Closed es n (search es n) n
-  unfolding search all distinct listed
+  unfolding search every-entry distinct listed
   search-closed some =
       served-closed (record { seen = 0 ∷ []; tree = [] }) (record {
         root = refl;
@@ -194,7 +194,7 @@ module _ (es : List Simplex) (n : ℕ) (ends : Ends n es) where
       }) n
 
   -- where every filled place was served, what a path leads to was seen
-  path-listed : (t : Search) → Closed es n t n → (v : ℕ) → Path es 0 v → listed eqb v (t .seen) ≡ true
+  path-listed : (t : Search) → Closed es n t n → (v : ℕ) → EdgePath es 0 v → listed eqb v (t .seen) ≡ true
   path-listed t c v here = at-listed eqb numbers-equal 0 0 (t .seen) 0 (let z = c .grown .sizes in omega arith) (c .grown .root)
   path-listed t c v (over {w = a} e r l j) =
       let i = listed-at eqb numbers-equal 0 a (t .seen) (path-listed t c a r) in
@@ -202,7 +202,7 @@ module _ (es : List Simplex) (n : ℕ) (ends : Ends n es) where
       c .closed (i .0) (lt-of-lt-of-le (i .1) (different-few n (t .seen) (g .below) (g .different))) (i .1) e l v (rw (i .2) j)
 
 module _ (es : List Simplex) (n : ℕ) (some : 1 ≤ n) (ends : Ends n es) where
-  pub search-spans : Spans es n (search es n)
+  pub search-spans : SpansReached es n (search es n)
   search-spans =
       let t = search es n in
       let c : Closed es n t n = search-closed es n ends some in
@@ -216,12 +216,12 @@ module _ (es : List Simplex) (n : ℕ) (some : 1 ≤ n) (ends : Ends n es) where
         joined = g .joined;
         reach =
             λ v. (
-              λ h. let i = listed-at eqb numbers-equal 0 v (t .seen) h in subst (Path es 0) (i .2) (g .paths (i .0) (i .1)),
+              λ h. let i = listed-at eqb numbers-equal 0 v (t .seen) h in subst (EdgePath es 0) (i .2) (g .paths (i .0) (i .1)),
               path-listed es n ends t c v,
             );
       }
 
-  pub connected-reached : (connected es n ≡ true) ↔ ((v : ℕ) → v < n → Path es 0 v)
+  pub connected-reached : (connected es n ≡ true) ↔ ((v : ℕ) → v < n → EdgePath es 0 v)
   unfolding connected
   connected-reached = (
     λ h v l. search-spans .reach v .0 (every-at (λ v. listed eqb v (search es n .seen)) n h v l),

@@ -11,7 +11,7 @@ use lib.ListN.{getD, set, take, length, length-set, replicate, getD-replicate}
 use lib.Seq.{length-take-le, take-suc-set, getD-take}
 use lib.Dec.{eqb}
 use Rattle.mathematics.specs.Lists.{listed, distinct}
-use Rattle.mathematics.specs.Tests.{all}
+use Rattle.mathematics.specs.Tests.{every-entry}
 use Rattle.mathematics.proofs.Flags.{flag-more}
 use Rattle.mathematics.proofs.Counting.{more-below, more-different, different-room}
 use Rattle.complex.specs.Complex.{entries, simplices}
@@ -133,7 +133,7 @@ module _ (edges : List ℕ) (n m : ℕ) (t : SpanningTree) (fits : Fits n t) (h 
       rw (serve-filled (simplices 2 edges m) (searchOf t) h (rw (seen-length n t fits) inside), simplices-length 2 edges m, getD-take (t .found + 1) (t .queue) h 0 inside) d
 
 pub start-searched : (n : ℕ) → 1 ≤ n → Searched n (record { queue = replicate 64 0; found = 0; «tree_edges» = replicate 63 0; visited = set (replicate 64 0) 0 1 }) (record { seen = 0 ∷ []; tree = [] })
-unfolding searchOf all distinct listed
+unfolding searchOf every-entry distinct listed
 start-searched n some =
     record {
       fits =

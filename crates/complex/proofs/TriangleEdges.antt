@@ -5,20 +5,20 @@ use mathlib.Core.Path.{_≡_, refl}
 use mathlib.Core.Logic.{_≢_}
 use native.Mathlib.Omega.{arith}
 use lib.ListN.{getD, length}
-use Rattle.mathematics.specs.Lists.{same, place, choose}
+use Rattle.mathematics.specs.Lists.{same, position, choose, In}
 use Rattle.mathematics.proofs.Lists.{lists-equal, place-at}
 use Rattle.complex.specs.Complex.{Simplex, Complex}
-use Rattle.complex.specs.Judge.{In, Accepted}
+use Rattle.complex.specs.Judge.{Accepted}
 use Rattle.complex.specs.Sides.{sides, TriangleSides}
 use Rattle.complex.proofs.Accepting.{at-in}
 
 -- what is in the list stands at its place
-in-place : (s : Simplex) (l : List Simplex) → In s l → (place same s l < length l) × (getD l (place same s l) [] ≡ s)
+in-place : (s : Simplex) (l : List Simplex) → In [] s l → (position same s l < length l) × (getD l (position same s l) [] ≡ s)
 in-place s l h = place-at same lists-equal [] s l (at-in s l h)
 
 -- the edges of triangle (x, y, z), each at its place
 pub three-sides : (c : Complex) (t x y z : ℕ) → getD (c .triangles) t [] ≡ x ∷ y ∷ z ∷ []
-    → sides c t ≡ place same (x ∷ y ∷ []) (c .edges) ∷ place same (x ∷ z ∷ []) (c .edges) ∷ place same (y ∷ z ∷ []) (c .edges) ∷ []
+    → sides c t ≡ position same (x ∷ y ∷ []) (c .edges) ∷ position same (x ∷ z ∷ []) (c .edges) ∷ position same (y ∷ z ∷ []) (c .edges) ∷ []
 unfolding sides choose
 three-sides c t x y z h = rw h
 
@@ -32,9 +32,9 @@ triangle-sides c accepted t tl =
       x = s .0;
       y = s .1;
       z = s .2;
-      i = place same (s .0 ∷ s .1 ∷ []) (c .edges);
-      j = place same (s .0 ∷ s .2 ∷ []) (c .edges);
-      k = place same (s .1 ∷ s .2 ∷ []) (c .edges);
+      i = position same (s .0 ∷ s .1 ∷ []) (c .edges);
+      j = position same (s .0 ∷ s .2 ∷ []) (c .edges);
+      k = position same (s .1 ∷ s .2 ∷ []) (c .edges);
       triangle = s .3;
       first-rise = s .4;
       second-rise = s .5;

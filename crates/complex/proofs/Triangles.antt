@@ -1,16 +1,16 @@
 -- The tests of a triangle, and its key.
-use Prim.Native.Nat.{ℕ, zero, suc, _+_, _-_, _*_, _<_, _≤_}
-use mathlib.Core.List.{List, [], _∷_, _++_, map, head-eq-of-cons-eq, tail-eq-of-cons-eq}
-use mathlib.Core.Path.{_≡_, refl, sym, ap, subst, _∙_}
+use Prim.Native.Nat.{ℕ, suc, _+_, _-_, _*_, _<_, _≤_}
+use mathlib.Core.List.{List, [], _∷_, map, head-eq-of-cons-eq, tail-eq-of-cons-eq}
+use mathlib.Core.Path.{_≡_, refl, sym, ap, _∙_}
 use mathlib.Core.Bool.{Bool, true, false, not, _&&_, cond, false≢true}
 use native.Mathlib.Omega.{arith}
-use borrow.Author.Tests.{eq-eqb, ne-eqb, eqb-true, ltb-true, lt-ltb, le-ltb}
-use lib.ListN.{getD, length, length-map}
+use borrow.Author.Tests.{ne-eqb, eqb-true, ltb-true, lt-ltb, le-ltb}
+use lib.ListN.{getD, length}
 use lib.Dec.{eqb, ltb}
-use Rattle.mathematics.specs.Lists.{same, listed, place, firsts, choose}
-use Rattle.mathematics.specs.Tests.{all}
+use Rattle.mathematics.specs.Lists.{same, listed, position, distinct, choose}
+use Rattle.mathematics.specs.Tests.{every-entry}
 use Rattle.mathematics.proofs.Tests.{and-true, and-parts}
-use Rattle.mathematics.proofs.Lists.{numbers-equal, lists-equal, place-at, firsts-map}
+use Rattle.mathematics.proofs.Lists.{numbers-equal, lists-equal, place-at, distinct-map}
 use Rattle.complex.specs.Complex.{Simplex, start, end, entries}
 use Rattle.complex.specs.Judge.{rising, sides-listed}
 use Rattle.complex.specs.Numbering.{number, key, triangle-key, Keyed, EdgeTable}
@@ -20,8 +20,8 @@ pub number-listed : (s : Simplex) (es : List Simplex) → not (eqb (number same 
 unfolding number
 number-listed s es = go (listed same s es)
   where
-    go : (t : Bool) → not (eqb (cond t (suc (place same s es)) 0) 0) ≡ t
-    go true = rw (ne-eqb (suc (place same s es)) 0 (λ (e : suc (place same s es) ≡ 0). omega arith))
+    go : (t : Bool) → not (eqb (cond t (suc (position same s es)) 0) 0) ≡ t
+    go true = rw (ne-eqb (suc (position same s es)) 0 (λ (e : suc (position same s es) ≡ 0). omega arith))
     go false = refl
 
 module _ (l : List ℕ) (t a b d : ℕ) (ea : a ≡ getD l (3 * t) 0) (eb : b ≡ getD l (3 * t + 1) 0) (ed : d ≡ getD l (3 * t + 2) 0) where
@@ -43,7 +43,7 @@ module _ (l : List ℕ) (t a b d : ℕ) (ea : a ≡ getD l (3 * t) 0) (eb : b �
     third-past g h k = rw (three, lt-ltb a b g, lt-ltb b d h, le-ltb d n k)
 
     pub sides-found : a < b → b < d → d < n → n ≤ 64 → (table : List ℕ) → EdgeTable table es → (not (eqb (getD table (64 * a + b) 0) 0) && (not (eqb (getD table (64 * a + d) 0) 0) && not (eqb (getD table (64 * b + d) 0) 0))) ≡ (rising n (entries l (3 * t) 3) && sides-listed es (entries l (3 * t) 3))
-    unfolding rising sides-listed all choose
+    unfolding rising sides-listed every-entry choose
     sides-found g h k few table i =
         rw
         (three, lt-ltb a b g, lt-ltb b d h, lt-ltb d n k, i .numbers a b (omega arith) (omega arith), i .numbers a d (omega arith) (omega arith), i .numbers b d (omega arith) (omega arith), number-listed, number-listed, number-listed)
@@ -70,7 +70,7 @@ pub number-place : (s : Simplex) (es : List Simplex) → listed same s es ≡ tr
 unfolding number
 number-place s es h =
     let p = place-at same lists-equal [] s es h in
-    let e : suc (place same s es) - 1 ≡ place same s es = omega arith in
+    let e : suc (position same s es) - 1 ≡ position same s es = omega arith in
     rw h (omega arith, p .0, rw e (p .1))
 
 -- a triangle of three rising vertices below n whose edges are listed
@@ -87,7 +87,7 @@ pub record Fitting (n : ℕ) (es : List Simplex) (s : Simplex) : Type 0 where
   pub third-side : listed same (end s ∷ getD s 2 0 ∷ []) es ≡ true
 
 pub fits : (n : ℕ) (es : List Simplex) (s : Simplex) → fitting n es s ≡ true → Fitting n es s
-unfolding fitting rising sides-listed all choose
+unfolding fitting rising sides-listed every-entry choose
 fits n es [] h = absurd (false≢true h)
 fits n es (a ∷ []) h = absurd (false≢true h)
 fits n es (a ∷ b ∷ []) h = absurd (false≢true h)
@@ -152,8 +152,6 @@ module _ (n : ℕ) (es : List Simplex) (few : n ≤ 64) (short : length es ≤ 6
       rw (head-eq-of-cons-eq sides, head-eq-of-cons-eq (tail-eq-of-cons-eq sides), last) in
       f .is ∙ whole ∙ sym (f′ .is)
 
-  -- the count of keys is the count of triangles
-  pub triangles-counted : (ts : List Simplex) → all (fitting n es) ts ≡ true → length (firsts eqb (map (triangle-key table) ts)) ≡ length (firsts same ts)
-  triangles-counted ts h =
-      ap length (firsts-map same lists-equal eqb numbers-equal (fitting n es) (triangle-key table) triangle-apart ts h)
-      ∙ length-map (firsts same ts) (triangle-key table)
+  -- no key comes twice exactly when no triangle does
+  pub triangles-differ : (ts : List Simplex) → every-entry (fitting n es) ts ≡ true → distinct eqb (map (triangle-key table) ts) ≡ distinct same ts
+  triangles-differ ts h = distinct-map same lists-equal eqb numbers-equal (fitting n es) (triangle-key table) triangle-apart ts h

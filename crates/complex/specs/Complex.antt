@@ -45,6 +45,6 @@ abbrev pub Joins : Simplex → ℕ → ℕ → Type 0
 Joins s v w = ((start s ≡ v) × (end s ≡ w)) ⊎ ((start s ≡ w) × (end s ≡ v))
 
 -- a path over the listed edges from vertex v to vertex w
-pub data Path (es : List Simplex) (v : ℕ) : ℕ → Type 0 where
-  here : Path es v v
-  over : {w x : ℕ} (e : ℕ) → Path es v w → e < length es → Joins (getD es e []) w x → Path es v x
+pub data EdgePath (es : List Simplex) (v : ℕ) : ℕ → Type 0 where
+  here : EdgePath es v v
+  over : {w x : ℕ} (e : ℕ) → EdgePath es v w → e < length es → Joins (getD es e []) w x → EdgePath es v x

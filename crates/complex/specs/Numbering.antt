@@ -1,18 +1,18 @@
 -- Keys below 4096, numbered in order of first appearance up to a limit: what the two lists of a numbering hold.
-use Prim.Native.Nat.{ℕ, zero, suc, _+_, _-_, _*_, _<_, _≤_, min}
+use Prim.Native.Nat.{ℕ, suc, _+_, _-_, _*_, _<_, _≤_, min}
 use mathlib.Core.List.{List, [], _∷_}
-use mathlib.Core.Bool.{Bool, true, false, cond}
+use mathlib.Core.Bool.{Bool, cond}
 use mathlib.Core.Path.{_≡_}
 use lib.ListN.{getD, length, take}
 use lib.Dec.{eqb}
-use Rattle.mathematics.specs.Lists.{same, listed, place}
+use Rattle.mathematics.specs.Lists.{same, listed, position}
 use Rattle.complex.specs.declared.SimplicialComplex.{SimplicialComplex}
 use Rattle.complex.specs.Complex.{Simplex, start, end, complexOf}
 use Rattle.complex.specs.Judge.{refusal}
 
 -- the number of x in a list, counted from 1; 0 where it is not listed
 unfoldable pub number : {A : Type 0} → (A → A → Bool) → A → List A → ℕ
-number eq x l = cond (listed eq x l) (suc (place eq x l)) 0
+number eq x l = cond (listed eq x l) (suc (position eq x l)) 0
 
 -- The keys in l were noted: count is their number, or limit + 1 where there are more; up to the limit the table has the number of
 -- each key, and the keys stand in the second list as they were noted.

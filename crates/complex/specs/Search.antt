@@ -1,15 +1,15 @@
 -- The breadth-first search from vertex 0: first come first served, edges at a vertex by rising number. An edge to an unseen vertex
 -- is a tree edge, listed as found.
-use Prim.Native.Nat.{ℕ, zero, suc, _+_, _<_, _≤_}
+use Prim.Native.Nat.{ℕ, zero, suc, _<_, _≤_}
 use mathlib.Core.List.{List, [], _∷_, _++_}
-use mathlib.Core.Bool.{Bool, true, false, not, _&&_, _||_, cond}
+use mathlib.Core.Bool.{Bool, true, not, _&&_, _||_, cond}
 use mathlib.Core.Path.{_≡_}
 use mathlib.Core.Logic.{_↔_}
 use lib.ListN.{getD, length}
 use lib.Dec.{eqb, ltb}
-use Rattle.mathematics.specs.Lists.{listed}
+use Rattle.mathematics.specs.Lists.{listed, Once}
 use Rattle.mathematics.specs.Tests.{every}
-use Rattle.complex.specs.Complex.{Simplex, start, end, Joins, Path}
+use Rattle.complex.specs.Complex.{Simplex, start, end, Joins, EdgePath}
 
 -- how far a search is: the vertices seen, as found, and the tree edges that led to all but the first
 pub record Search : Type 0 where
@@ -44,7 +44,7 @@ unfoldable pub served : List Simplex → Search → ℕ → Search
 served es s zero = s
 served es s (suc k) = serve es (served es s k) k
 
--- the whole search of n vertices: n places are served, which are all that there are where every edge has its ends below n
+-- the whole search of n vertices: n places are served, and where every edge has its ends below n no more than n vertices can be found
 unfoldable pub search : List Simplex → ℕ → Search
 search es n = served es (record { seen = 0 ∷ []; tree = [] }) n
 
@@ -52,16 +52,17 @@ search es n = served es (record { seen = 0 ∷ []; tree = [] }) n
 unfoldable pub connected : List Simplex → ℕ → Bool
 connected es n = every (λ v. listed eqb v (search es n .seen)) n
 
--- each edge's two vertices rise and are below n
+-- for theorems: each edge's two vertices rise and are below n
 abbrev pub Ends : ℕ → List Simplex → Type 0
 Ends n es = (e : ℕ) → e < length es → (start (getD es e []) < end (getD es e [])) × (end (getD es e []) < n)
 
--- what a search is worth: a tree of just the vertices that a path leads to from vertex 0, each tree edge from an earlier one to the next
-pub record Spans (es : List Simplex) (n : ℕ) (s : Search) : Type 0 where
+-- what a search is worth: a tree of just the vertices that a path leads to from vertex 0; each tree edge joins a vertex found earlier to the
+-- next one found
+pub record SpansReached (es : List Simplex) (n : ℕ) (s : Search) : Type 0 where
   pub root : getD (s .seen) 0 0 ≡ 0
   pub sizes : length (s .seen) ≡ suc (length (s .tree))
   pub below : (i : ℕ) → i < length (s .seen) → getD (s .seen) i 0 < n
-  pub apart : (i j : ℕ) → i < j → j < length (s .seen) → getD (s .seen) i 0 ≡ getD (s .seen) j 0 → ⊥
+  pub apart : Once 0 (s .seen)
   pub numbered : (i : ℕ) → i < length (s .tree) → getD (s .tree) i 0 < length es
   pub joined : (i : ℕ) → i < length (s .tree) → (h : ℕ) × (h ≤ i) × Joins (getD es (getD (s .tree) i 0) []) (getD (s .seen) h 0) (getD (s .seen) (suc i) 0)
-  pub reach : (v : ℕ) → (listed eqb v (s .seen) ≡ true) ↔ Path es 0 v
+  pub reach : (v : ℕ) → (listed eqb v (s .seen) ≡ true) ↔ EdgePath es 0 v

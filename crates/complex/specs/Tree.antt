@@ -6,7 +6,7 @@ use mathlib.Core.Path.{_≡_}
 use lib.ListN.{getD, length, take}
 use lib.Dec.{eqb, ltb}
 use Rattle.mathematics.specs.Lists.{listed, distinct}
-use Rattle.mathematics.specs.Tests.{all}
+use Rattle.mathematics.specs.Tests.{every-entry}
 use Rattle.complex.specs.Complex.{simplices}
 use Rattle.complex.specs.Search.{Search, Ends}
 use Rattle.complex.specs.declared.search.SpanningTree.{SpanningTree}
@@ -25,7 +25,7 @@ pub record Fits (n : ℕ) (t : SpanningTree) : Type 0 where
   pub tree-long : length (t .«tree_edges») ≡ 63
   pub visited-long : length (t .visited) ≡ 64
   pub room : t .found ≤ 63
-  pub below : all (λ v. ltb v n) (searchOf t .seen) ≡ true
+  pub below : every-entry (λ v. ltb v n) (searchOf t .seen) ≡ true
   pub different : distinct eqb (searchOf t .seen) ≡ true
   pub flags : (v : ℕ) → v < 64 → getD (t .visited) v 0 ≡ cond (listed eqb v (searchOf t .seen)) 1 0
 

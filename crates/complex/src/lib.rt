@@ -1,9 +1,7 @@
 // A small complex of vertices, edges and triangles, judged before anything rests on it.
 
-pub mod judge;
 pub mod numbering;
 pub mod search;
-pub mod triangle;
 
 pub struct SimplicialComplex {
     pub n_vertices: usize,

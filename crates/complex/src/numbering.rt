@@ -56,3 +56,10 @@ pub fn wide(x: u16) -> usize
 {
     x as usize
 }
+
+// A byte as a number of a list.
+pub fn byte(x: u8) -> usize
+    ensures { λ r. ⌜ r ≡ x ⌝ }
+{
+    x as usize
+}

@@ -1,5 +1,5 @@
 // The breadth-first search from vertex 0 over a flat list of edges.
-use crate::judge::byte;
+use crate::numbering::byte;
 ghost use mathlib.Core.Path.{_≡_};
 ghost use Prim.Native.Nat.{_*_, _<_};
 ghost use Rattle.complex.specs.Complex.{entries, simplices};

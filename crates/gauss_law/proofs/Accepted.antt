@@ -7,12 +7,12 @@ use native.Mathlib.Omega.{arith}
 use native.Mathlib.Decide.{ℕ-discrete}
 use lib.IntN.{ℤ, pos, _*ℤ_}
 use lib.ListN.{getD, length}
-use Rattle.mathematics.specs.Integers.{sum}
+use Rattle.mathematics.specs.Integers.{sum-below}
 use Rattle.mathematics.proofs.Ordered.{at-each}
 use Rattle.mathematics.proofs.Below.{listed-member}
 use Rattle.mathematics.proofs.Sums.{sum-same, sum-zero}
 use Rattle.complex.specs.Complex.{Complex}
-use Rattle.complex.specs.Search.{search, Ends, Spans}
+use Rattle.complex.specs.Search.{search, Ends, SpansReached}
 use Rattle.complex.specs.Judge.{Accepted}
 use Rattle.complex.proofs.Searches.{search-spans, connected-reached, connected-tree}
 use Rattle.gauss_law.specs.Listing.{tree-edges, free-edges, listing, Complete}
@@ -21,6 +21,7 @@ use Rattle.gauss_law.proofs.Tree.{Solvable, spans-solvable, spans-solve
 use Rattle.gauss_law.proofs.Listing.{edges-split, solvable-complete, complete-once}
 use Rattle.gauss_law.proofs.Roots.{one-times}
 use Rattle.gauss_law.proofs.Extension.{Root, Rooted, Extends, extends-once, extension}
+use Rattle.gauss_law.specs.Gauss.{uncharged}
 
 module _ (c : Complex) (accepted : Accepted c) where
   pub accepted-ends : Ends (c .vertices) (c .edges)
@@ -28,7 +29,7 @@ module _ (c : Complex) (accepted : Accepted c) where
       let r = accepted .edge-is (getD (c .edges) e []) (e, h, refl) in
       rw (r .2) (r .3, r .4)
 
-  pub accepted-spans : Spans (c .edges) (c .vertices) (search (c .edges) (c .vertices))
+  pub accepted-spans : SpansReached (c .edges) (c .vertices) (search (c .edges) (c .vertices))
   accepted-spans = search-spans (c .edges) (c .vertices) (accepted .some-vertex) accepted-ends
 
   pub accepted-tree : Solvable (c .edges) (c .vertices) (tree-edges c)
@@ -54,7 +55,7 @@ module _ (c : Complex) (accepted : Accepted c) where
   complete-listing q L ss h = complete-once c q L ss (listing c q L) h (listing-complete q L)
 
   -- ---- the free values, where the charges add to zero
-  module _ (q : ℕ → ℤ) (charges : sum q (c .vertices) ≡ pos 0) where
+  module _ (q : ℕ → ℤ) (charges : sum-below q (c .vertices) ≡ pos 0) where
     pub accepted-rooted : Rooted c q (accepted-tree .order)
     unfolding accepted-tree tree-edges
     accepted-rooted v h = go (ℕ-discrete v 0)
@@ -82,5 +83,5 @@ module _ (c : Complex) (accepted : Accepted c) where
         let h = extension c q x accepted-tree accepted-rooted in
         (_, h, λ t k. extends-once c q x accepted-tree t _ k h)
 
-  pub uncharged-extension : (x : ℕ → ℤ) → (s : List ℤ) × Extends c (λ v. pos 0) x s × ((t : List ℤ) → Extends c (λ v. pos 0) x t → t ≡ s)
-  uncharged-extension = accepted-extension (λ v. pos 0) (sum-zero (c .vertices))
+  pub uncharged-extension : (x : ℕ → ℤ) → (s : List ℤ) × Extends c uncharged x s × ((t : List ℤ) → Extends c uncharged x t → t ≡ s)
+  uncharged-extension = accepted-extension uncharged (sum-zero (c .vertices))

@@ -6,13 +6,13 @@ use mathlib.Core.Path.{_≡_, refl}
 use lib.IntN.{ℤ, pos, negsuc}
 use lib.ListN.{getD, length}
 use Rattle.mathematics.specs.Integers.{equal}
-use Rattle.mathematics.specs.Lists.{listed, place}
+use Rattle.mathematics.specs.Lists.{listed, position}
 use Rattle.mathematics.specs.Tests.{every}
 use Rattle.mathematics.specs.Counting.{below, keep, counted}
 use Rattle.complex.specs.Complex.{Complex}
 use Rattle.complex.specs.Search.{search, served, serve, scan, look, touches, across}
-use Rattle.gauss_law.specs.Gauss.{flow, gauss, lawful}
-use Rattle.gauss_law.specs.Law.{firstOf, lowest, finding}
+use Rattle.gauss_law.specs.Gauss.{flow, gauss, lawful, uncharged}
+use Rattle.gauss_law.specs.Law.{firstOf, lowest-broken, finding}
 use Rattle.gauss_law.specs.Listing.{tree-edges, free-edges, values, placed, listing}
 
 triangle : Complex
@@ -27,22 +27,22 @@ unfolding triangle tree-edges free-edges listed below keep search served serve s
 free = refl
 
 -- 3 on the edge from 0 to 1 and -2 on that from 1 to 2: the sums are -3, 5 and -2
-breaks-law : finding triangle (λ v. pos 0) (pos 3 ∷ pos 0 ∷ negsuc 1 ∷ []) ≡ record { found = true; vertex = 0; sum = negsuc 2 }
-unfolding triangle finding lowest firstOf gauss flow equal below keep
+breaks-law : finding triangle uncharged (pos 3 ∷ pos 0 ∷ negsuc 1 ∷ []) ≡ record { found = true; vertex = 0; sum = negsuc 2 }
+unfolding triangle finding lowest-broken firstOf gauss flow equal below keep
 breaks-law = refl
 
 -- with the charges -3 and 5 at the first two vertices the last is the lowest that is wrong
 breaks-charged : finding triangle (λ v. getD (negsuc 2 ∷ pos 5 ∷ []) v (pos 0)) (pos 3 ∷ pos 0 ∷ negsuc 1 ∷ []) ≡ record { found = true; vertex = 2; sum = negsuc 1 }
-unfolding triangle finding lowest firstOf gauss flow equal below keep
+unfolding triangle finding lowest-broken firstOf gauss flow equal below keep
 breaks-charged = refl
 
-keeps-law : finding triangle (λ v. pos 0) (pos 1 ∷ negsuc 0 ∷ pos 1 ∷ []) .found ≡ false
-unfolding triangle finding lowest firstOf gauss flow equal below keep
+keeps-law : finding triangle uncharged (pos 1 ∷ negsuc 0 ∷ pos 1 ∷ []) .found ≡ false
+unfolding triangle finding lowest-broken firstOf gauss flow equal below keep
 keeps-law = refl
 
-three-states : listing triangle (λ v. pos 0) 1
+three-states : listing triangle uncharged 1
     ≡ (negsuc 0 ∷ pos 1 ∷ negsuc 0 ∷ []) ∷ (pos 0 ∷ pos 0 ∷ pos 0 ∷ []) ∷ (pos 1 ∷ negsuc 0 ∷ pos 1 ∷ []) ∷ []
-unfolding triangle listing tree-edges free-edges values placed lawful gauss flow equal listed place every below keep counted flatMap search served serve scan look touches across
+unfolding triangle listing tree-edges free-edges values placed lawful gauss flow equal listed position every below keep counted flatMap search served serve scan look touches across
 three-states = refl
 
 -- charge 1 at the last vertex and -1 at the first
@@ -50,17 +50,17 @@ charges : ℕ → ℤ
 charges v = getD (negsuc 0 ∷ pos 0 ∷ pos 1 ∷ []) v (pos 0)
 
 two-states : listing triangle charges 1 ≡ (pos 0 ∷ pos 1 ∷ pos 0 ∷ []) ∷ (pos 1 ∷ pos 0 ∷ pos 1 ∷ []) ∷ []
-unfolding triangle charges listing tree-edges free-edges values placed lawful gauss flow equal listed place every below keep counted flatMap search served serve scan look touches across
+unfolding triangle charges listing tree-edges free-edges values placed lawful gauss flow equal listed position every below keep counted flatMap search served serve scan look touches across
 two-states = refl
 
 -- where the charges do not add to zero there is no state
 no-state : listing triangle (λ v. pos 1) 1 ≡ []
-unfolding triangle listing tree-edges free-edges values placed lawful gauss flow equal listed place every below keep counted flatMap search served serve scan look touches across
+unfolding triangle listing tree-edges free-edges values placed lawful gauss flow equal listed position every below keep counted flatMap search served serve scan look touches across
 no-state = refl
 
 tetrahedron : Complex
 tetrahedron = record { vertices = 4; edges = (0 ∷ 1 ∷ []) ∷ (0 ∷ 2 ∷ []) ∷ (0 ∷ 3 ∷ []) ∷ (1 ∷ 2 ∷ []) ∷ (1 ∷ 3 ∷ []) ∷ (2 ∷ 3 ∷ []) ∷ []; triangles = [] }
 
-fifteen-states : length (listing tetrahedron (λ v. pos 0) 1) ≡ 15
-unfolding tetrahedron listing tree-edges free-edges values placed lawful gauss flow equal listed place every below keep counted flatMap search served serve scan look touches across
+fifteen-states : length (listing tetrahedron uncharged 1) ≡ 15
+unfolding tetrahedron listing tree-edges free-edges values placed lawful gauss flow equal listed position every below keep counted flatMap search served serve scan look touches across
 fifteen-states = refl

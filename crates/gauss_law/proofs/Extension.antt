@@ -5,7 +5,7 @@ use mathlib.Core.Path.{_≡_, sym, _∙_}
 use mathlib.Core.Logic.{_≢_, _⊎_, inl, inr}
 use lib.IntN.{ℤ, pos, _*ℤ_}
 use lib.ListN.{getD, length, length-map}
-use Rattle.mathematics.specs.Integers.{sum}
+use Rattle.mathematics.specs.Integers.{sum-below}
 use Rattle.mathematics.specs.Counting.{below}
 use Rattle.mathematics.specs.Entries.{Each}
 use Rattle.mathematics.proofs.Ordered.{Member, each-member}
@@ -24,7 +24,7 @@ pub record Root (q : ℕ → ℤ) (n : ℕ) (es : List Simplex) (order : List St
   pub weight : ℕ → ℤ
   pub level : Each (Level weight n) es
   pub root : weight r ≡ pos 1
-  pub charges : sum (λ v. weight v *ℤ q v) n ≡ pos 0
+  pub charges : sum-below (λ v. weight v *ℤ q v) n ≡ pos 0
   pub others : (v : ℕ) → v < n → v ≢ r → (weight v ≡ pos 0) ⊎ Solved v order
 
 -- every vertex is solved or the root of a part

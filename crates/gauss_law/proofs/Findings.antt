@@ -18,7 +18,7 @@ use Rattle.mathematics.proofs.Integers.{equal-true, equal-self}
 use Rattle.complex.specs.Complex.{Complex}
 use Rattle.gauss_law.specs.declared.law.Finding.{Finding}
 use Rattle.gauss_law.specs.Gauss.{gauss, lawful}
-use Rattle.gauss_law.specs.Law.{firstOf, lowest, finding, Found, noticed}
+use Rattle.gauss_law.specs.Law.{firstOf, lowest-broken, finding, Found, noticed}
 
 -- ---- one vertex more
 module _ (sum q : ℕ → ℤ) where
@@ -27,8 +27,8 @@ module _ (sum q : ℕ → ℤ) where
   one-more [] n = refl
   one-more (v ∷ l) n = refl
 
-  pub lowest-next : (n : ℕ) → lowest sum q (n + 1) ≡ noticed (lowest sum q n) n (sum n) (q n)
-  unfolding lowest noticed
+  pub lowest-next : (n : ℕ) → lowest-broken sum q (n + 1) ≡ noticed (lowest-broken sum q n) n (sum n) (q n)
+  unfolding lowest-broken noticed
   lowest-next n = go (equal (sum n) (q n)) refl
     where
       wrong : ℕ → Bool
@@ -48,14 +48,14 @@ module _ (sum q : ℕ → ℤ) where
       go true e = ap (firstOf sum) (keep-skip wrong n (rw e)) ∙ always (f .found)
       go false e = ap (firstOf sum) (keep-next wrong n (rw e)) ∙ one-more (keep wrong (below n)) n ∙ rw (or-false (f .found))
 
-  lowest-suc : (n : ℕ) → lowest sum q (suc n) ≡ noticed (lowest sum q n) n (sum n) (q n)
+  lowest-suc : (n : ℕ) → lowest-broken sum q (suc n) ≡ noticed (lowest-broken sum q n) n (sum n) (q n)
   lowest-suc n = rw (← add-one n) (lowest-next n)
 
   -- nothing is found exactly when every sum is the charge
-  pub found-wrong : (n : ℕ) → lowest sum q n .found ≡ not (every (λ v. equal (sum v) (q v)) n)
-  unfolding every lowest firstOf keep below noticed
+  pub found-wrong : (n : ℕ) → lowest-broken sum q n .found ≡ not (every (λ v. equal (sum v) (q v)) n)
+  unfolding every lowest-broken firstOf keep below noticed
   found-wrong zero = refl
-  found-wrong (suc n) = ap (λ f. f .found) (lowest-suc n) ∙ go (lowest sum q n) (every (λ v. equal (sum v) (q v)) n) (equal (sum n) (q n)) (found-wrong n)
+  found-wrong (suc n) = ap (λ f. f .found) (lowest-suc n) ∙ go (lowest-broken sum q n) (every (λ v. equal (sum v) (q v)) n) (equal (sum n) (q n)) (found-wrong n)
     where
       go : (f : Finding) (b e : Bool) → f .found ≡ not b → cond (f .found || e) f (record { found = true; vertex = n; sum = sum n }) .found ≡ not (b && e)
       go f true true h = rw h
@@ -89,11 +89,11 @@ module _ (sum q : ℕ → ℤ) where
           right true z = refl
           right false z = absurd (false≢true z)
 
-  pub lowest-found : (n : ℕ) → lowest sum q n .found ≡ true → Found sum q n (lowest sum q n)
-  unfolding lowest firstOf keep below
+  pub lowest-found : (n : ℕ) → lowest-broken sum q n .found ≡ true → Found sum q n (lowest-broken sum q n)
+  unfolding lowest-broken firstOf keep below
   lowest-found zero h = absurd (false≢true h)
   lowest-found (suc n) h =
-      rw (lowest-suc n) (found-next n (lowest sum q n) (found-wrong n) (lowest-found n) (sym (ap (λ f. f .found) (lowest-suc n)) ∙ h))
+      rw (lowest-suc n) (found-next n (lowest-broken sum q n) (found-wrong n) (lowest-found n) (sym (ap (λ f. f .found) (lowest-suc n)) ∙ h))
 
 -- ---- two sums that agree below n
 first-agree : (f g : ℕ → ℤ) {l : List ℕ} → Each (λ v. f v ≡ g v) l → firstOf f l ≡ firstOf g l
@@ -101,8 +101,8 @@ unfolding firstOf
 first-agree f g none = refl
 first-agree f g (also h t) = rw h
 
-pub lowest-agree : (f g q : ℕ → ℤ) (n : ℕ) → ((v : ℕ) → v < n → f v ≡ g v) → lowest f q n ≡ lowest g q n
-unfolding lowest
+pub lowest-agree : (f g q : ℕ → ℤ) (n : ℕ) → ((v : ℕ) → v < n → f v ≡ g v) → lowest-broken f q n ≡ lowest-broken g q n
+unfolding lowest-broken
 lowest-agree f g q n h =
     first-agree f g (keep-each (λ v. not (equal (f v) (q v))) (each-to h (below-each n)))
     ∙ ap (firstOf g) (keep-agree (λ v. not (equal (f v) (q v))) (λ v. not (equal (g v) (q v))) n (λ v k. rw (h v k)))

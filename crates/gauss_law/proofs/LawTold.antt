@@ -16,8 +16,8 @@ use Rattle.complex.specs.Search.{Ends}
 use Rattle.complex.specs.Judge.{refusal}
 use Rattle.complex.proofs.Refusing.{refused-first, accepted-next}
 use Rattle.gauss_law.specs.declared.law.Finding.{Finding}
-use Rattle.gauss_law.specs.Gauss.{gauss, lawful}
-use Rattle.gauss_law.specs.Law.{Summed, lowest, finding, law-refusal, lawOutcome}
+use Rattle.gauss_law.specs.Gauss.{gauss, lawful, uncharged}
+use Rattle.gauss_law.specs.Law.{Summed, lowest-broken, finding, law-refusal, lawOutcome}
 use Rattle.gauss_law.proofs.Spanned.{edges-long, accepted-searchable}
 use Rattle.gauss_law.proofs.Findings.{lowest-agree, finding-lawful}
 
@@ -31,17 +31,17 @@ module _ (c : SimplicialComplex) (accepted : refusal (complexOf c) ≡ 0) where
       (r .0, omega (arith, r .1))
 
   pub summed-finding : (s sums : List ℤ) → Summed (simplices 2 (c .edges) (c .«n_edges»)) s sums
-      → lowest (λ v. getD sums v (pos 0)) (λ v. pos 0) (c .«n_vertices») ≡ finding (complexOf c) (λ v. pos 0) s
+      → lowest-broken (λ v. getD sums v (pos 0)) uncharged (c .«n_vertices») ≡ finding (complexOf c) uncharged s
   unfolding finding complexOf
   summed-finding s sums h =
       let few = accepted-searchable c accepted .vertices-fit in
-      lowest-agree (λ v. getD sums v (pos 0)) (gauss (complexOf c .edges) s) (λ v. pos 0) (c .«n_vertices») (λ v k. h .sum v (omega arith))
+      lowest-agree (λ v. getD sums v (pos 0)) (gauss (complexOf c .edges) s) uncharged (c .«n_vertices») (λ v k. h .sum v (omega arith))
 
 -- ---- the answer
 module _ (c : SimplicialComplex) (s : List ℤ) where
   pub record-refused : (k : ℕ) → k ≡ refusal (complexOf c) → (k ≡ 0 → ⊥) → refused k ≡ lawOutcome (complexOf c) s
   unfolding lawOutcome law-refusal
-  record-refused k e some = rw (refused-first (complexOf c) ((12, not (eqb (length s) (length (complexOf c .edges)))) ∷ []) k e some) (refused-outcome k (lawful (complexOf c) (λ v. pos 0) s) some)
+  record-refused k e some = rw (refused-first (complexOf c) ((12, not (eqb (length s) (length (complexOf c .edges)))) ∷ []) k e some) (refused-outcome k (lawful (complexOf c) uncharged s) some)
 
   module _ (accepted : refusal (complexOf c) ≡ 0) where
     by-length : law-refusal (complexOf c) (length s) ≡ cond (not (eqb (length s) (c .«n_edges»))) 12 0
@@ -54,6 +54,6 @@ module _ (c : SimplicialComplex) (s : List ℤ) where
     unfolding lawOutcome outcome
     length-refused h = rw (by-length, ne-eqb (length s) (c .«n_edges») h)
 
-    pub law-told : length s ≡ c .«n_edges» → (f : Finding) → f ≡ finding (complexOf c) (λ v. pos 0) s → value (not (f .found)) ≡ lawOutcome (complexOf c) s
+    pub law-told : length s ≡ c .«n_edges» → (f : Finding) → f ≡ finding (complexOf c) uncharged s → value (not (f .found)) ≡ lawOutcome (complexOf c) s
     unfolding lawOutcome outcome
-    law-told h f e = rw (by-length, eq-eqb (length s) (c .«n_edges») h, e, finding-lawful (complexOf c) (λ v. pos 0) s)
+    law-told h f e = rw (by-length, eq-eqb (length s) (c .«n_edges») h, e, finding-lawful (complexOf c) uncharged s)

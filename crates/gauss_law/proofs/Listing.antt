@@ -11,7 +11,7 @@ use lib.IntN.{ℤ, pos, _-ℤ_, natAbs}
 use lib.Signed.{_<ℤ_}
 use lib.ListN.{getD, length, length-append, length-map}
 use lib.Seq.{ext-getD, getD-append-add}
-use Rattle.mathematics.specs.Lists.{listed, place}
+use Rattle.mathematics.specs.Lists.{listed, position}
 use Rattle.mathematics.specs.Counting.{below, counted}
 use Rattle.mathematics.proofs.Integers.{positive, negative, integral, parts, parts-size, one-part, the, _⊟_, less-by-parts, less-trans, less-apart}
 use Rattle.mathematics.specs.Entries.{Each}
@@ -59,7 +59,7 @@ digits c s = map (λ e. getD s e (pos 0)) (ranked c)
 
 pub placed-length : (order : List ℕ) (xs : List ℤ) → length (placed order xs) ≡ length xs
 unfolding placed
-placed-length order xs = length-map (below (length xs)) (λ e. getD xs (place eqb e order) (pos 0)) ∙ length-below (length xs)
+placed-length order xs = length-map (below (length xs)) (λ e. getD xs (position eqb e order) (pos 0)) ∙ length-below (length xs)
 
 module _ (c : Complex) (tree : Solvable (c .edges) (c .vertices) (tree-edges c)) where
   pub ranked-length : length (ranked c) ≡ length (c .edges)
@@ -88,7 +88,7 @@ module _ (c : Complex) (tree : Solvable (c .edges) (c .vertices) (tree-edges c))
   placed-at xs l k h =
       let i : k < length (ranked c) = omega (arith, ranked-length) in
       let j : getD (ranked c) k 0 < length xs = omega (arith, each-at 0 ranked-below k i) in
-      map-below-at (λ e. getD xs (place eqb e (ranked c)) (pos 0)) (length xs) (getD (ranked c) k 0) (pos 0) j
+      map-below-at (λ e. getD xs (position eqb e (ranked c)) (pos 0)) (length xs) (getD (ranked c) k 0) (pos 0) j
       ∙ ap (λ m. getD xs m (pos 0)) (place-at 0 ranked-once k i)
 
   digits-length : (s : List ℤ) → length (digits c s) ≡ length (c .edges)
@@ -193,7 +193,7 @@ module _ (c : Complex) (q : ℕ → ℤ) (L : ℕ) (tree : Solvable (c .edges) (
       within : (xs : List ℤ) → length xs ≡ length (c .edges) → Each (λ x. natAbs x ≤ L) xs → (e : ℕ) → e < length (c .edges) → natAbs (getD (placed (ranked c) xs) e (pos 0)) ≤ L
       within xs l h e k =
           let m : e < length xs = omega arith in
-          rw (map-below-at (λ e. getD xs (place eqb e (ranked c)) (pos 0)) (length xs) e (pos 0) m) (each-anywhere {P = λ x. natAbs x ≤ L} (pos 0) (omega arith) h (place eqb e (ranked c)))
+          rw (map-below-at (λ e. getD xs (position eqb e (ranked c)) (pos 0)) (length xs) e (pos 0) m) (each-anywhere {P = λ x. natAbs x ≤ L} (pos 0) (omega arith) h (position eqb e (ranked c)))
 
   listing-ordered : Ordered (Before c) (listing c q L)
   unfolding listing

@@ -10,10 +10,10 @@ use lib.Seq.{getD-set-same, getD-set-other}
 use Rattle.mathematics.proofs.Integers.{linear, the, _⊞_}
 use Rattle.complex.specs.Complex.{Simplex, Complex}
 use Rattle.complex.specs.Judge.{Accepted}
-use Rattle.complex.specs.Sides.{TriangleSides}
+use Rattle.complex.specs.Sides.{TriangleSides, side}
 use Rattle.complex.proofs.TriangleEdges.{triangle-sides, sides-ij, sides-ik, sides-jk}
 use Rattle.gauss_law.specs.Gauss.{flow, gauss, Lawful}
-use Rattle.gauss_law.specs.Shifts.{raised, shifted, side, triangle-shift, TriangleShifted}
+use Rattle.gauss_law.specs.Shifts.{raised, shifted, triangle-shift, TriangleShifted}
 use Rattle.gauss_law.proofs.Gauss.{flow-zero, flow-sum, flow-past, gauss-set, gauss-split}
 
 -- ---- one edge

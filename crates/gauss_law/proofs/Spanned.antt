@@ -79,8 +79,8 @@ accepted-searchable c h =
     let a = accepted c .0 h in
     record {
       some-vertex = a .some-vertex;
-      vertices-fit = a .vertices;
-      edges-fit = rw (edges-long c) at (a .edges);
+      vertices-fit = a .few-vertices;
+      edges-fit = rw (edges-long c) at (a .few-edges);
       ends = accepted-ends (complexOf c) a;
     }
 
@@ -111,7 +111,7 @@ module _ (c : SimplicialComplex) (t : SpanningTree) (s : Spanned c t) where
   pub spanned-numbered : (i : ℕ) → i < t .found → getD (t .«tree_edges») i 0 < 63
   unfolding tree-edges complexOf
   spanned-numbered i h =
-      let few = good .edges in
+      let few = good .few-edges in
       let k : getD (tree-edges (complexOf c)) i 0 < length (complexOf c .edges) = accepted-spans (complexOf c) good .numbered i (rw (← spanned-found) h) in
       let e : getD (tree-edges (complexOf c)) i 0 ≡ getD (t .«tree_edges») i 0 = ap (λ l. getD l i 0) (sym spanned-tree) ∙ getD-take (t .found) (t .«tree_edges») i 0 h in
       omega arith
@@ -131,7 +131,7 @@ module _ (c : SimplicialComplex) (t : SpanningTree) (s : Spanned c t) where
       }
     where
       each : (e : ℕ) → e < c .«n_edges» → eqb (getD flags e 0) 0 ≡ not (listed eqb e (tree-edges (complexOf c)))
-      each e h = rw (← spanned-tree) (flag-zero flags _ e (marked .flag e (let few = spanned-edges in omega arith)))
+      each e h = rw (← spanned-tree) (flag-zero _ e _ (marked .flag e (let few = spanned-edges in omega arith)))
 
       same : take (f .count) (f .list) ≡ keep (λ e. not (listed eqb e (tree-edges (complexOf c)))) (below (length (complexOf c .edges)))
       same = rest .stands ∙ keep-agree (λ e. eqb (getD flags e 0) 0) (λ e. not (listed eqb e (tree-edges (complexOf c)))) (c .«n_edges») each ∙ rw (edges-long c)

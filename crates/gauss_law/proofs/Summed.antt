@@ -16,7 +16,7 @@ use Rattle.complex.specs.Search.{Ends}
 use Rattle.complex.proofs.Simplices.{simplices-length, simplex-at}
 use Rattle.complex.proofs.Indexes.{simplices-next}
 use Rattle.gauss_law.specs.Gauss.{flow, gauss}
-use Rattle.gauss_law.specs.Law.{added, Addable, Summed}
+use Rattle.gauss_law.specs.Law.{sums-with, EdgeAddable, Summed}
 use Rattle.gauss_law.proofs.Gauss.{flow-misses, flow-ends, flow-starts, gauss-last}
 
 -- no sum is larger than n values can make it
@@ -28,8 +28,8 @@ module _ (e : Simplex) (x : ℤ) (sums : List ℤ) (long : length sums ≡ 64) (
   apart : start e ≢ end e
   apart q = omega arith
 
-  added-at : (v : ℕ) → getD (added e x sums) v (pos 0) ≡ getD sums v (pos 0) +ℤ flow e x v
-  unfolding added
+  added-at : (v : ℕ) → getD (sums-with e x sums) v (pos 0) ≡ getD sums v (pos 0) +ℤ flow e x v
+  unfolding sums-with
   added-at v = go (ℕ-discrete v (start e)) (ℕ-discrete v (end e))
     where
       began : List ℤ
@@ -60,15 +60,15 @@ module _ (e : Simplex) (x : ℤ) (sums : List ℤ) (long : length sums ≡ 64) (
       go (no p) (yes q) = rw (flow-ends e x v q p) (omega arith)
       go (no p) (no q) = rw (flow-misses e x v (p, q)) (omega arith)
 
-  pub added-summed : (es : List Simplex) (s : List ℤ) → length s ≡ length es → Summed es s sums → Summed (es ++ (e ∷ [])) (s ++ (x ∷ [])) (added e x sums)
-  unfolding added
+  pub added-summed : (es : List Simplex) (s : List ℤ) → length s ≡ length es → Summed es s sums → Summed (es ++ (e ∷ [])) (s ++ (x ∷ [])) (sums-with e x sums)
+  unfolding sums-with
   added-summed es s same h =
       record {
         long = simp length-set long;
         sum = λ v k. added-at v ∙ rw (h .sum v k) (sym (gauss-last es s e x v same));
       }
 
-  pub added-small : (n : ℕ) → natAbs x ≤ 2 ^ 31 → Small n sums → Small (n + 1) (added e x sums)
+  pub added-small : (n : ℕ) → natAbs x ≤ 2 ^ 31 → Small n sums → Small (n + 1) (sums-with e x sums)
   added-small n k h v l =
       rw (added-at v) (omega (arith, h v l, flow-size v, size-sum (getD sums v (pos 0)) (flow e x v)))
 
@@ -84,7 +84,7 @@ module _ (edges : List ℕ) (m : ℕ) (ends : Ends 64 (simplices 2 edges m)) (e 
   pub edge-ends : (start (entries edges (2 * e) 2) < end (entries edges (2 * e) 2)) × (end (entries edges (2 * e) 2) < 64)
   edge-ends = rw (simplex-at 2 edges m e inside) at (ends e (rw (simplices-length 2 edges m) inside))
 
-  pub edge-addable : m ≤ 63 → (sums : List ℤ) → Small e sums → Addable sums (entries edges (2 * e) 2)
+  pub edge-addable : m ≤ 63 → (sums : List ℤ) → Small e sums → EdgeAddable sums (entries edges (2 * e) 2)
   edge-addable few sums h =
       let rises = edge-ends .0 in
       let below = edge-ends .1 in
@@ -96,7 +96,7 @@ module _ (edges : List ℕ) (m : ℕ) (ends : Ends 64 (simplices 2 edges m)) (e 
         end-small = omega (arith, h (end (entries edges (2 * e) 2)) below);
       }
 
-  pub edge-summed : (s : List ℤ) → length s ≡ m → (sums : List ℤ) → Summed (simplices 2 edges e) (take e s) sums → Summed (simplices 2 edges (e + 1)) (take (e + 1) s) (added (entries edges (2 * e) 2) (getD s e (pos 0)) sums)
+  pub edge-summed : (s : List ℤ) → length s ≡ m → (sums : List ℤ) → Summed (simplices 2 edges e) (take e s) sums → Summed (simplices 2 edges (e + 1)) (take (e + 1) s) (sums-with (entries edges (2 * e) 2) (getD s e (pos 0)) sums)
   edge-summed s long sums h =
       let here : e < length s = omega arith in
       let same : length (take e s) ≡ length (simplices 2 edges e) = length-take-le e s (omega arith) ∙ sym (simplices-length 2 edges e) in

@@ -9,7 +9,7 @@ use lib.ListN.{length, getD}
 use Rattle.mathematics.specs.Entries.{Each, none, also}
 use Rattle.mathematics.proofs.Ordered.{Member, front, behind, Ordered, at-each, member-place, place-member, at-ordered}
 use Rattle.complex.specs.Complex.{Simplex, Joins}
-use Rattle.complex.specs.Search.{Search, Spans}
+use Rattle.complex.specs.Search.{Search, SpansReached}
 use Rattle.gauss_law.proofs.Gauss.{Meets, ends, starts, Misses}
 use Rattle.gauss_law.proofs.Solving.{Step, Untouched, Off, Solved, SolvingOrder, done, next}
 
@@ -27,7 +27,7 @@ unfoldable pub backwards : Search → ℕ → List Step
 backwards s zero = []
 backwards s (suc k) = (getD (s .seen) (suc k) 0, getD (s .tree) k 0) ∷ backwards s k
 
-module _ (es : List Simplex) (n : ℕ) (s : Search) (spans : Spans es n s) where
+module _ (es : List Simplex) (n : ℕ) (s : Search) (spans : SpansReached es n s) where
   -- the vertices found at different places are different
   different : (i j : ℕ) → i < j → j ≤ length (s .tree) → getD (s .seen) i 0 ≢ getD (s .seen) j 0
   different i j h k = spans .apart i j h (omega (arith, spans .sizes))

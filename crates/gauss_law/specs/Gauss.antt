@@ -3,7 +3,7 @@ use Prim.Native.Nat.{ℕ, _<_, _≤_}
 use mathlib.Core.List.{List, [], _∷_}
 use mathlib.Core.Bool.{Bool, cond}
 use mathlib.Core.Path.{_≡_}
-use lib.Dec.{eqb}
+use lib.Dec.{eqb, leb}
 use lib.IntN.{ℤ, pos, _+ℤ_, _-ℤ_, natAbs}
 use lib.ListN.{getD, length}
 use Rattle.mathematics.specs.Integers.{equal}
@@ -27,6 +27,14 @@ Lawful c q s = (v : ℕ) → v < c .vertices → gauss (c .edges) s v ≡ q v
 -- the law as a test
 unfoldable pub lawful : Complex → (ℕ → ℤ) → List ℤ → Bool
 lawful c q s = every (λ v. equal (gauss (c .edges) s v) (q v)) (c .vertices)
+
+-- no charge at any vertex
+abbrev pub uncharged : ℕ → ℤ
+uncharged = λ v. pos 0
+
+-- a value within -L to L, as a test
+unfoldable pub within : ℕ → ℤ → Bool
+within L x = leb (natAbs x) L
 
 -- a state: a value within -L to L on each edge, and the law for the charges q
 pub record State (c : Complex) (q : ℕ → ℤ) (L : ℕ) (s : List ℤ) : Type 0 where

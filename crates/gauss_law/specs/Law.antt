@@ -4,18 +4,17 @@ use mathlib.Core.List.{List, [], _∷_, _++_}
 use mathlib.Core.Bool.{Bool, true, false, not, _||_, cond}
 use mathlib.Core.Path.{_≡_}
 use mathlib.Core.Logic.{_≢_}
-use lib.Dec.{eqb}
 use lib.IntN.{ℤ, pos, _+ℤ_, _-ℤ_, natAbs}
 use lib.ListN.{getD, length, set}
 use Rattle.mathematics.specs.Integers.{equal}
 use Rattle.mathematics.specs.Counting.{below, keep}
 use Rattle.mathematics.specs.Refusals.{first, Outcome, value, refused, outcome}
 use Rattle.complex.specs.Complex.{Simplex, Complex, start, end}
-use Rattle.complex.specs.Judge.{counts-test, shape-tests}
+use Rattle.complex.specs.Judge.{complex-tests, length-test}
 use Rattle.gauss_law.specs.declared.law.Finding.{Finding}
 use Rattle.gauss_law.specs.declared.law.GaussCheck.{GaussCheck}
 use Rattle.gauss_law.specs.declared.law.GaussCheck.the-variants.{Answer, Refused}
-use Rattle.gauss_law.specs.Gauss.{gauss, lawful}
+use Rattle.gauss_law.specs.Gauss.{gauss, lawful, uncharged}
 
 -- the first of some vertices, with its sum
 unfoldable pub firstOf : (ℕ → ℤ) → List ℕ → Finding
@@ -23,12 +22,12 @@ firstOf sum [] = record { found = false; vertex = 0; sum = pos 0 }
 firstOf sum (v ∷ vs) = record { found = true; vertex = v; sum = sum v }
 
 -- the lowest vertex below n whose sum is not its charge
-unfoldable pub lowest : (ℕ → ℤ) → (ℕ → ℤ) → ℕ → Finding
-lowest sum q n = firstOf sum (keep (λ v. not (equal (sum v) (q v))) (below n))
+unfoldable pub lowest-broken : (ℕ → ℤ) → (ℕ → ℤ) → ℕ → Finding
+lowest-broken sum q n = firstOf sum (keep (λ v. not (equal (sum v) (q v))) (below n))
 
 -- the lowest vertex at which the law does not hold
 unfoldable pub finding : Complex → (ℕ → ℤ) → List ℤ → Finding
-finding c q s = lowest (gauss (c .edges) s) q (c .vertices)
+finding c q s = lowest-broken (gauss (c .edges) s) q (c .vertices)
 
 -- what a finding says: the law holds at all lower vertices
 pub record Found (sum q : ℕ → ℤ) (n : ℕ) (f : Finding) : Type 0 where
@@ -42,24 +41,24 @@ unfoldable pub lawAnswer : GaussCheck → Outcome Bool
 lawAnswer (Answer b) = value b
 lawAnswer (Refused n) = refused n
 
--- a configuration of n values is not as long as the list of edges
-abbrev pub length-test : Complex → ℕ → ℕ × Bool
-length-test c n = (12, not (eqb n (length (c .edges))))
-
 -- 4, 7 to 9, then 12 for a configuration of n values
+abbrev pub law-tests : Complex → ℕ → List (ℕ × Bool)
+law-tests c n =
+    complex-tests c ++ (length-test c n ∷ [])
+
 unfoldable pub law-refusal : Complex → ℕ → ℕ
-law-refusal c n = first ((counts-test c ∷ shape-tests c) ++ (length-test c n ∷ []))
+law-refusal c n = first (law-tests c n)
 
 unfoldable pub lawOutcome : Complex → List ℤ → Outcome Bool
-lawOutcome c s = outcome (law-refusal c (length s)) (lawful c (λ v. pos 0) s)
+lawOutcome c s = outcome (law-refusal c (length s)) (lawful c uncharged s)
 
 -- ---- the steps of the code
 -- the sums with one value more, on edge e, whose ends differ
-unfoldable pub added : Simplex → ℤ → List ℤ → List ℤ
-added e x sums = set (set sums (start e) (getD sums (start e) (pos 0) -ℤ x)) (end e) (getD sums (end e) (pos 0) +ℤ x)
+unfoldable pub sums-with : Simplex → ℤ → List ℤ → List ℤ
+sums-with e x sums = set (set sums (start e) (getD sums (start e) (pos 0) -ℤ x)) (end e) (getD sums (end e) (pos 0) +ℤ x)
 
 -- both ends are below 64, and their sums are far enough from the ends of the range
-pub record Addable (sums : List ℤ) (e : Simplex) : Type 0 where
+pub record EdgeAddable (sums : List ℤ) (e : Simplex) : Type 0 where
   pub start-below : start e < 64
   pub end-below : end e < 64
   pub start-small : natAbs (getD sums (start e) (pos 0)) ≤ 2 ^ 62

@@ -3,3 +3,4 @@ pub mod Listing
 pub mod Spanning
 pub mod Law
 pub mod Shifts
+pub mod Answer

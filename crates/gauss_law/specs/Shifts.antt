@@ -6,7 +6,7 @@ use mathlib.Core.Logic.{_≢_}
 use lib.IntN.{ℤ, pos, negsuc, _+ℤ_}
 use lib.ListN.{getD, length, set}
 use Rattle.complex.specs.Complex.{Complex}
-use Rattle.complex.specs.Sides.{sides}
+use Rattle.complex.specs.Sides.{side}
 
 -- the value on an edge after a shift
 unfoldable pub raised : List ℤ → ℕ → ℤ → ℤ
@@ -15,10 +15,6 @@ raised s e delta = getD s e (pos 0) +ℤ delta
 -- the assignment after a shift
 unfoldable pub shifted : List ℤ → ℕ → ℤ → List ℤ
 shifted s e delta = set s e (raised s e delta)
-
--- the number of an edge of triangle t: (a, b), (a, c) and (b, c) by 0, 1 and 2
-unfoldable pub side : Complex → ℕ → ℕ → ℕ
-side c t k = getD (sides c t) k 0
 
 -- 1, -1 and 1 are added on the edges (a, b), (a, c) and (b, c) of triangle t
 unfoldable pub triangle-shift : Complex → ℕ → List ℤ → List ℤ

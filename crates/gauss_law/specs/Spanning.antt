@@ -1,9 +1,9 @@
 -- The tree edges and the free edges of a record: what is told of them, and how the code keeps them.
 use Prim.Native.Nat.{ℕ, _<_, _≤_}
 use mathlib.Core.List.{List, [], _∷_, _++_}
-use mathlib.Core.Bool.{_||_, cond}
+use mathlib.Core.Bool.{Bool, _||_, cond}
 use mathlib.Core.Path.{_≡_}
-use lib.ListN.{getD, length, take, drop}
+use lib.ListN.{getD, length, take}
 use lib.Dec.{eqb, ltb}
 use Rattle.mathematics.specs.Writing.{front}
 use Rattle.mathematics.specs.Lists.{listed}
@@ -13,7 +13,7 @@ use Rattle.complex.specs.declared.SimplicialComplex.{SimplicialComplex}
 use Rattle.complex.specs.declared.search.SpanningTree.{SpanningTree}
 use Rattle.complex.specs.Complex.{Complex, complexOf}
 use Rattle.complex.specs.Search.{search}
-use Rattle.complex.specs.Judge.{counts-test, shape-tests, refusal}
+use Rattle.complex.specs.Judge.{complex-tests, refusal}
 use Rattle.complex.specs.Tree.{Searched}
 use Rattle.gauss_law.specs.declared.spanning.FreeEdges.{FreeEdges}
 use Rattle.gauss_law.specs.declared.spanning.SpanningTreeAnswer.{SpanningTreeAnswer}
@@ -26,9 +26,12 @@ treeAnswer (Free n) = value n
 treeAnswer (Refused n) = refused n
 
 -- 4, 7 to 9, then 15 where the list of tree edges or that of free edges has too few entries
+abbrev pub tree-tests : Complex → ℕ → ℕ → List (ℕ × Bool)
+tree-tests c tree-room free-room =
+    complex-tests c ++ ((15, ltb tree-room (length (tree-edges c)) || ltb free-room (length (free-edges c))) ∷ [])
+
 unfoldable pub tree-refusal : Complex → ℕ → ℕ → ℕ
-tree-refusal c tree-room free-room =
-    first ((counts-test c ∷ shape-tests c) ++ ((15, ltb tree-room (length (tree-edges c)) || ltb free-room (length (free-edges c))) ∷ []))
+tree-refusal c tree-room free-room = first (tree-tests c tree-room free-room)
 
 -- the number of free edges is told, and the two lists begin with the tree edges and with the free edges
 pub record TreeTold (c : Complex) (tree free : List ℕ) (r : SpanningTreeAnswer) (tree′ free′ : List ℕ) : Type 0 where

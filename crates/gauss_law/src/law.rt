@@ -1,7 +1,7 @@
 // Whether a configuration obeys Gauss's law, and where it first does not.
+use acceptance::judge;
 use complex::SimplicialComplex;
-use complex::judge::byte;
-use complex::judge::judge;
+use complex::numbering::byte;
 ghost use mathlib.Core.Path.{_≡_};
 ghost use mathlib.Core.List.{[], _∷_};
 ghost use Prim.Native.Nat.{_*_, _^_, _<_, _≤_};
@@ -10,7 +10,8 @@ ghost use lib.ListN.{getD, length};
 ghost use Rattle.complex.specs.Complex.{entries, simplices, complexOf};
 ghost use Rattle.complex.specs.Search.{Ends};
 ghost use Rattle.complex.specs.Judge.{refusal};
-ghost use Rattle.gauss_law.specs.Law.{added, Addable, Summed, noticed, lowest, finding, lawAnswer, lawOutcome};
+ghost use Rattle.gauss_law.specs.Law.{sums-with, EdgeAddable, Summed, noticed, lowest-broken, finding, lawAnswer, lawOutcome};
+ghost use Rattle.gauss_law.specs.Gauss.{uncharged};
 
 pub fn wide(x: i32) -> i64
     ensures { λ r. ⌜ r ≡ x ⌝ }
@@ -34,8 +35,8 @@ fn minus(sum: i64, x: i32) -> i64
 
 // The value x is taken off the sum at a and added to the sum at b.
 fn carry(sums: &mut [i64; 64], a: usize, b: usize, x: i32)
-    requires { ⌜ Addable (now sums) (a ∷ b ∷ []) ⌝ }
-    ensures { λ _. ⌜ now (sums .exit) ≡ added (a ∷ b ∷ []) x (now (sums .entry)) ⌝ }
+    requires { ⌜ EdgeAddable (now sums) (a ∷ b ∷ []) ⌝ }
+    ensures { λ _. ⌜ now (sums .exit) ≡ sums-with (a ∷ b ∷ []) x (now (sums .entry)) ⌝ }
 {
     let less = minus(sums[a], x);
     let more = plus(sums[b], x);
@@ -45,8 +46,8 @@ fn carry(sums: &mut [i64; 64], a: usize, b: usize, x: i32)
 
 // The value x on edge e is taken off where it starts and added where it ends.
 fn add_edge(sums: &mut [i64; 64], edges: &[u8; 126], e: usize, x: i32)
-    requires { ⌜ (e < 63) × Addable (now sums) (entries (now edges) (2 * e) 2) ⌝ }
-    ensures { λ _. ⌜ now (sums .exit) ≡ added (entries (now (edges .entry)) (2 * e) 2) x (now (sums .entry)) ⌝ }
+    requires { ⌜ (e < 63) × EdgeAddable (now sums) (entries (now edges) (2 * e) 2) ⌝ }
+    ensures { λ _. ⌜ now (sums .exit) ≡ sums-with (entries (now (edges .entry)) (2 * e) 2) x (now (sums .entry)) ⌝ }
 {
     let a = byte(edges[2 * e]);
     let b = byte(edges[2 * e + 1]);
@@ -88,7 +89,7 @@ fn notice(f: Finding, v: usize, sum: i64) -> Finding
 
 fn first_unlawful(sums: &[i64; 64], n_vertices: usize) -> Finding
     requires { ⌜ «n_vertices» ≤ 64 ⌝ }
-    ensures { λ r. ⌜ r ≡ lowest (λ v. getD (now (sums .entry)) v (pos 0)) (λ v. pos 0) «n_vertices» ⌝ }
+    ensures { λ r. ⌜ r ≡ lowest-broken (λ v. getD (now (sums .entry)) v (pos 0)) uncharged «n_vertices» ⌝ }
 {
     let mut f = Finding {
         found: false,
@@ -104,7 +105,7 @@ fn first_unlawful(sums: &[i64; 64], n_vertices: usize) -> Finding
 // The lowest vertex of an accepted record at which a configuration breaks the law.
 pub fn find_unlawful(c: SimplicialComplex, configuration: &[i32]) -> Finding
     requires { ⌜ (refusal (complexOf c) ≡ 0) × (length (now configuration) ≡ c .«n_edges») ⌝ }
-    ensures { λ r. ⌜ r ≡ finding (complexOf c) (λ v. pos 0) (now (configuration .entry)) ⌝ }
+    ensures { λ r. ⌜ r ≡ finding (complexOf c) uncharged (now (configuration .entry)) ⌝ }
 {
     let sums = gauss_sums(&c.edges, c.n_edges, configuration);
     first_unlawful(&sums, c.n_vertices)

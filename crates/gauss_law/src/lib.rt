@@ -1,4 +1,5 @@
 // Gauss's law on a complex.
 
+pub mod answer;
 pub mod law;
 pub mod spanning;

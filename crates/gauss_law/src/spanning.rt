@@ -1,7 +1,7 @@
 // The spanning tree of a complex, and the edges that it leaves free.
+use acceptance::judge;
 use complex::SimplicialComplex;
-use complex::judge::byte;
-use complex::judge::judge;
+use complex::numbering::byte;
 use complex::search::SpanningTree;
 use complex::search::search;
 ghost use mathlib.Core.Path.{_≡_};

@@ -1,10 +1,5 @@
-pub mod TriangleRows
-pub mod TriangleTelling
-pub mod Demands
 pub mod Examples
-pub mod Rising
 pub mod PartWay
-pub mod Targets
 pub mod Plaquettes
 pub mod DenseWritten
 pub mod DenseTelling

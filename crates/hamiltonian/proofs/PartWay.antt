@@ -1,30 +1,30 @@
 -- The entries of the dense matrix while one triangle is under way: what one state more changes.
-use Prim.Native.Nat.{ℕ, _+_, _<_, _≤_}
-use mathlib.Core.List.{List, []}
-use mathlib.Core.Bool.{Bool, true, false, _&&_, _||_, cond, false≢true}
+use Prim.Native.Nat.{ℕ, _+_, _<_}
+use mathlib.Core.List.{[]}
+use mathlib.Core.Bool.{Bool, true, false, _&&_, _||_}
 use mathlib.Core.Path.{_≡_, refl, sym, ap, ap₂, _∙_}
 use mathlib.Core.Logic.{_≢_}
 use native.Mathlib.Omega.{arith}
 use native.Mathlib.Numerals.{add-one}
 use native.Mathlib.Decide.{ℕ-discrete}
-use borrow.Author.Tests.{eq-eqb, ne-eqb, eqb-true, lt-ltb, le-ltb}
+use borrow.Author.Tests.{eqb-true, lt-ltb, le-ltb}
 use lib.Dec.{eqb, ltb}
-use lib.Ieee.{Float, binary64, add}
+use lib.Ieee.{Float}
 use lib.ListN.{getD, length}
 use Rattle.mathematics.proofs.Tests.{and-parts, and-true}
 use Rattle.complex.specs.Complex.{Complex}
 use Rattle.complex.specs.Judge.{Accepted}
 use Rattle.gauss_law.proofs.Shifts.{triangle-long}
-use Rattle.walker.specs.Enumeration.{states}
+use Rattle.gauss_law.specs.Listing.{states}
 use Rattle.hilbert.specs.Basis.{place, At}
 use Rattle.hilbert.proofs.Order.{in-basis-at}
 use Rattle.matrices.specs.declared.coupling.KSParams.{KSParams}
-use Rattle.hamiltonian.specs.Triangle.{shifted-state, sides-within}
-use Rattle.hamiltonian.specs.Dense.{plaquette-term, hits, entry}
+use Rattle.plaquettes.specs.Triangle.{shifted-state, sides-within, hits}
+use Rattle.hamiltonian.specs.Dense.{u1-entry}
 use Rattle.hamiltonian.specs.Walk.{under-way, part-entry}
-use Rattle.hamiltonian.proofs.TriangleRows.{shifted-state-in-basis}
-use Rattle.hamiltonian.proofs.TriangleTelling.{state-there}
-use Rattle.hamiltonian.proofs.Rising.{never-itself, never-back}
+use Rattle.plaquettes.proofs.TriangleRows.{shifted-state-in-basis}
+use Rattle.plaquettes.proofs.TriangleTelling.{state-there}
+use Rattle.plaquettes.proofs.Rising.{never-itself, never-back}
 use Rattle.matrices.proofs.Matrices.{one-higher}
 
 -- ---- tests
@@ -113,10 +113,10 @@ module _ (c : Complex) (accepted : Accepted c) (L t : ℕ) (number : t < length 
 
   -- ---- before the first state and after the last
   module _ (p : KSParams) (w : ℕ → Float) where
-    pub part-none : (i j : ℕ) → part-entry c L p w t 0 i j ≡ entry c L p w t i j
+    pub part-none : (i j : ℕ) → part-entry c L p w t 0 i j ≡ u1-entry c L p w t i j
     unfolding part-entry under-way
     part-none i j = rw (le-ltb i 0 (omega arith), le-ltb j 0 (omega arith), and-none (hits c L t i j), and-none (hits c L t j i))
 
-    pub part-all : (i j : ℕ) → i < length (states c L) → j < length (states c L) → part-entry c L p w t (length (states c L)) i j ≡ entry c L p w (t + 1) i j
-    unfolding part-entry under-way entry
+    pub part-all : (i j : ℕ) → i < length (states c L) → j < length (states c L) → part-entry c L p w t (length (states c L)) i j ≡ u1-entry c L p w (t + 1) i j
+    unfolding part-entry under-way u1-entry
     part-all i j h k = rw (lt-ltb i (length (states c L)) h, lt-ltb j (length (states c L)) k, and-true (hits c L t i j), and-true (hits c L t j i), add-one t)

@@ -2,7 +2,7 @@
 use Prim.Native.Nat.{ℕ, _+_, _*_, _<_, _≤_}
 use mathlib.Core.List.{List}
 use mathlib.Core.Bool.{Bool, true, false, _&&_, cond}
-use mathlib.Core.Path.{_≡_, refl, sym, ap, _∙_}
+use mathlib.Core.Path.{_≡_, refl, sym, _∙_}
 use mathlib.Core.Logic.{_≢_}
 use native.Mathlib.Omega.{arith}
 use native.Mathlib.Decide.{ℕ-discrete, decLt}
@@ -11,25 +11,26 @@ use lib.Dec.{eqb}
 use lib.IntN.{ℤ}
 use lib.Ieee.{Float, binary64, add}
 use lib.ListN.{length}
-use Rattle.complex.specs.declared.triangle.Sides.{Sides}
+use Rattle.triangles.specs.declared.Sides.{Sides}
 use Rattle.complex.specs.Complex.{Complex}
-use Rattle.walker.specs.Enumeration.{states}
+use Rattle.gauss_law.specs.Listing.{states}
 use Rattle.hilbert.specs.Basis.{place}
 use Rattle.matrices.specs.declared.coupling.KSParams.{KSParams}
-use Rattle.hamiltonian.specs.declared.walk.Sizes.{Sizes}
+use Rattle.plaquettes.specs.declared.target.Sizes.{Sizes}
 use Rattle.matrices.specs.Matrix.{Matrix, with-added}
-use Rattle.hamiltonian.specs.Triangle.{shifted-state, sides-within}
-use Rattle.hamiltonian.specs.Dense.{plaquette-term, hits, entry}
-use Rattle.hamiltonian.specs.Walk.{BasisList, SidesOf, target, part-entry, HitAdded, PlaquetteAdded}
+use Rattle.plaquettes.specs.Triangle.{shifted-state, sides-within, hits}
+use Rattle.hamiltonian.specs.Dense.{plaquette-term, u1-entry}
+use Rattle.hamiltonian.specs.Walk.{part-entry, HitAdded, PlaquetteAdded}
+use Rattle.plaquettes.specs.Targets.{BasisList, SidesOf, target}
 use Rattle.matrices.proofs.Matrices.{matrix-add, matrix-same}
-use Rattle.hamiltonian.proofs.Rising.{targets-rise}
+use Rattle.plaquettes.proofs.Rising.{targets-rise}
 use Rattle.hamiltonian.proofs.PartWay.{elsewhere, way-none, way-there, way-back, way-elsewhere, part-none, part-all}
-use Rattle.hamiltonian.proofs.Targets.{there, target-none, target-at}
+use Rattle.plaquettes.proofs.Targets.{there, target-none, target-at}
 
 -- while triangle t is under way: no later target is before a place, and the entries are those of the states below i
 pub record Way (c : Complex) (s : Sizes) (t : ℕ) (x : Float) (i from : ℕ) (old new : List Float) : Type 0 where
   pub rises : (k : ℕ) → i ≤ k → k < s .states → from ≤ target c (s .lambda) t k
-  pub entries : (p : KSParams) (w : ℕ → Float) → x ≡ plaquette-term p (w t) → (first : List Float) → Matrix (entry c (s .lambda) p w t) (s .states) first old
+  pub entries : (p : KSParams) (w : ℕ → Float) → x ≡ plaquette-term p (w t) → (first : List Float) → Matrix (u1-entry c (s .lambda) p w t) (s .states) first old
       → Matrix (part-entry c (s .lambda) p w t i) (s .states) first new
 
 pub hit-below : (n i j from : ℕ) (x : Float) (old new : List Float) (r : ℕ) → HitAdded n i j from x old new r → from ≤ n → r ≤ n
@@ -88,12 +89,12 @@ module _ (c : Complex) (list : List ℤ) (s : Sizes) (free : List ℕ) (basis : 
     way-begun =
         record {
           rises = λ k h b. omega arith;
-          entries = λ p w e first m. matrix-same (entry c L p w t) (part-entry c L p w t 0) n first old (λ i j a b. sym (part-none c (basis .accepted) L t (of .number) p w i j)) m;
+          entries = λ p w e first m. matrix-same (u1-entry c L p w t) (part-entry c L p w t 0) n first old (λ i j a b. sym (part-none c (basis .accepted) L t (of .number) p w i j)) m;
         }
 
     pub way-ended : (from : ℕ) (new : List Float) → Way c s t x n from old new → PlaquetteAdded c L t n x old new
     way-ended from new way p w e first m =
-        matrix-same (part-entry c L p w t n) (entry c L p w (t + 1)) n first new
+        matrix-same (part-entry c L p w t n) (u1-entry c L p w (t + 1)) n first new
         (λ i j a b. rw (basis .count) (part-all c (basis .accepted) L t (of .number) p w i j (there c list s free basis i a) (there c list s free basis j b)))
         (way .entries p w e first m)
 

@@ -1,4 +1,2 @@
-pub mod Triangle
-pub mod Demand
 pub mod Dense
 pub mod Walk

@@ -1,8 +1,8 @@
 // The dense Hamiltonian of U(1).
-use crate::walk::Sizes;
 use crate::walk::add_plaquette;
 use complex::SimplicialComplex;
-use complex::triangle::triangle_sides;
+use enumeration::prepare_basis;
+use gauss_law::answer::Enumerated;
 use matrices::coupling::KSParams;
 use matrices::coupling::is_u1;
 use matrices::electric::energy;
@@ -11,8 +11,8 @@ use matrices::matrix::add_entry;
 use matrices::matrix::clear_matrix;
 use matrices::weights::judge_weights;
 use matrices::weights::weight_of;
-use walker::enumerate::Enumerated;
-use walker::enumerate::prepare_basis;
+use plaquettes::target::Sizes;
+use triangles::triangle_sides;
 use walker::tables::count_states;
 use walker::tables::write_states;
 ghost use mathlib.Core.Path.{_≡_};
@@ -25,8 +25,9 @@ ghost use Rattle.mathematics.specs.Writing.{front};
 ghost use Rattle.complex.specs.Complex.{complexOf};
 ghost use Rattle.matrices.specs.Weights.{weight};
 ghost use Rattle.matrices.specs.Matrix.{Matrix, passed};
-ghost use Rattle.hamiltonian.specs.Dense.{plaquette-term, entry, dense, Built};
-ghost use Rattle.hamiltonian.specs.Walk.{BasisList, SmallRows, electric-term};
+ghost use Rattle.hamiltonian.specs.Dense.{plaquette-term, u1-entry, u1-dense, U1Built};
+ghost use Rattle.hamiltonian.specs.Walk.{SmallRows, electric-term};
+ghost use Rattle.plaquettes.specs.Targets.{BasisList};
 
 // A factor times each row's sum of squares is added on the diagonal.
 fn add_electric(list: &[i32], n: usize, m: usize, factor: f64, h: &mut [f64])
@@ -58,7 +59,7 @@ fn add_magnetic(
     h: &mut [f64],
 )
     requires { ⌜ BasisList (complexOf c) (now list) s (now free) × (given ≡ true → length (now weights) ≡ c .«n_triangles») × (s .states * s .states ≤ length (now h)) ⌝ }
-    ensures { λ _. ⌜ ((old : List Float) → Matrix (entry (complexOf c) (s .lambda) p (weight given (now (weights .entry))) 0) (s .states) old (now (h .entry)) → Matrix (entry (complexOf c) (s .lambda) p (weight given (now (weights .entry))) (c .«n_triangles»)) (s .states) old (now (h .exit))) ⌝ }
+    ensures { λ _. ⌜ ((old : List Float) → Matrix (u1-entry (complexOf c) (s .lambda) p (weight given (now (weights .entry))) 0) (s .states) old (now (h .entry)) → Matrix (u1-entry (complexOf c) (s .lambda) p (weight given (now (weights .entry))) (c .«n_triangles»)) (s .states) old (now (h .exit))) ⌝ }
 {
     for t in 0..c.n_triangles {
         let x = plaquette_term(p, weight_of(given, weights, t));
@@ -78,7 +79,7 @@ fn write_dense(
     h: &mut [f64],
 )
     requires { ⌜ BasisList (complexOf c) (now list) s (now free) × (given ≡ true → length (now weights) ≡ c .«n_triangles») × (s .states * s .states ≤ length (now h)) ⌝ }
-    ensures { λ _. ⌜ now (h .exit) ≡ front (dense (complexOf c) (s .lambda) p (weight given (now (weights .entry)))) (now (h .entry)) ⌝ }
+    ensures { λ _. ⌜ now (h .exit) ≡ front (u1-dense (complexOf c) (s .lambda) p (weight given (now (weights .entry)))) (now (h .entry)) ⌝ }
 {
     clear_matrix(h, s.states);
     add_electric(list, s.states, s.edges, p.electric, h);
@@ -96,7 +97,7 @@ pub fn build_hamiltonian(
     states: &mut [i32],
     result: &mut [f64],
 ) -> Enumerated
-    ensures { λ r. ⌜ Built (complexOf c) lambda p given (now (weights .entry)) (now (states .entry)) (now (result .entry)) r (now (states .exit)) (now (result .exit)) ⌝ }
+    ensures { λ r. ⌜ U1Built (complexOf c) lambda p given (now (weights .entry)) (now (states .entry)) (now (result .entry)) r (now (states .exit)) (now (result .exit)) ⌝ }
 {
     let basis = prepare_basis(c, lambda);
     let number = basis.refusal;

@@ -1,5 +1,4 @@
 // The Kogut-Susskind Hamiltonian of U(1): the shift of a triangle, and the dense matrix.
 
 pub mod dense;
-pub mod triangle;
 pub mod walk;

@@ -1,21 +1,18 @@
 -- A configuration that is sought in the list of the basis: what the code asks, and what it then has.
 use Prim.Native.Nat.{ℕ, _*_, _≤_}
-use mathlib.Core.List.{List, _++_, flatten}
-use mathlib.Core.Bool.{true}
-use mathlib.Core.Path.{_≡_, sym, ap, _∙_}
-use native.Mathlib.Omega.{arith}
+use mathlib.Core.List.{List, flatten}
+use mathlib.Core.Path.{_≡_, sym, _∙_}
 use borrow.Author.Tests.{ltb-false}
 use lib.IntN.{ℤ}
 use lib.ListN.{length, drop}
 use Rattle.complex.specs.Complex.{Complex}
-use Rattle.gauss_law.specs.Listing.{free-edges}
 use Rattle.walker.specs.declared.tables.Walker.{Walker}
-use Rattle.walker.specs.Tables.{states-of, Fit}
-use Rattle.walker.specs.Blocks.{Written}
-use Rattle.walker.specs.Steps.{FreeFit}
-use Rattle.walker.specs.Enumeration.{states, basis-first, BasisWalks}
-use Rattle.walker.proofs.Enumerating.{short-told, basis-written}
-use Rattle.hilbert.specs.Basis.{in-basis, place}
+use Rattle.walker.specs.Tables.{states-of}
+use Rattle.walker.specs.Blocks.{StatesWritten}
+use Rattle.enumeration.specs.Enumeration.{basis-first, BasisWalks}
+use Rattle.gauss_law.specs.Listing.{states}
+use Rattle.enumeration.proofs.Enumerating.{short-told, basis-written}
+use Rattle.hilbert.specs.Basis.{place}
 use Rattle.hilbert.specs.Search.{Rows, Ranked, Sought, FoundIn}
 use Rattle.hilbert.proofs.Order.{in-basis-at, ranked}
 
@@ -28,7 +25,7 @@ module _ (w : Walker) (L blocks : ℕ) (s : List ℤ) where
     sized : length s ≡ w .«n_edges»
     sized = sought .sized ∙ sym (sought .basis .walks .edges)
 
-    pub rows : (new : List ℤ) (n : ℕ) → length new ≡ length old → Written (states-of w L blocks) old new n → Rows new n s (w .free) (w .«n_free»)
+    pub rows : (new : List ℤ) (n : ℕ) → length new ≡ length old → StatesWritten (states-of w L blocks) old new n → Rows new n s (w .free) (w .«n_free»)
     rows new n same h =
         record {
           edges-few = rw sized (sought .basis .fit .edges);
@@ -38,7 +35,7 @@ module _ (w : Walker) (L blocks : ℕ) (s : List ℤ) where
           free-fit = rw (sized, ← (sought .basis .fit .sized)) (sought .basis .fit .walkable .free-fit);
         }
 
-  pub found-in : (old new : List ℤ) (n r : ℕ) → Written (states-of w L blocks) old new n → ((p : ℕ) → Ranked new n s (w .free) (w .«n_free») p → r ≡ p)
+  pub found-in : (old new : List ℤ) (n r : ℕ) → StatesWritten (states-of w L blocks) old new n → ((p : ℕ) → Ranked new n s (w .free) (w .«n_free») p → r ≡ p)
       → (c : Complex) → BasisWalks c L w blocks → FoundIn c L s old new r
   unfolding basis-first
   found-in old new n r h k c basis =

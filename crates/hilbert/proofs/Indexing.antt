@@ -12,13 +12,13 @@ use lib.ListN.{length}
 use Rattle.mathematics.specs.Refusals.{first, value, refused, outcome, written}
 use Rattle.mathematics.proofs.Refusals.{refused-outcome, refused-kept}
 use Rattle.complex.specs.Complex.{Complex}
-use Rattle.gauss_law.specs.Law.{length-test}
+use Rattle.complex.specs.Judge.{length-test}
 use Rattle.walker.specs.declared.tables.Walker.{Walker}
-use Rattle.walker.specs.Enumeration.{basis-tests, short, basis-first, BasisWalks}
-use Rattle.walker.proofs.Enumerating.{basis-stops, basis-goes-on, basis-at-most}
+use Rattle.enumeration.specs.Enumeration.{basis-tests, short, BasisWalks}
+use Rattle.enumeration.proofs.Enumerating.{basis-stops, basis-goes-on, basis-at-most}
 use Rattle.hilbert.specs.declared.index.Index.{Index}
 use Rattle.hilbert.specs.declared.index.Index.the-variants.{Place, NotInBasis, Refused}
-use Rattle.hilbert.specs.Basis.{in-basis, place}
+use Rattle.hilbert.specs.Basis.{in-basis}
 use Rattle.hilbert.specs.Search.{FoundIn}
 use Rattle.hilbert.specs.Index.{indexAnswer, index-refusal, Indexed}
 use Rattle.hilbert.proofs.Order.{in-basis-at}

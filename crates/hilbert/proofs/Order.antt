@@ -1,8 +1,8 @@
 -- The order of the basis as a test, the place of a listed configuration, and which configurations are listed.
 use Prim.Native.Nat.{ℕ, zero, suc, _<_, _≤_}
-use mathlib.Core.List.{List, [], _∷_, _++_, flatten}
+use mathlib.Core.List.{List, [], _++_, flatten}
 use mathlib.Core.Bool.{Bool, true, false, cond, false≢true}
-use mathlib.Core.Path.{_≡_, refl, sym, ap, _∙_}
+use mathlib.Core.Path.{_≡_, refl, sym, _∙_}
 use mathlib.Core.Logic.{_⊎_, inl, inr}
 use native.Mathlib.Omega.{arith}
 use native.Mathlib.Decide.{decLt, ℕ-discrete}
@@ -18,14 +18,14 @@ use Rattle.mathematics.proofs.Below.{listed-member, member-listed}
 use Rattle.mathematics.proofs.Flat.{flatten-row}
 use Rattle.complex.specs.Complex.{Complex}
 use Rattle.complex.specs.Judge.{Accepted}
-use Rattle.gauss_law.specs.Gauss.{State}
-use Rattle.gauss_law.specs.Listing.{free-edges, Before, In, Complete}
+use Rattle.gauss_law.specs.Gauss.{State, within, uncharged}
+use Rattle.gauss_law.specs.Listing.{free-edges, Before, Complete, states}
+use Rattle.mathematics.specs.Lists.{In}
 use Rattle.gauss_law.proofs.Gauss.{lawful-true, true-lawful}
 use Rattle.gauss_law.proofs.Free.{free-rising}
 use Rattle.gauss_law.proofs.Listing.{earlier}
 use Rattle.gauss_law.proofs.Accepted.{accepted-tree, listing-complete}
-use Rattle.walker.specs.Enumeration.{states}
-use Rattle.hilbert.specs.Basis.{within, in-basis, decided, smaller, comes-before, place, At}
+use Rattle.hilbert.specs.Basis.{in-basis, decided, smaller, comes-before, place, At}
 use Rattle.hilbert.specs.Search.{row, Ranked}
 use Rattle.hilbert.proofs.Searching.{decided-less, decided-equal}
 
@@ -139,9 +139,9 @@ self-smaller c s = smaller-past (free-edges c) s s 0 (length (free-edges c)) (om
 
 -- ---- the place of a listed configuration
 module _ (c : Complex) (accepted : Accepted c) (L : ℕ) where
-  complete : Complete c (λ v. pos 0) L (states c L)
+  complete : Complete c uncharged L (states c L)
   unfolding states
-  complete = listing-complete c accepted (λ v. pos 0) L
+  complete = listing-complete c accepted uncharged L
 
   state-sized : (i : ℕ) → i < length (states c L) → length (getD (states c L) i []) ≡ length (c .edges)
   state-sized i h = complete .only (getD (states c L) i []) (i, h, refl) .sized
@@ -165,33 +165,33 @@ module _ (c : Complex) (accepted : Accepted c) (L : ℕ) where
 -- ---- which configurations are listed
 -- the test says what a state is
 module _ (c : Complex) (L : ℕ) (s : List ℤ) where
-  pub in-basis-state : length s ≡ length (c .edges) → in-basis c L s ≡ true → State c (λ v. pos 0) L s
+  pub in-basis-state : length s ≡ length (c .edges) → in-basis c L s ≡ true → State c uncharged L s
   unfolding in-basis within
   in-basis-state long h =
       let r = and-parts _ _ h in
       record {
         sized = long;
         within = λ e k. leb-true (natAbs (getD s e (pos 0))) L (all-at (within L) (pos 0) s (r .0) e (omega arith));
-        law = lawful-true c (λ v. pos 0) s (r .1);
+        law = lawful-true c uncharged s (r .1);
       }
 
-  pub state-in-basis : State c (λ v. pos 0) L s → in-basis c L s ≡ true
+  pub state-in-basis : State c uncharged L s → in-basis c L s ≡ true
   unfolding in-basis within
   state-in-basis h =
       let long = h .sized in
       and-both _ _
       (at-all (within L) (pos 0) s (λ e k. le-leb (natAbs (getD s e (pos 0))) L (h .within e (omega arith))))
-      (true-lawful c (λ v. pos 0) s (h .law))
+      (true-lawful c uncharged s (h .law))
 
 module _ (c : Complex) (accepted : Accepted c) (L : ℕ) (s : List ℤ) where
   -- a configuration is listed exactly when its Gauss sums are zero and its values are within -L to L
-  pub in-basis-listed : length s ≡ length (c .edges) → (in-basis c L s ≡ true → In s (states c L)) × (In s (states c L) → in-basis c L s ≡ true)
+  pub in-basis-listed : length s ≡ length (c .edges) → (in-basis c L s ≡ true → In [] s (states c L)) × (In [] s (states c L) → in-basis c L s ≡ true)
   in-basis-listed long = (λ h. complete c accepted L .every s (in-basis-state c L s long h), λ h. state-in-basis c L s (complete c accepted L .only s h))
 
   pub in-basis-at : length s ≡ length (c .edges) → in-basis c L s ≡ true → At c L s (place c L s)
   in-basis-at long h = go (in-basis-listed long .0 h)
     where
-      go : In s (states c L) → At c L s (place c L s)
+      go : In [] s (states c L) → At c L s (place c L s)
       go (p, b, e) =
           let here : At c L s p = record { below = b; state = e } in
           rw (place-at c accepted L s p here) here

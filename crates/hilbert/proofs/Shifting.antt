@@ -16,16 +16,17 @@ use Rattle.mathematics.proofs.Refusals.{refused-outcome, refused-kept}
 use Rattle.complex.specs.Complex.{Complex}
 use Rattle.gauss_law.specs.Shifts.{raised, shifted}
 use Rattle.gauss_law.proofs.Shifts.{shifted-length}
-use Rattle.gauss_law.specs.Law.{length-test}
+use Rattle.complex.specs.Judge.{length-test}
 use Rattle.walker.specs.declared.tables.Walker.{Walker}
-use Rattle.walker.specs.Enumeration.{basis-tests, short, BasisWalks}
-use Rattle.walker.proofs.Enumerating.{basis-stops, basis-goes-on, basis-at-most}
+use Rattle.enumeration.specs.Enumeration.{basis-tests, short, BasisWalks}
+use Rattle.enumeration.proofs.Enumerating.{basis-stops, basis-goes-on, basis-at-most}
 use Rattle.hilbert.specs.declared.index.Index.{Index}
 use Rattle.hilbert.specs.declared.index.Index.the-variants.{Place, NotInBasis, Refused}
-use Rattle.hilbert.specs.Basis.{within, in-basis, place}
+use Rattle.hilbert.specs.Basis.{in-basis}
+use Rattle.gauss_law.specs.Gauss.{within}
 use Rattle.hilbert.specs.Search.{FoundIn}
 use Rattle.hilbert.specs.Index.{indexAnswer}
-use Rattle.hilbert.specs.Shift.{shift-refusal, Shifted}
+use Rattle.hilbert.specs.Shift.{shift-refusal, EdgeShiftTold}
 use Rattle.hilbert.proofs.Order.{in-basis-at}
 use Rattle.hilbert.proofs.Indexing.{told-number, own-case}
 
@@ -34,7 +35,7 @@ module _ (c : Complex) (L : ℕ) (s : List ℤ) (e : ℕ) (delta : ℤ) (work re
   number = shift-refusal c L s e delta (length work) (length result)
 
   -- a refusal leaves the lists
-  refused-shifted : (k : ℕ) → number ≡ k → (k ≡ 0 → ⊥) → (r : Index) → indexAnswer r ≡ refused k → told-number r ≢ 17 → Shifted c L s e delta work result r work result
+  refused-shifted : (k : ℕ) → number ≡ k → (k ≡ 0 → ⊥) → (r : Index) → indexAnswer r ≡ refused k → told-number r ≢ 17 → EdgeShiftTold c L s e delta work result r work result
   unfolding number
   refused-shifted k n some r h own =
       record {
@@ -55,7 +56,7 @@ module _ (c : Complex) (L : ℕ) (s : List ℤ) (e : ℕ) (delta : ℤ) (work re
       ∷ (17, not (in-basis c L (shifted s e delta)))
       ∷ []
 
-  pub basis-refused : (k : ℕ) → k ≡ first (basis-tests c L) → (k ≡ 0 → ⊥) → Shifted c L s e delta work result (Refused k) work result
+  pub basis-refused : (k : ℕ) → k ≡ first (basis-tests c L) → (k ≡ 0 → ⊥) → EdgeShiftTold c L s e delta work result (Refused k) work result
   unfolding number shift-refusal indexAnswer rest told-number
   basis-refused k h some = refused-shifted k (basis-stops c L rest k h some) some (Refused k) refl (λ z. omega (arith, h, basis-at-most c L))
 
@@ -65,32 +66,32 @@ module _ (c : Complex) (L : ℕ) (s : List ℤ) (e : ℕ) (delta : ℤ) (work re
     unfolding number shift-refusal first rest
     by-tests = basis-goes-on c L rest none
 
-    pub length-refused : (length s ≡ length (c .edges) → ⊥) → Shifted c L s e delta work result (Refused 12) work result
+    pub length-refused : (length s ≡ length (c .edges) → ⊥) → EdgeShiftTold c L s e delta work result (Refused 12) work result
     unfolding indexAnswer told-number
     length-refused h = refused-shifted 12 (by-tests ∙ rw (ne-eqb (length s) (length (c .edges)) h)) (λ z. omega arith) (Refused 12) refl (λ z. omega arith)
 
     module _ (sized : length s ≡ length (c .edges)) where
-      pub edge-refused : length (c .edges) ≤ e → Shifted c L s e delta work result (Refused 13) work result
+      pub edge-refused : length (c .edges) ≤ e → EdgeShiftTold c L s e delta work result (Refused 13) work result
       unfolding indexAnswer told-number
       edge-refused h = refused-shifted 13 (by-tests ∙ rw (eq-eqb (length s) (length (c .edges)) sized, le-leb (length (c .edges)) e h)) (λ z. omega arith) (Refused 13) refl (λ z. omega arith)
 
       module _ (edge : e < length (c .edges)) where
-        pub room-refused : (short c L (length work) || ltb (length result) (length (c .edges))) ≡ true → Shifted c L s e delta work result (Refused 15) work result
+        pub room-refused : (short c L (length work) || ltb (length result) (length (c .edges))) ≡ true → EdgeShiftTold c L s e delta work result (Refused 15) work result
         unfolding indexAnswer told-number
         room-refused h = refused-shifted 15 (by-tests ∙ rw (eq-eqb (length s) (length (c .edges)) sized, lt-leb (length (c .edges)) e edge, h)) (λ z. omega arith) (Refused 15) refl (λ z. omega arith)
 
         module _ (room : (short c L (length work) || ltb (length result) (length (c .edges))) ≡ false) where
-          pub band-refused : within L (raised s e delta) ≡ false → Shifted c L s e delta work result (Refused 16) work result
+          pub band-refused : within L (raised s e delta) ≡ false → EdgeShiftTold c L s e delta work result (Refused 16) work result
           unfolding indexAnswer told-number
           band-refused h = refused-shifted 16 (by-tests ∙ rw (eq-eqb (length s) (length (c .edges)) sized, lt-leb (length (c .edges)) e edge, room, h)) (λ z. omega arith) (Refused 16) refl (λ z. omega arith)
 
           module _ (band : within L (raised s e delta) ≡ true) where
-            pub unlisted : in-basis c L (shifted s e delta) ≡ false → Shifted c L s e delta work result NotInBasis work result
+            pub unlisted : in-basis c L (shifted s e delta) ≡ false → EdgeShiftTold c L s e delta work result NotInBasis work result
             unfolding indexAnswer told-number
             unlisted h = refused-shifted 17 (by-tests ∙ rw (eq-eqb (length s) (length (c .edges)) sized, lt-leb (length (c .edges)) e edge, room, band, h)) (λ z. omega arith) NotInBasis refl (λ z. omega arith)
 
             pub placed : {w : Walker} {blocks : ℕ} → BasisWalks c L w blocks → in-basis c L (shifted s e delta) ≡ true → (work′ : List ℤ) (r : ℕ) → FoundIn c L (shifted s e delta) work work′ r
-                → (result′ : List ℤ) → result′ ≡ shifted s e delta ++ drop (length s) result → Shifted c L s e delta work result (Place r) work′ result′
+                → (result′ : List ℤ) → result′ ≡ shifted s e delta ++ drop (length s) result → EdgeShiftTold c L s e delta work result (Place r) work′ result′
             unfolding number indexAnswer told-number outcome written
             placed basis h work′ r found result′ is =
                 let none-left : number ≡ 0 = by-tests ∙ rw (eq-eqb (length s) (length (c .edges)) sized, lt-leb (length (c .edges)) e edge, room, band, h) in
@@ -99,7 +100,7 @@ module _ (c : Complex) (L : ℕ) (s : List ℤ) (e : ℕ) (delta : ℤ) (work re
                   answer = rw none-left (ap value (found .found (long, h)));
                   own = own-case (Place r) (λ z. omega arith);
                   work-list = rw none-left (found .list);
-                  result-list = rw none-left (is ∙ ap (λ n. shifted s e delta ++ drop n result) sized);
+                  result-list = rw none-left (is ∙ ap (λ n. shifted s e delta ++ drop n result) (sym (shifted-length s e delta)));
                   found = λ z. in-basis-at c (basis .walks .accepted) L (shifted s e delta) long h;
                   few = λ z. basis .few;
                 }

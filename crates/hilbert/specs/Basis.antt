@@ -3,25 +3,18 @@ use Prim.Native.Nat.{ℕ, zero, suc, _<_}
 use mathlib.Core.List.{List, []}
 use mathlib.Core.Bool.{Bool, true, false, _&&_, cond}
 use mathlib.Core.Path.{_≡_}
-use lib.Dec.{leb}
-use lib.IntN.{ℤ, pos, natAbs}
+use lib.IntN.{ℤ, pos}
 use lib.Signed.{ltZ}
 use lib.ListN.{getD, length}
-use Rattle.mathematics.specs.Tests.{all}
+use Rattle.mathematics.specs.Tests.{every-entry}
 use Rattle.mathematics.specs.Counting.{keep}
 use Rattle.complex.specs.Complex.{Complex}
-use Rattle.gauss_law.specs.Gauss.{lawful}
-use Rattle.gauss_law.specs.Listing.{free-edges}
-use Rattle.walker.specs.Enumeration.{states}
+use Rattle.gauss_law.specs.Gauss.{lawful, within, uncharged}
+use Rattle.gauss_law.specs.Listing.{free-edges, states}
 
--- a value within -L to L
-unfoldable pub within : ℕ → ℤ → Bool
-within L x = leb (natAbs x) L
-
--- a configuration, which has one value for each edge (its length is not looked at here), is in the basis: every value within -L to L, and
--- every Gauss sum zero
+-- a configuration with one value for each edge is in the basis: every value within -L to L, and every Gauss sum zero
 unfoldable pub in-basis : Complex → ℕ → List ℤ → Bool
-in-basis c L s = all (within L) s && lawful c (λ v. pos 0) s
+in-basis c L s = every-entry (within L) s && lawful c uncharged s
 
 -- true where x is the smaller, false where y is, and b where they are equal
 unfoldable pub decided : Bool → ℤ → ℤ → Bool

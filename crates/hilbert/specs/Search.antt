@@ -9,7 +9,7 @@ use lib.ListN.{length, take, drop}
 use Rattle.complex.specs.Complex.{Complex}
 use Rattle.walker.specs.declared.tables.Walker.{Walker}
 use Rattle.walker.specs.Steps.{FreeFit}
-use Rattle.walker.specs.Enumeration.{BasisWalks, short, basis-first}
+use Rattle.enumeration.specs.Enumeration.{BasisWalks, short, basis-first}
 use Rattle.hilbert.specs.Basis.{smaller, in-basis, place}
 
 -- a list that begins with n rows as long as a configuration, and the free edges that order them

@@ -1,27 +1,28 @@
 // The place of a configuration in the basis.
 use crate::search::find_place;
 use complex::SimplicialComplex;
+use enumeration::prepare_basis;
+use enumeration::too_short;
 use gauss_law::law::find_unlawful;
 use walker::blocks::within;
-use walker::enumerate::prepare_basis;
-use walker::enumerate::too_short;
 use walker::tables::Walker;
 use walker::tables::write_states;
 ghost use mathlib.Core.Path.{_≡_};
 ghost use Prim.Native.Nat.{_≤_};
 ghost use lib.ListN.{length};
-ghost use Rattle.mathematics.specs.Tests.{all};
+ghost use Rattle.mathematics.specs.Tests.{every-entry};
 ghost use Rattle.complex.specs.Complex.{Complex, complexOf};
 ghost use Rattle.complex.specs.Judge.{refusal};
-ghost use Rattle.walker.specs.Enumeration.{BasisWalks};
-ghost use Rattle.hilbert.specs.Basis.{within, in-basis};
+ghost use Rattle.enumeration.specs.Enumeration.{BasisWalks};
+ghost use Rattle.hilbert.specs.Basis.{in-basis};
+ghost use Rattle.gauss_law.specs.Gauss.{within};
 ghost use Rattle.hilbert.specs.Search.{Sought, FoundIn};
 ghost use Rattle.hilbert.specs.Index.{Indexed};
 
 // Whether every value is within -lambda to lambda.
 fn in_band(configuration: &[i32], lambda: usize) -> bool
     requires { ⌜ lambda ≤ 1000 ⌝ }
-    ensures { λ r. ⌜ r ≡ all (within lambda) (now (configuration .entry)) ⌝ }
+    ensures { λ r. ⌜ r ≡ every-entry (within lambda) (now (configuration .entry)) ⌝ }
 {
     let mut so_far = true;
     for e in 0..configuration.len() {

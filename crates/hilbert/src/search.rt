@@ -1,5 +1,5 @@
 // The place of a configuration in the list of the basis.
-use complex::judge::byte;
+use complex::numbering::byte;
 ghost use mathlib.Core.Path.{_≡_};
 ghost use Prim.Native.Nat.{ℕ, _≤_};
 ghost use lib.ListN.{length};

@@ -3,10 +3,10 @@ use crate::index::Index;
 use crate::index::in_basis;
 use crate::index::list_and_find;
 use complex::SimplicialComplex;
+use enumeration::prepare_basis;
+use enumeration::too_short;
 use gauss_law::law::plus;
 use gauss_law::law::wide;
-use walker::enumerate::prepare_basis;
-use walker::enumerate::too_short;
 use walker::steps::signed;
 ghost use mathlib.Core.Path.{_≡_};
 ghost use mathlib.Core.List.{_++_};
@@ -14,8 +14,8 @@ ghost use Prim.Native.Nat.{_^_, _<_, _≤_};
 ghost use lib.IntN.{pos, natAbs, _+ℤ_};
 ghost use lib.ListN.{length, set, drop, replicate};
 ghost use Rattle.complex.specs.Complex.{complexOf};
-ghost use Rattle.hilbert.specs.Basis.{within};
-ghost use Rattle.hilbert.specs.Shift.{Shifted};
+ghost use Rattle.gauss_law.specs.Gauss.{within};
+ghost use Rattle.hilbert.specs.Shift.{EdgeShiftTold};
 
 // Whether the true sum of two values is within -lambda to lambda.
 fn sum_within(x: i32, delta: i32, lambda: usize) -> bool
@@ -67,7 +67,7 @@ pub fn apply_shift(
     states: &mut [i32],
     result: &mut [i32],
 ) -> Index
-    ensures { λ r. ⌜ Shifted (complexOf c) lambda (now (configuration .entry)) edge delta (now (states .entry)) (now (result .entry)) r (now (states .exit)) (now (result .exit)) ⌝ }
+    ensures { λ r. ⌜ EdgeShiftTold (complexOf c) lambda (now (configuration .entry)) edge delta (now (states .entry)) (now (result .entry)) r (now (states .exit)) (now (result .exit)) ⌝ }
 {
     let basis = prepare_basis(c, lambda);
     let number = basis.refusal;

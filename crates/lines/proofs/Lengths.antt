@@ -4,10 +4,10 @@ use mathlib.Core.List.{List, [], _∷_, _++_, flatMap}
 use native.Mathlib.Omega.{arith}
 use lib.ListN.{length, getD, length-append}
 use lib.IntN.{ℤ, pos, negsuc, natAbs}
-use Rattle.lines.specs.Lines.{ascii, digits, signedText, valueText, valuesText, stateLine, named, countsText, firstLine, refusedLine}
+use Rattle.lines.specs.Lines.{ascii, decimal, signedText, valueText, valuesText, stateLine, named, countsText, firstLine, refusedLine}
 use Rattle.lines.proofs.Digits.{few-digits}
 
-pub number-long : (n : ℕ) → n < 2 ^ 64 → length (digits n) ≤ 20
+pub number-long : (n : ℕ) → n < 2 ^ 64 → length (decimal n) ≤ 20
 number-long n h = few-digits 19 n (omega arith)
 
 pub value-long : (z : ℤ) → natAbs z ≤ 1000 → length (valueText z) ≤ 6
@@ -27,10 +27,10 @@ pub state-line-long : (place : ℕ) (values : List ℤ) → place < 2 ^ 64 → (
 unfolding stateLine ascii
 state-line-long place values few small =
     omega
-    (arith, length-append (digits place) (valuesText values ++ (10 ∷ [])), length-append (valuesText values) (10 ∷ []), number-long place few, values-long values small)
+    (arith, length-append (decimal place) (valuesText values ++ (10 ∷ [])), length-append (valuesText values) (10 ∷ []), number-long place few, values-long values small)
 
-named-long : (name : List ℕ) (n : ℕ) → n < 2 ^ 64 → length (name ++ digits n) ≤ length name + 20
-named-long name n h = omega (arith, length-append name (digits n), number-long n h)
+named-long : (name : List ℕ) (n : ℕ) → n < 2 ^ 64 → length (name ++ decimal n) ≤ length name + 20
+named-long name n h = omega (arith, length-append name (decimal n), number-long n h)
 
 pub counts-long : (v e t lambda : ℕ) → v < 2 ^ 64 → e < 2 ^ 64 → t < 2 ^ 64 → lambda < 2 ^ 64 → length (countsText v e t lambda) ≤ 115
 unfolding countsText named ascii

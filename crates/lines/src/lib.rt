@@ -4,7 +4,7 @@ ghost use mathlib.Core.List.{_∷_, [], _++_};
 ghost use Prim.Native.Nat.{_+_, _<_, _≤_};
 ghost use lib.ListN.{length};
 ghost use lib.IntN.{natAbs};
-ghost use Rattle.lines.specs.Lines.{digits, signedText, valueText, stateLine, countsText, firstLine, refusedLine};
+ghost use Rattle.lines.specs.Lines.{decimal, signedText, valueText, stateLine, countsText, firstLine, refusedLine};
 ghost use Rattle.lines.specs.Put.{Put};
 
 fn digit(d: usize) -> u8
@@ -33,8 +33,8 @@ pub fn write_text(out: &mut [u8], at: usize, text: &[u8]) -> usize
 }
 
 pub fn write_number(out: &mut [u8], at: usize, n: usize) -> usize
-    requires { ⌜ at + length (digits n) ≤ length (now out) ⌝ }
-    ensures { λ r. ⌜ Put (digits n) (now (out .entry)) at (now (out .exit)) r ⌝ }
+    requires { ⌜ at + length (decimal n) ≤ length (now out) ⌝ }
+    ensures { λ r. ⌜ Put (decimal n) (now (out .entry)) at (now (out .exit)) r ⌝ }
 {
     if n < 10 {
         return write_byte(out, at, digit(n));
@@ -84,8 +84,8 @@ pub fn write_state_line(out: &mut [u8], at: usize, place: usize, values: &[i32])
 
 // A name and a number.
 pub fn write_named(out: &mut [u8], at: usize, name: &[u8], n: usize) -> usize
-    requires { ⌜ at + length (now name ++ digits n) ≤ length (now out) ⌝ }
-    ensures { λ r. ⌜ Put (now (name .entry) ++ digits n) (now (out .entry)) at (now (out .exit)) r ⌝ }
+    requires { ⌜ at + length (now name ++ decimal n) ≤ length (now out) ⌝ }
+    ensures { λ r. ⌜ Put (now (name .entry) ++ decimal n) (now (out .entry)) at (now (out .exit)) r ⌝ }
 {
     let next = write_text(out, at, name);
     write_number(out, next, n)

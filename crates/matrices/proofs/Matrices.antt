@@ -16,8 +16,8 @@ use Rattle.mathematics.specs.Counting.{below}
 use Rattle.mathematics.specs.Writing.{front}
 use Rattle.mathematics.proofs.Below.{length-below, map-below-at}
 use Rattle.mathematics.proofs.Flat.{flatten-length, flatten-at}
-use Rattle.matrices.specs.Coupling.{whole}
-use Rattle.matrices.specs.Matrix.{rows, Matrix, passed}
+use Rattle.matrices.specs.Coupling.{float-of}
+use Rattle.matrices.specs.Matrix.{matrix-rows, Matrix, passed}
 
 -- a place in row i is below the next row
 row-end : (n i j : ℕ) → j < n → i * n + j < suc i * n
@@ -76,31 +76,31 @@ module _ (f : ℕ → ℕ → Float) (n : ℕ) where
   line-long : (i : ℕ) → i < length lines → length (getD lines i []) ≡ n
   line-long i h = ap length (line-at i (rw (← lines-many) h)) ∙ length-map (below n) (λ j. f i j) ∙ length-below n
 
-  pub rows-length : length (rows f n) ≡ n * n
-  unfolding rows
+  pub rows-length : length (matrix-rows f n) ≡ n * n
+  unfolding matrix-rows
   rows-length = flatten-length n lines line-long ∙ ap (λ (k : ℕ). n * k) lines-many
 
-  rows-at : (rest : List Float) (i j : ℕ) → i < n → j < n → getD (rows f n ++ rest) (i * n + j) nan ≡ f i j
-  unfolding rows
+  rows-at : (rest : List Float) (i j : ℕ) → i < n → j < n → getD (matrix-rows f n ++ rest) (i * n + j) nan ≡ f i j
+  unfolding matrix-rows
   rows-at rest i j h k =
       ap (λ (m : ℕ). getD (flatten lines ++ rest) (m + j) nan) (mul-comm i n)
       ∙ flatten-at n nan lines rest line-long i j (rw lines-many h) k
       ∙ ap (λ (l : List Float). getD l j nan) (line-at i h) ∙ map-below-at (λ j. f i j) n j nan k
 
-  pub matrix-is : (old new : List Float) → Matrix f n old new → n * n ≤ length old → new ≡ front (rows f n) old
+  pub matrix-is : (old new : List Float) → Matrix f n old new → n * n ≤ length old → new ≡ front (matrix-rows f n) old
   matrix-is old new m room =
-      ext-getD nan new (rows f n ++ drop (n * n) old) same (λ k h. each k h (decLt k (n * n))) ∙ ap (λ (k : ℕ). rows f n ++ drop k old) (sym rows-length)
+      ext-getD nan new (matrix-rows f n ++ drop (n * n) old) same (λ k h. each k h (decLt k (n * n))) ∙ ap (λ (k : ℕ). matrix-rows f n ++ drop k old) (sym rows-length)
     where
-      same : length new ≡ length (rows f n ++ drop (n * n) old)
-      same = m .long ∙ sym (length-append (rows f n) (drop (n * n) old) ∙ rw (rows-length, length-drop (n * n) old) (omega arith))
+      same : length new ≡ length (matrix-rows f n ++ drop (n * n) old)
+      same = m .long ∙ sym (length-append (matrix-rows f n) (drop (n * n) old) ∙ rw (rows-length, length-drop (n * n) old) (omega arith))
 
-      each : (k : ℕ) → k < length new → Dec (k < n * n) → getD new k nan ≡ getD (rows f n ++ drop (n * n) old) k nan
+      each : (k : ℕ) → k < length new → Dec (k < n * n) → getD new k nan ≡ getD (matrix-rows f n ++ drop (n * n) old) k nan
       each k h (yes l) =
           let some : 0 < n = positive n l in
           let row : k / n < n = div-lt-iff-lt-mul some .1 l in
           let column : k % n < n = mod-lt k some in
           ap (λ (i : ℕ). getD new i nan) (sym (div-add-mod' k n)) ∙ m .entries (k / n) (k % n) row column
-          ∙ sym (rows-at (drop (n * n) old) (k / n) (k % n) row column) ∙ ap (λ (i : ℕ). getD (rows f n ++ drop (n * n) old) i nan) (div-add-mod' k n)
+          ∙ sym (rows-at (drop (n * n) old) (k / n) (k % n) row column) ∙ ap (λ (i : ℕ). getD (matrix-rows f n ++ drop (n * n) old) i nan) (div-add-mod' k n)
         where
           positive : (n : ℕ) → k < n * n → 0 < n
           positive zero l = absurd (omega arith)
@@ -108,8 +108,8 @@ module _ (f : ℕ → ℕ → Float) (n : ℕ) where
       each k h (no l) =
           let e : n * n + (k - n * n) ≡ k = omega arith in
           m .beyond k (omega arith)
-          ∙ sym (ap (λ (i : ℕ). getD (rows f n ++ drop (n * n) old) i nan) (sym e)
-          ∙ (rw rows-length at (getD-append-add (rows f n) (drop (n * n) old) (k - n * n) nan)) ∙ getD-drop (n * n) old (k - n * n) nan ∙ ap (λ (i : ℕ). getD old i nan) e)
+          ∙ sym (ap (λ (i : ℕ). getD (matrix-rows f n ++ drop (n * n) old) i nan) (sym e)
+          ∙ (rw rows-length at (getD-append-add (matrix-rows f n) (drop (n * n) old) (k - n * n) nan)) ∙ getD-drop (n * n) old (k - n * n) nan ∙ ap (λ (i : ℕ). getD old i nan) e)
 
 -- ---- entries that are said in another way
 pub matrix-same : (f g : ℕ → ℕ → Float) (n : ℕ) (old new : List Float) → ((i j : ℕ) → i < n → j < n → f i j ≡ g i j) → Matrix f n old new → Matrix g n old new
@@ -119,25 +119,25 @@ matrix-same f g n old new same m = record { long = m .long; entries = λ i j h k
 -- the first k entries are zeros
 pub record Cleared (k : ℕ) (old new : List Float) : Type 0 where
   pub long : length new ≡ length old
-  pub zeros : (i : ℕ) → i < k → getD new i nan ≡ whole 0
+  pub zeros : (i : ℕ) → i < k → getD new i nan ≡ float-of 0
   pub beyond : (i : ℕ) → k ≤ i → getD new i nan ≡ getD old i nan
 
 pub cleared-none : (old : List Float) → Cleared 0 old old
 cleared-none old = record { long = refl; zeros = λ i h. absurd (omega arith); beyond = λ i h. refl }
 
-pub cleared-more : (k : ℕ) (old new : List Float) → Cleared k old new → k < length old → Cleared (k + 1) old (set new k (whole 0))
+pub cleared-more : (k : ℕ) (old new : List Float) → Cleared k old new → k < length old → Cleared (k + 1) old (set new k (float-of 0))
 cleared-more k old new m room =
     record {
-      long = length-set new k (whole 0) ∙ m .long;
+      long = length-set new k (float-of 0) ∙ m .long;
       zeros = λ i h. go i h (ℕ-discrete i k);
-      beyond = λ i h. getD-set-other new k i (whole 0) nan (λ e. absurd (omega (arith, e))) ∙ m .beyond i (omega arith);
+      beyond = λ i h. getD-set-other new k i (float-of 0) nan (λ e. absurd (omega (arith, e))) ∙ m .beyond i (omega arith);
     }
   where
-    go : (i : ℕ) → i < k + 1 → Dec (i ≡ k) → getD (set new k (whole 0)) i nan ≡ whole 0
-    go i h (yes e) = rw e (getD-set-same new k (whole 0) nan (omega (arith, m .long)))
-    go i h (no e) = getD-set-other new k i (whole 0) nan e ∙ m .zeros i (omega arith)
+    go : (i : ℕ) → i < k + 1 → Dec (i ≡ k) → getD (set new k (float-of 0)) i nan ≡ float-of 0
+    go i h (yes e) = rw e (getD-set-same new k (float-of 0) nan (omega (arith, m .long)))
+    go i h (no e) = getD-set-other new k i (float-of 0) nan e ∙ m .zeros i (omega arith)
 
-pub cleared-matrix : (n : ℕ) (old new : List Float) → Cleared (n * n) old new → Matrix (λ i j. whole 0) n old new
+pub cleared-matrix : (n : ℕ) (old new : List Float) → Cleared (n * n) old new → Matrix (λ i j. float-of 0) n old new
 cleared-matrix n old new m = record { long = m .long; entries = λ i j h k. m .zeros (i * n + j) (in-matrix n i j h k); beyond = m .beyond }
 
 -- ---- one entry of each row

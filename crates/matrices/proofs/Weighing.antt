@@ -8,7 +8,7 @@ use borrow.Author.Tests.{eqb-true}
 use lib.Dec.{eqb}
 use lib.Ieee.{Float}
 use lib.ListN.{length}
-use Rattle.mathematics.specs.Tests.{all}
+use Rattle.mathematics.specs.Tests.{every-entry}
 use Rattle.mathematics.specs.Refusals.{first}
 use Rattle.matrices.specs.Weights.{bounded, weights-tests}
 
@@ -28,11 +28,11 @@ module _ (n : ℕ) (right given : Bool) (weights : List Float) where
       absent-told h = rw (is, h)
 
       module _ (some : given ≡ true) where
-        pub range-told : all bounded weights ≡ false → 14 ≡ first (weights-tests n right given weights)
+        pub range-told : every-entry bounded weights ≡ false → 14 ≡ first (weights-tests n right given weights)
         unfolding weights-tests first
         range-told h = rw (fits, is, some, h)
 
-        pub right-told : all bounded weights ≡ true → 0 ≡ first (weights-tests n right given weights)
+        pub right-told : every-entry bounded weights ≡ true → 0 ≡ first (weights-tests n right given weights)
         unfolding weights-tests first
         right-told h = rw (fits, is, some, h)
 
@@ -41,6 +41,6 @@ module _ (n : ℕ) (right given : Bool) (weights : List Float) where
   unfolding weights-tests first
   weights-fit h some = go (eqb (length weights) n) refl (rw some at h)
     where
-      go : (b : Bool) → eqb (length weights) n ≡ b → _≡_ {A = ℕ} (cond (not (eqb (length weights) n)) 12 (cond (not right || not (all bounded weights)) 14 0)) 0 → length weights ≡ n
+      go : (b : Bool) → eqb (length weights) n ≡ b → _≡_ {A = ℕ} (cond (not (eqb (length weights) n)) 12 (cond (not right || not (every-entry bounded weights)) 14 0)) 0 → length weights ≡ n
       go true e k = eqb-true (length weights) n e
       go false e k = absurd (omega (arith, rw e at k))

@@ -2,7 +2,7 @@
 use Prim.Native.Nat.{ℕ, _^_}
 use mathlib.Core.List.{[], _∷_}
 use mathlib.Core.Bool.{Bool, not, _&&_}
-use lib.IntN.{pos, negsuc}
+use lib.IntN.{pos}
 use lib.Ieee.{Float, binary64, ofInt, neg, mul, div, le, eq}
 use Rattle.mathematics.specs.Refusals.{first, Outcome, value, refused, outcome}
 use Rattle.matrices.specs.declared.coupling.KSParams.{KSParams}
@@ -10,20 +10,20 @@ use Rattle.matrices.specs.declared.coupling.Coupling.{Coupling}
 use Rattle.matrices.specs.declared.coupling.Coupling.the-variants.{Params, Refused}
 
 -- a whole number as a float
-unfoldable pub whole : ℕ → Float
-whole n = ofInt binary64 (pos n)
+unfoldable pub float-of : ℕ → Float
+float-of n = ofInt binary64 (pos n)
 
 -- g² is from 2^-32 to 2^32; nothing that is not a number passes
 unfoldable pub coupling-right : Float → Bool
-coupling-right g² = le (div binary64 (whole 1) (whole (2 ^ 32))) g² && le g² (whole (2 ^ 32))
+coupling-right g² = le (div binary64 (float-of 1) (float-of (2 ^ 32))) g² && le g² (float-of (2 ^ 32))
 
 -- U(1): g²/2 and -1/g²
 unfoldable pub u1-params : Float → KSParams
-u1-params g² = record { «g_squared» = g²; electric = div binary64 g² (whole 2); magnetic = div binary64 (neg (whole 1)) g² }
+u1-params g² = record { «g_squared» = g²; electric = div binary64 g² (float-of 2); magnetic = div binary64 (neg (float-of 1)) g² }
 
 -- Z2: (3 g²)/8 and -0.5/g²
 unfoldable pub su2-params : Float → KSParams
-su2-params g² = record { «g_squared» = g²; electric = div binary64 (mul binary64 (whole 3) g²) (whole 8); magnetic = div binary64 (neg (div binary64 (whole 1) (whole 2))) g² }
+su2-params g² = record { «g_squared» = g²; electric = div binary64 (mul binary64 (float-of 3) g²) (float-of 8); magnetic = div binary64 (neg (div binary64 (float-of 1) (float-of 2))) g² }
 
 -- what an answer says
 unfoldable pub couplingAnswer : Coupling → Outcome KSParams

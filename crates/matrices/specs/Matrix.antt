@@ -9,16 +9,16 @@ use lib.ListN.{getD, length, set}
 use Rattle.mathematics.specs.Counting.{below}
 
 -- all entries f i j of n rows and columns
-unfoldable pub rows : (ℕ → ℕ → Float) → ℕ → List Float
-rows f n = flatten (map (λ i. map (λ j. f i j) (below n)) (below n))
+unfoldable pub matrix-rows : (ℕ → ℕ → Float) → ℕ → List Float
+matrix-rows f n = flatten (map (λ i. map (λ j. f i j) (below n)) (below n))
 
+-- ---- as the code keeps it
 -- the list begins with them, and keeps what stood after them
 pub record Matrix (f : ℕ → ℕ → Float) (n : ℕ) (old new : List Float) : Type 0 where
   pub long : length new ≡ length old
   pub entries : (i j : ℕ) → i < n → j < n → getD new (i * n + j) nan ≡ f i j
   pub beyond : (k : ℕ) → n * n ≤ k → getD new k nan ≡ getD old k nan
 
--- ---- as the code keeps it
 -- a list with x added to entry (i, j) of the matrix of n columns at its beginning
 abbrev pub with-added : ℕ → ℕ → ℕ → Float → List Float → List Float
 with-added n i j x h = set h (i * n + j) (add binary64 (getD h (i * n + j) nan) x)

@@ -5,17 +5,17 @@ use mathlib.Core.Bool.{Bool, not, _&&_, _||_, cond}
 use lib.Dec.{eqb}
 use lib.Ieee.{Float, nan, neg, le}
 use lib.ListN.{getD, length}
-use Rattle.mathematics.specs.Tests.{all}
-use Rattle.matrices.specs.Coupling.{whole}
+use Rattle.mathematics.specs.Tests.{every-entry}
+use Rattle.matrices.specs.Coupling.{float-of}
 
 -- from -2^32 to 2^32; nothing that is not a number passes
 unfoldable pub bounded : Float → Bool
-bounded x = le (neg (whole (2 ^ 32))) x && le x (whole (2 ^ 32))
+bounded x = le (neg (float-of (2 ^ 32))) x && le x (float-of (2 ^ 32))
 
 -- the weight of triangle t, 1 where no weights are given
 unfoldable pub weight : Bool → List Float → ℕ → Float
-weight given weights t = cond given (getD weights t nan) (whole 1)
+weight given weights t = cond given (getD weights t nan) (float-of 1)
 
 -- 12 where weights are given and are not one for each of n triangles, 14 where the coupling is not right or a given weight is out of its range
 unfoldable pub weights-tests : ℕ → Bool → Bool → List Float → List (ℕ × Bool)
-weights-tests n right given weights = (12, given && not (eqb (length weights) n)) ∷ (14, not right || given && not (all bounded weights)) ∷ []
+weights-tests n coupling-ok given weights = (12, given && not (eqb (length weights) n)) ∷ (14, not coupling-ok || (given && not (every-entry bounded weights))) ∷ []

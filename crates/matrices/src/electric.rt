@@ -2,10 +2,8 @@
 ghost use mathlib.Core.Path.{_≡_};
 ghost use Prim.Native.Nat.{ℕ, _*_, _^_, _<_, _≤_};
 ghost use lib.IntN.{pos, natAbs};
-ghost use lib.Ieee.{binary64, mul};
 ghost use lib.ListN.{getD, length};
-ghost use Rattle.matrices.specs.Coupling.{whole};
-ghost use Rattle.matrices.specs.Squares.{squares};
+ghost use Rattle.matrices.specs.Squares.{squares, energy};
 
 fn square(x: i32) -> usize
     requires { ⌜ natAbs x ≤ 1000 ⌝ }
@@ -29,7 +27,7 @@ pub fn squares(state: &[i32]) -> usize
 // A factor times a whole number.
 pub fn energy(factor: f64, count: usize) -> f64
     requires { ⌜ count ≤ 2 ^ 53 ⌝ }
-    ensures { λ r. ⌜ r ≡ mul binary64 factor (whole count) ⌝ }
+    ensures { λ r. ⌜ r ≡ energy factor count ⌝ }
 {
     factor * (count as f64)
 }

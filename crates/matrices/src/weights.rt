@@ -3,7 +3,7 @@ ghost use mathlib.Core.Path.{_≡_};
 ghost use mathlib.Core.Bool.{true};
 ghost use Prim.Native.Nat.{_<_};
 ghost use lib.ListN.{length};
-ghost use Rattle.mathematics.specs.Tests.{all};
+ghost use Rattle.mathematics.specs.Tests.{every-entry};
 ghost use Rattle.mathematics.specs.Refusals.{first};
 ghost use Rattle.matrices.specs.Weights.{bounded, weight, weights-tests};
 
@@ -15,7 +15,7 @@ fn bounded(x: f64) -> bool
 }
 
 fn all_bounded(list: &[f64]) -> bool
-    ensures { λ r. ⌜ r ≡ all bounded (now (list .entry)) ⌝ }
+    ensures { λ r. ⌜ r ≡ every-entry bounded (now (list .entry)) ⌝ }
 {
     let mut so_far = true;
     for i in 0..list.len() {

@@ -9,7 +9,7 @@ use lib.ListN.{getD, length, take, length-map}
 use lib.Seq.{getD-take}
 use lib.Dec.{eqb, ltb}
 use Rattle.mathematics.specs.Lists.{same, listed, notedAll, firsts, choose}
-use Rattle.mathematics.specs.Tests.{all}
+use Rattle.mathematics.specs.Tests.{every-entry}
 use Rattle.mathematics.proofs.Tests.{and-parts, all-at, at-all, all-weaker}
 use Rattle.mathematics.proofs.Maps.{map-at, map-back}
 use Rattle.mathematics.proofs.Lists.{numbers-equal, lists-equal, notedAll-append, firsts-map}
@@ -49,8 +49,8 @@ module _ (n a b c d e : ℕ) (h : rising n (a ∷ b ∷ c ∷ d ∷ e ∷ []) �
       let s = and-parts (ltb d e) (ltb e n) (r .1) in
       (ltb-true a b (p .0), ltb-true b c (q .0), ltb-true c d (r .0), ltb-true d e (s .0), ltb-true e n (s .1))
 
-  pairs-five : all (pair n) (choose 2 (a ∷ b ∷ c ∷ d ∷ e ∷ [])) ≡ true
-  unfolding pair rising all choose
+  pairs-five : every-entry (pair n) (choose 2 (a ∷ b ∷ c ∷ d ∷ e ∷ [])) ≡ true
+  unfolding pair rising every-entry choose
   pairs-five =
       let s = steps in
       let ab = s .0 in
@@ -60,8 +60,8 @@ module _ (n a b c d e : ℕ) (h : rising n (a ∷ b ∷ c ∷ d ∷ e ∷ []) �
       let en = s .4 in
       rw (lt-ltb a b ab, lt-ltb a c (omega arith), lt-ltb a d (omega arith), lt-ltb a e (omega arith), lt-ltb b c bc, lt-ltb b d (omega arith), lt-ltb b e (omega arith), lt-ltb c d cd, lt-ltb c e (omega arith), lt-ltb d e de, lt-ltb b n (omega arith), lt-ltb c n (omega arith), lt-ltb d n (omega arith), lt-ltb e n en)
 
-  triples-five : (es : List Simplex) → all (λ q. listed same q es) (choose 2 (a ∷ b ∷ c ∷ d ∷ e ∷ [])) ≡ true → all (fitting n es) (choose 3 (a ∷ b ∷ c ∷ d ∷ e ∷ [])) ≡ true
-  unfolding fitting rising sides-listed all choose
+  triples-five : (es : List Simplex) → every-entry (λ q. listed same q es) (choose 2 (a ∷ b ∷ c ∷ d ∷ e ∷ [])) ≡ true → every-entry (fitting n es) (choose 3 (a ∷ b ∷ c ∷ d ∷ e ∷ [])) ≡ true
+  unfolding fitting rising sides-listed every-entry choose
   triples-five es k =
       let s = steps in
       let ab = s .0 in
@@ -76,10 +76,10 @@ module _ (n : ℕ) (s : Simplex) (long : length s ≡ 5) (h : rising n s ≡ tru
   rises : rising n (getD s 0 0 ∷ getD s 1 0 ∷ getD s 2 0 ∷ getD s 3 0 ∷ getD s 4 0 ∷ []) ≡ true
   rises = rw (five-vertices s long) at h
 
-  pub pairs-rise : all (pair n) (choose 2 s) ≡ true
+  pub pairs-rise : every-entry (pair n) (choose 2 s) ≡ true
   pairs-rise = rw (five-vertices s long) (pairs-five n _ _ _ _ _ rises)
 
-  pub triples-fit : (es : List Simplex) → all (λ q. listed same q es) (choose 2 s) ≡ true → all (fitting n es) (choose 3 s) ≡ true
+  pub triples-fit : (es : List Simplex) → every-entry (λ q. listed same q es) (choose 2 s) ≡ true → every-entry (fitting n es) (choose 3 s) ≡ true
   triples-fit es k = rw (five-vertices s long) (triples-five n _ _ _ _ _ rises es (rw (five-vertices s long) at k))
 
 -- an edge below 64 has a key, and the key gives it back
@@ -105,7 +105,7 @@ edge-back s h =
     rw (a, b) (sym (two s (eqb-true (length s) 2 (p .0))))
 
 -- the keys of small edges are below 4096
-pub edge-keys-below : (l : List Simplex) → all small-pair l ≡ true → (i : ℕ) → i < length (map key l) → getD (map key l) i 0 < 4096
+pub edge-keys-below : (l : List Simplex) → every-entry small-pair l ≡ true → (i : ℕ) → i < length (map key l) → getD (map key l) i 0 < 4096
 unfolding key small-pair
 edge-keys-below l h i il =
     let inside : i < length l = omega (arith, length-map l key) in
@@ -137,7 +137,7 @@ pub right-rises : (n : ℕ) (l : List ℕ) → pentachora-right n l ≡ true →
 unfolding pentachora-right pentachoron-right pentachora
 right-rises n l h p pl =
     let ps = simplices 5 l (length l / 5) in
-    let all-right = and-parts (eqb (length l % 5) 0) (all (pentachoron-right n) ps) h .1 in
+    let all-right = and-parts (eqb (length l % 5) 0) (every-entry (pentachoron-right n) ps) h .1 in
     let here : p < length ps = omega (arith, simplices-length 5 l (length l / 5)) in
     let one : pentachoron-right n (entries l (5 * p) 5) ≡ true = rw (simplex-at 5 l (length l / 5) p pl) at (all-at (pentachoron-right n) [] ps all-right p here) in
     let parts = and-parts _ _ one in
@@ -148,33 +148,33 @@ module _ (n : ℕ) (l : List ℕ) (h : Rises n l) where
   five-long p = sorted-length (entries l (5 * p) 5) ∙ entries-length l (5 * p) 5
 
   -- a test of the faces of each pentachoron
-  each : (k : ℕ) (t : Simplex → Bool) → ((p : ℕ) → p < length l / 5 → all t (choose k (sorted (entries l (5 * p) 5))) ≡ true) → all t (all-faces k (pentachora l)) ≡ true
+  each : (k : ℕ) (t : Simplex → Bool) → ((p : ℕ) → p < length l / 5 → every-entry t (choose k (sorted (entries l (5 * p) 5))) ≡ true) → every-entry t (all-faces k (pentachora l)) ≡ true
   unfolding all-faces pentachora
   each k t g =
       let ps = simplices 5 l (length l / 5) in
       all-flatMap (λ q. choose k (sorted q)) t ps
-      ∙ at-all (λ q. all t (choose k (sorted q))) [] ps
+      ∙ at-all (λ q. every-entry t (choose k (sorted q))) [] ps
       (λ p pl.
       let here : p < length l / 5 = omega (arith, simplices-length 5 l (length l / 5)) in
       rw (simplex-at 5 l (length l / 5) p here) (g p here))
 
-  one : (k : ℕ) (t : Simplex → Bool) → all t (all-faces k (pentachora l)) ≡ true → (p : ℕ) → p < length l / 5 → all t (choose k (sorted (entries l (5 * p) 5))) ≡ true
+  one : (k : ℕ) (t : Simplex → Bool) → every-entry t (all-faces k (pentachora l)) ≡ true → (p : ℕ) → p < length l / 5 → every-entry t (choose k (sorted (entries l (5 * p) 5))) ≡ true
   unfolding all-faces pentachora
   one k t g p pl =
       let ps = simplices 5 l (length l / 5) in
       let here : p < length ps = omega (arith, simplices-length 5 l (length l / 5)) in
-      let each-one : all (λ q. all t (choose k (sorted q))) ps ≡ true = sym (all-flatMap (λ q. choose k (sorted q)) t ps) ∙ g in
-      rw (simplex-at 5 l (length l / 5) p pl) at (all-at (λ q. all t (choose k (sorted q))) [] ps each-one p here)
+      let each-one : every-entry (λ q. every-entry t (choose k (sorted q))) ps ≡ true = sym (all-flatMap (λ q. choose k (sorted q)) t ps) ∙ g in
+      rw (simplex-at 5 l (length l / 5) p pl) at (all-at (λ q. every-entry t (choose k (sorted q))) [] ps each-one p here)
 
-  all-pairs : all (pair n) (all-faces 2 (pentachora l)) ≡ true
+  all-pairs : every-entry (pair n) (all-faces 2 (pentachora l)) ≡ true
   all-pairs = each 2 (pair n) (λ p pl. pairs-rise n (sorted (entries l (5 * p) 5)) (five-long p) (h p pl))
 
-  pub faces-pairs : all (pair n) (faces 2 l) ≡ true
+  pub faces-pairs : every-entry (pair n) (faces 2 l) ≡ true
   unfolding faces all-faces
   faces-pairs = firsts-pass same lists-equal (pair n) (all-faces 2 (pentachora l)) all-pairs
 
   -- every edge of a triangle is an edge of the pentachoron
-  all-fit : all (fitting n (faces 2 l)) (all-faces 3 (pentachora l)) ≡ true
+  all-fit : every-entry (fitting n (faces 2 l)) (all-faces 3 (pentachora l)) ≡ true
   unfolding faces all-faces
   all-fit =
       each 3 (fitting n (faces 2 l))
@@ -182,13 +182,13 @@ module _ (n : ℕ) (l : List ℕ) (h : Rises n l) where
       triples-fit n (sorted (entries l (5 * p) 5)) (five-long p) (h p pl) (faces 2 l)
       (one 2 (λ q. listed same q (faces 2 l)) (firsts-have same lists-equal [] (all-faces 2 (pentachora l))) p pl))
 
-  pub faces-fit : all (fitting n (faces 2 l)) (faces 3 l) ≡ true
+  pub faces-fit : every-entry (fitting n (faces 2 l)) (faces 3 l) ≡ true
   unfolding faces all-faces
   faces-fit = firsts-pass same lists-equal (fitting n (faces 2 l)) (all-faces 3 (pentachora l)) all-fit
 
   -- what the numbering of all edges' keys says
   module _ (few : n ≤ 64) where
-    faces-small : all small-pair (faces 2 l) ≡ true
+    faces-small : every-entry small-pair (faces 2 l) ≡ true
     faces-small = all-weaker (pair n) small-pair (pair-small n few) (faces 2 l) faces-pairs
 
     edge-keys-are : firsts eqb (map key (all-faces 2 (pentachora l))) ≡ map key (faces 2 l)

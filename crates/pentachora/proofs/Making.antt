@@ -13,7 +13,7 @@ use Rattle.mathematics.proofs.Lists.{lists-equal, notedAll-distinct}
 use Rattle.complex.specs.Complex.{Simplex}
 use Rattle.complex.specs.Search.{connected}
 use Rattle.complex.specs.Judge.{counts-right, rising, sides-listed, simplices-right, triangles-right, refusal}
-use Rattle.pentachora.specs.Pentachora.{pentachora-right, faces, complexFrom, refusal-from}
+use Rattle.pentachora.specs.Pentachora.{pentachora-right, faces, complexFrom, pentachora-refusal}
 use Rattle.complex.proofs.Accepting.{pass}
 use Rattle.complex.proofs.Triangles.{fitting}
 use Rattle.pentachora.proofs.Appearing.{right-rises, faces-fit}
@@ -31,8 +31,8 @@ faces-once : (k : ℕ) (l : List ℕ) → distinct same (faces k l) ≡ true
 unfolding faces firsts distinct
 faces-once k l = notedAll-distinct same lists-equal [] _ refl
 
-pub from-accepted : (n : ℕ) (l : List ℕ) (edge-room triangle-room : ℕ) → refusal-from n l edge-room triangle-room ≡ 0 → refusal (complexFrom n l) ≡ 0
-unfolding refusal-from first complexFrom simplices-right triangles-right fitting
+pub from-accepted : (n : ℕ) (l : List ℕ) (edge-room triangle-room : ℕ) → pentachora-refusal n l edge-room triangle-room ≡ 0 → refusal (complexFrom n l) ≡ 0
+unfolding pentachora-refusal first complexFrom simplices-right triangles-right fitting
 from-accepted n l edge-room triangle-room h =
     let es = faces 2 l in
     let ts = faces 3 l in

@@ -7,7 +7,7 @@ use native.Mathlib.Omega.{arith}
 use borrow.Author.Tests.{eqb-true, le-leb, lt-leb, leb-true, ltb-false}
 use lib.ListN.{getD, length, take}
 use lib.Dec.{eqb, leb, ltb}
-use Rattle.mathematics.specs.Tests.{all}
+use Rattle.mathematics.specs.Tests.{every-entry}
 use Rattle.mathematics.specs.Refusals.{first}
 use Rattle.mathematics.proofs.Tests.{and-parts, or-fell, all-at, all-weaker}
 use Rattle.mathematics.specs.Lists.{firsts, choose}
@@ -15,7 +15,7 @@ use Rattle.complex.specs.Complex.{entries}
 use Rattle.complex.specs.Search.{connected, Ends}
 use Rattle.complex.specs.Judge.{counts-right, rising}
 use Rattle.complex.specs.Numbering.{Numbered, key, EdgeTable, triangle-key, Keyed}
-use Rattle.pentachora.specs.Pentachora.{pentachora, pentachora-right, sorted, faces, refusal-from}
+use Rattle.pentachora.specs.Pentachora.{pentachora, pentachora-right, sorted, faces, pentachora-refusal}
 use Rattle.pentachora.specs.Faces.{all-faces, edge-of, JudgedFaces}
 use Rattle.pentachora.specs.declared.Faces.{Faces}
 use Rattle.complex.proofs.Accepting.{rising-ends}
@@ -25,37 +25,37 @@ pub vertices-right : (n : ℕ) → (leb 1 n && leb n 64) ≡ true → (1 ≤ n) 
 vertices-right n h = let p = and-parts (leb 1 n) (leb n 64) h in (leb-true 1 n (p .0), leb-true n 64 (p .1))
 
 module _ (n : ℕ) (l : List ℕ) (edge-room triangle-room : ℕ) where
-  pub vertices-wrong : (leb 1 n && leb n 64) ≡ false → refusal-from n l edge-room triangle-room ≡ 4
-  unfolding refusal-from first
+  pub vertices-wrong : (leb 1 n && leb n 64) ≡ false → pentachora-refusal n l edge-room triangle-room ≡ 4
+  unfolding pentachora-refusal first
   vertices-wrong h = rw h
 
   module _ (some : 1 ≤ n) (few : n ≤ 64) where
-    pub pentachora-wrong : pentachora-right n l ≡ false → refusal-from n l edge-room triangle-room ≡ 11
-    unfolding refusal-from first
+    pub pentachora-wrong : pentachora-right n l ≡ false → pentachora-refusal n l edge-room triangle-room ≡ 11
+    unfolding pentachora-refusal first
     pentachora-wrong h = rw (le-leb 1 n some, le-leb n 64 few, h)
 
     module _ (right : pentachora-right n l ≡ true) where
-      pub edges-over : 63 < length (faces 2 l) → refusal-from n l edge-room triangle-room ≡ 4
-      unfolding refusal-from first counts-right
+      pub edges-over : 63 < length (faces 2 l) → pentachora-refusal n l edge-room triangle-room ≡ 4
+      unfolding pentachora-refusal first counts-right
       edges-over h = rw (le-leb 1 n some, le-leb n 64 few, right, lt-leb (length (faces 2 l)) 63 h)
 
       module _ (edges-few : length (faces 2 l) ≤ 63) where
-        pub triangles-over : 256 < length (faces 3 l) → refusal-from n l edge-room triangle-room ≡ 4
-        unfolding refusal-from first counts-right
+        pub triangles-over : 256 < length (faces 3 l) → pentachora-refusal n l edge-room triangle-room ≡ 4
+        unfolding pentachora-refusal first counts-right
         triangles-over h = rw (le-leb 1 n some, le-leb n 64 few, right, le-leb (length (faces 2 l)) 63 edges-few, lt-leb (length (faces 3 l)) 256 h)
 
         module _ (triangles-few : length (faces 3 l) ≤ 256) where
-          pub not-connected : connected (faces 2 l) n ≡ false → refusal-from n l edge-room triangle-room ≡ 9
-          unfolding refusal-from first counts-right
+          pub not-connected : connected (faces 2 l) n ≡ false → pentachora-refusal n l edge-room triangle-room ≡ 9
+          unfolding pentachora-refusal first counts-right
           not-connected h = rw (le-leb 1 n some, le-leb n 64 few, right, le-leb (length (faces 2 l)) 63 edges-few, le-leb (length (faces 3 l)) 256 triangles-few, h)
 
           module _ (joined : connected (faces 2 l) n ≡ true) where
-            pub no-room : (ltb edge-room (2 * length (faces 2 l)) || ltb triangle-room (3 * length (faces 3 l))) ≡ true → refusal-from n l edge-room triangle-room ≡ 15
-            unfolding refusal-from first counts-right
+            pub no-room : (ltb edge-room (2 * length (faces 2 l)) || ltb triangle-room (3 * length (faces 3 l))) ≡ true → pentachora-refusal n l edge-room triangle-room ≡ 15
+            unfolding pentachora-refusal first counts-right
             no-room h = rw (le-leb 1 n some, le-leb n 64 few, right, le-leb (length (faces 2 l)) 63 edges-few, le-leb (length (faces 3 l)) 256 triangles-few, joined, h)
 
-            pub not-refused : (ltb edge-room (2 * length (faces 2 l)) || ltb triangle-room (3 * length (faces 3 l))) ≡ false → refusal-from n l edge-room triangle-room ≡ 0
-            unfolding refusal-from first counts-right
+            pub not-refused : (ltb edge-room (2 * length (faces 2 l)) || ltb triangle-room (3 * length (faces 3 l))) ≡ false → pentachora-refusal n l edge-room triangle-room ≡ 0
+            unfolding pentachora-refusal first counts-right
             not-refused h = rw (le-leb 1 n some, le-leb n 64 few, right, le-leb (length (faces 2 l)) 63 edges-few, le-leb (length (faces 3 l)) 256 triangles-few, joined, h)
 
 -- the edges can be searched
@@ -66,7 +66,7 @@ module _ (n : ℕ) (l : List ℕ) (h : Rises n l) where
       let s = getD (faces 2 l) i [] in
       eqb-true (length s) 2 (and-parts (eqb (length s) 2) (rising n s) (all-at (pair n) [] (faces 2 l) (faces-pairs n l h) i il) .0)
 
-  pub edges-rising : all (rising n) (faces 2 l) ≡ true
+  pub edges-rising : every-entry (rising n) (faces 2 l) ≡ true
   unfolding pair
   edges-rising = all-weaker (pair n) (rising n) (λ s p. and-parts (eqb (length s) 2) (rising n s) p .1) (faces 2 l) (faces-pairs n l h)
 
@@ -74,7 +74,7 @@ module _ (n : ℕ) (l : List ℕ) (h : Rises n l) where
   edges-ends = rising-ends n (faces 2 l) edges-sized edges-rising
 
 -- what is refused is judged by its number alone
-pub judged-refused : (n : ℕ) (l : List ℕ) (edge-room triangle-room : ℕ) (f : Faces) (number : ℕ) → f .refusal ≡ suc number → refusal-from n l edge-room triangle-room ≡ suc number → JudgedFaces n l edge-room triangle-room f
+pub judged-refused : (n : ℕ) (l : List ℕ) (edge-room triangle-room : ℕ) (f : Faces) (number : ℕ) → f .refusal ≡ suc number → pentachora-refusal n l edge-room triangle-room ≡ suc number → JudgedFaces n l edge-room triangle-room f
 judged-refused n l edge-room triangle-room f number p q = record { refusal = p ∙ sym q; found = λ (z : f .refusal ≡ 0). absurd (omega arith) }
 
 -- the tests that follow one another as the faces are numbered

@@ -1,15 +1,12 @@
--- The faces of pentachora as the code keeps and writes them, and what from_pentachorons answers.
-use Prim.Native.Nat.{ℕ, _+_, _*_, _/_, _%_, _≤_}
-use mathlib.Core.List.{List, [], _∷_, _++_, map, flatMap, flatten}
+-- The faces of pentachora as the code keeps and writes them.
+use Prim.Native.Nat.{ℕ, _*_, _/_, _%_, _≤_}
+use mathlib.Core.List.{List, [], _∷_, _++_, map, flatMap}
 use mathlib.Core.Path.{_≡_}
-use lib.ListN.{getD, length, take, drop}
+use lib.ListN.{getD, length, take}
 use Rattle.mathematics.specs.Lists.{choose}
 use Rattle.complex.specs.Complex.{Simplex}
-use Rattle.pentachora.specs.Pentachora.{sorted, faces, refusal-from}
-use Rattle.mathematics.specs.Refusals.{Outcome, value, refused, outcome, written}
+use Rattle.pentachora.specs.Pentachora.{sorted, faces, pentachora-refusal}
 use Rattle.pentachora.specs.declared.Faces.{Faces}
-use Rattle.pentachora.specs.declared.FromPentachorons.{FromPentachorons}
-use Rattle.pentachora.specs.declared.FromPentachorons.the-variants.{Counts, Refused}
 
 -- the faces of k vertices of some pentachora, each pentachoron's in dictionary order
 unfoldable pub all-faces : ℕ → List Simplex → List Simplex
@@ -37,16 +34,5 @@ pub record Found (l : List ℕ) (edge-room triangle-room : ℕ) (f : Faces) : Ty
   pub triangles-fit : 3 * f .«n_triangles» ≤ triangle-room
 
 pub record JudgedFaces (n : ℕ) (l : List ℕ) (edge-room triangle-room : ℕ) (f : Faces) : Type 0 where
-  pub refusal : f .refusal ≡ refusal-from n l edge-room triangle-room
+  pub refusal : f .refusal ≡ pentachora-refusal n l edge-room triangle-room
   pub found : f .refusal ≡ 0 → Found l edge-room triangle-room f
-
--- what the entry answers
-unfoldable pub outcomeOf : FromPentachorons → Outcome (ℕ × ℕ)
-outcomeOf (Counts e t) = value (e, t)
-outcomeOf (Refused k) = refused k
-
--- from_pentachorons, in full: its answer, and what the two lent lists hold at the end
-pub record FacesTold (n : ℕ) (l edges₀ triangles₀ : List ℕ) (r : FromPentachorons) (edges₁ triangles₁ : List ℕ) : Type 0 where
-  pub answer : outcomeOf r ≡ outcome (refusal-from n l (length edges₀) (length triangles₀)) (length (faces 2 l), length (faces 3 l))
-  pub edges : edges₁ ≡ written (refusal-from n l (length edges₀) (length triangles₀)) (flatten (faces 2 l) ++ drop (2 * length (faces 2 l)) edges₀) edges₀
-  pub triangles : triangles₁ ≡ written (refusal-from n l (length edges₀) (length triangles₀)) (flatten (faces 3 l) ++ drop (3 * length (faces 3 l)) triangles₀) triangles₀

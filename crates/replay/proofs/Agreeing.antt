@@ -1,21 +1,25 @@
--- The edges of a triangle, held against three bytes of the list.
-use Prim.Native.Nat.{ℕ, _+_}
-use mathlib.Core.List.{List}
-use mathlib.Core.Path.{_≡_, refl}
+-- The edges of triangles, held against the bytes of the list.
+use Prim.Native.Nat.{ℕ, zero, suc, _+_, _*_, _<_}
+use mathlib.Core.List.{List, [], _∷_, _++_}
+use mathlib.Core.Path.{_≡_, refl, _∙_}
 use mathlib.Core.Bool.{Bool, true, false, _&&_}
 use native.Mathlib.Omega.{arith}
 use native.Mathlib.Numerals.{add-one}
-use lib.ListN.{getD}
-use lib.Dec.{eqb}
+use borrow.Author.Tests.{lt-leb}
+use lib.ListN.{getD, length}
+use lib.Dec.{eqb, leb}
 use Rattle.mathematics.specs.Lists.{same}
-use Rattle.mathematics.specs.Refusals.{Outcome}
+use Rattle.mathematics.specs.Refusals.{Outcome, first, outcome}
 use Rattle.mathematics.specs.Tests.{every}
 use Rattle.mathematics.proofs.Tests.{and-true}
-use Rattle.complex.specs.Complex.{entries}
-use Rattle.complex.specs.Sides.{sidesAnswer}
-use Rattle.complex.specs.declared.triangle.TriEdgeIndices.{TriEdgeIndices}
-use Rattle.complex.specs.declared.triangle.TriEdgeIndices.the-variants.{Indices, Refused}
-use Rattle.replay.specs.Cases.{agrees}
+use Rattle.complex.specs.Complex.{Complex, entries}
+use Rattle.complex.specs.Judge.{counts-test, shape-tests, refusal}
+use Rattle.complex.specs.Sides.{sides}
+use Rattle.complex.proofs.Refusing.{accepted-next}
+use Rattle.triangles.specs.Indices.{sidesAnswer, sides-refusal, sidesOutcome}
+use Rattle.triangles.specs.declared.TriEdgeIndices.{TriEdgeIndices}
+use Rattle.triangles.specs.declared.TriEdgeIndices.the-variants.{Indices, Refused}
+use Rattle.replay.specs.Comparing.{agrees}
 
 module _ (l : List ℕ) (at : ℕ) (r : TriEdgeIndices) (o : Outcome (List ℕ)) (answered : sidesAnswer r ≡ o) where
   pub numbers-agree : (i j k x y z : ℕ) → r ≡ Indices i j k → x ≡ getD l at 0 → y ≡ getD l (at + 1) 0 → z ≡ getD l (at + 2) 0 → (eqb i x && (eqb j y && eqb k z)) ≡ agrees o (entries l at 3)
@@ -35,3 +39,22 @@ every-next p n = rw (add-one n)
 pub every-none : (p : ℕ → Bool) → every p 0 ≡ true
 unfolding every
 every-none p = refl
+
+every-same : (p q : ℕ → Bool) (n : ℕ) → ((t : ℕ) → t < n → p t ≡ q t) → every p n ≡ every q n
+unfolding every
+every-same p q zero h = refl
+every-same p q (suc n) h = rw (every-same p q n (λ t l. h t (omega arith)), h n (omega arith))
+
+-- of an accepted complex the answers are the edges of its triangles
+module _ (c : Complex) (accepted : refusal c ≡ 0) where
+  answer-agrees : (t : ℕ) → t < length (c .triangles) → (l : List ℕ) → agrees (sidesOutcome c t) l ≡ same (sides c t) l
+  unfolding agrees sidesOutcome sides-refusal outcome first
+  answer-agrees t tl l =
+      let none : first ((counts-test c ∷ shape-tests c) ++ ((13, leb (length (c .triangles)) t) ∷ [])) ≡ 0 =
+      accepted-next c ((13, leb (length (c .triangles)) t) ∷ []) accepted ∙ rw (lt-leb (length (c .triangles)) t tl) in
+      rw none
+
+  pub answers-agree : (list : List ℕ) (at n : ℕ) → length (c .triangles) ≡ n → every (λ t. agrees (sidesOutcome c t) (entries list (at + 3 * t) 3)) n ≡ every (λ t. same (sides c t) (entries list (at + 3 * t) 3)) n
+  answers-agree list at n long =
+      every-same (λ t. agrees (sidesOutcome c t) (entries list (at + 3 * t) 3)) (λ t. same (sides c t) (entries list (at + 3 * t) 3)) n
+      (λ t tl. answer-agrees t (rw long tl) (entries list (at + 3 * t) 3))

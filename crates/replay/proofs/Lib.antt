@@ -1,2 +1,9 @@
 mod Agreeing
 mod Inside
+mod Padded
+mod Making
+mod Same
+mod Walking
+mod Texts
+mod Ending
+mod Examples

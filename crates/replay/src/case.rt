@@ -1,9 +1,9 @@
 // Where the fields of a case stand in the list of answers; oracle/README.md has the format.
-use complex::judge::byte;
+use complex::numbering::byte;
 ghost use mathlib.Core.Path.{_≡_};
-ghost use Prim.Native.Nat.{ℕ, _+_, _<_, _≤_};
+ghost use Prim.Native.Nat.{_+_, _<_, _≤_};
 ghost use lib.ListN.{length, getD};
-ghost use Rattle.replay.specs.Cases.{Laid, well-formed};
+ghost use Rattle.replay.specs.Cases.{caseWith, caseAt, well-formed};
 
 // Each list by its place and the number of its simplices; behind the triangles the numbers of their edges.
 pub struct Case {
@@ -20,7 +20,7 @@ pub struct Case {
 }
 
 // The byte at a place, 0 past the end.
-fn byte_at(list: &[u8], at: usize) -> usize
+pub fn byte_at(list: &[u8], at: usize) -> usize
     ensures { λ r. ⌜ (r ≡ getD (now (list .entry)) at 0) × (r < 256) ⌝ }
 {
     if at < list.len() {
@@ -29,8 +29,8 @@ fn byte_at(list: &[u8], at: usize) -> usize
     0
 }
 
-// The case whose pentachora are known.
-fn lists_behind(
+// The case whose kind and pentachora are known.
+fn case_with(
     list: &[u8],
     kind: usize,
     n_vertices: usize,
@@ -38,7 +38,7 @@ fn lists_behind(
     n_pentachora: usize,
 ) -> Case
     requires { ⌜ (pentachora ≤ length (now list) + 3) × («n_pentachora» < 256) ⌝ }
-    ensures { λ r. ⌜ (r .kind ≡ kind) × Laid pentachora r ⌝ }
+    ensures { λ r. ⌜ r ≡ caseWith (now (list .entry)) kind «n_vertices» pentachora «n_pentachora» ⌝ }
 {
     let counts = pentachora + 5 * n_pentachora;
     let n_edges = byte_at(list, counts);
@@ -64,14 +64,14 @@ fn lists_behind(
 // The case at a place.
 pub fn case_at(list: &[u8], at: usize) -> Case
     requires { ⌜ at ≤ length (now list) ⌝ }
-    ensures { λ r. ⌜ Laid at r ⌝ }
+    ensures { λ r. ⌜ (r ≡ caseAt (now (list .entry)) at) × (r .«n_pentachora» < 256) ⌝ }
 {
     let kind = byte_at(list, at);
     let n_vertices = byte_at(list, at + 1);
     if kind == 1 {
-        return lists_behind(list, kind, n_vertices, at + 3, byte_at(list, at + 2));
+        return case_with(list, kind, n_vertices, at + 3, byte_at(list, at + 2));
     }
-    lists_behind(list, kind, n_vertices, at + 2, 0)
+    case_with(list, kind, n_vertices, at + 2, 0)
 }
 
 // Whether there is such a kind, the counts are in their ranges and the case ends within the list.

@@ -1,23 +1,26 @@
 // The port's answers in a case, held against those of the list.
 use crate::case::Case;
+use acceptance::judge;
 use check::same;
 use complex::SimplicialComplex;
-use complex::judge::byte;
-use complex::judge::judge;
-use complex::triangle::TriEdgeIndices;
-use complex::triangle::tri_edge_indices;
+use complex::numbering::byte;
 use pentachora::FromPentachorons;
 use pentachora::from_pentachorons;
 use sheet::edges_in;
 use sheet::triangles_in;
+use triangles::TriEdgeIndices;
+use triangles::tri_edge_indices;
 ghost use mathlib.Core.Path.{_≡_};
-ghost use mathlib.Core.Bool.{true};
+ghost use mathlib.Core.Bool.{not, _||_};
 ghost use Prim.Native.Nat.{_+_, _*_, _≤_};
-ghost use lib.ListN.{length};
+ghost use lib.Dec.{eqb};
+ghost use lib.ListN.{length, take, drop};
 ghost use Rattle.mathematics.specs.Tests.{every};
 ghost use Rattle.complex.specs.Complex.{complexOf, entries};
-ghost use Rattle.complex.specs.Sides.{sidesOutcome};
-ghost use Rattle.replay.specs.Cases.{agrees, Whole, Agreed};
+ghost use Rattle.sheet.specs.Sheet.{padded};
+ghost use Rattle.triangles.specs.Indices.{sidesOutcome};
+ghost use Rattle.replay.specs.Cases.{agreed};
+ghost use Rattle.replay.specs.Comparing.{Whole, agrees, answers};
 
 fn sides_same(c: SimplicialComplex, triangle: usize, list: &[u8], at: usize) -> bool
     requires { ⌜ at + 3 ≤ length (now list) ⌝ }
@@ -45,13 +48,16 @@ fn all_sides_same(c: SimplicialComplex, list: &[u8], at: usize) -> bool
     so_far
 }
 
-fn wide(x: u8) -> u64 {
+fn wide(x: u8) -> u64
+    ensures { λ r. ⌜ r ≡ x ⌝ }
+{
     x as u64
 }
 
 // The vertices of pentachora, with zeros after them.
 fn pentachora_in(list: &[u8], start: usize, count: usize) -> [u64; 1275]
     requires { ⌜ (start + count ≤ length (now list)) × (count ≤ 1275) ⌝ }
+    ensures { λ r. ⌜ r ≡ padded 1275 (take count (drop start (now (list .entry)))) ⌝ }
 {
     let mut vertices = [0u64; 1275];
     for i in 0..count {
@@ -60,38 +66,52 @@ fn pentachora_in(list: &[u8], start: usize, count: usize) -> [u64; 1275]
     vertices
 }
 
-// The edges and triangles of pentachora.
-fn faces_same(c: SimplicialComplex, pentachora: &[u64]) -> bool {
-    let mut edges = [0u8; 126];
-    let mut triangles = [0u8; 768];
-    let answer = from_pentachorons(c.n_vertices, pentachora, &mut edges, &mut triangles);
+// Whether the edges and triangles of pentachora are answered, and are these.
+fn faces_same(n_vertices: usize, pentachora: &[u64], edges: &[u8], triangles: &[u8]) -> bool
+    ensures { λ r. ⌜ r ≡ answers «n_vertices» (now (pentachora .entry)) (now (edges .entry)) (now (triangles .entry)) ⌝ }
+{
+    let mut made_edges = [0u8; 126];
+    let mut made_triangles = [0u8; 768];
+    let answer = from_pentachorons(n_vertices, pentachora, &mut made_edges, &mut made_triangles);
     match answer {
         FromPentachorons::Counts {
             n_edges,
             n_triangles,
         } => {
-            let counts = (n_edges == c.n_edges) & (n_triangles == c.n_triangles);
-            counts & (same(&edges, &c.edges) & same(&triangles, &c.triangles))
+            let pairs = 2 * n_edges;
+            let triples = 3 * n_triangles;
+            same(&made_edges[..pairs], edges) & same(&made_triangles[..triples], triangles)
         }
         FromPentachorons::Refused(_) => false,
     }
 }
 
-fn made_same(c: SimplicialComplex, list: &[u8], case: Case) -> bool
+// In a case of kind 1 the faces of the pentachora are the recorded ones.
+fn made_same(list: &[u8], case: Case) -> bool
     requires { ⌜ Whole (length (now list)) case ⌝ }
+    ensures { λ r. ⌜ r ≡ (not (eqb (case .kind) 1) || answers (case .«n_vertices») (take (5 * case .«n_pentachora») (drop (case .pentachora) (now (list .entry)))) (take (2 * case .«n_edges») (drop (case .edges) (now (list .entry)))) (take (3 * case .«n_triangles») (drop (case .triangles) (now (list .entry))))) ⌝ }
 {
     if case.kind != 1 {
         return true;
     }
     let count = 5 * case.n_pentachora;
     let vertices = pentachora_in(list, case.pentachora, count);
-    faces_same(c, &vertices[..count])
+    let edges = case.edges;
+    let edges_end = edges + 2 * case.n_edges;
+    let triangles = case.triangles;
+    let triangles_end = triangles + 3 * case.n_triangles;
+    faces_same(
+        case.n_vertices,
+        &vertices[..count],
+        &list[edges..edges_end],
+        &list[triangles..triangles_end],
+    )
 }
 
 // The complex is accepted, and every answer is the recorded one.
 pub fn case_same(list: &[u8], case: Case) -> bool
     requires { ⌜ Whole (length (now list)) case ⌝ }
-    ensures { λ r. ⌜ (r ≡ true → Agreed (now (list .entry)) case) ⌝ }
+    ensures { λ r. ⌜ r ≡ agreed (now (list .entry)) case ⌝ }
 {
     let edges = edges_in(list, case.edges, 2 * case.n_edges);
     let triangles = triangles_in(list, case.triangles, 3 * case.n_triangles);
@@ -102,5 +122,5 @@ pub fn case_same(list: &[u8], case: Case) -> bool
         n_triangles: case.n_triangles,
         triangles,
     };
-    (judge(c) == 0) & (all_sides_same(c, list, case.sides) & made_same(c, list, case))
+    (judge(c) == 0) & (all_sides_same(c, list, case.sides) & made_same(list, case))
 }

@@ -1,10 +1,12 @@
 // The walk over the list of answers, case by case.
+use crate::case::byte_at;
 use crate::case::case_at;
 use crate::case::is_whole;
 use crate::compare::case_same;
+ghost use mathlib.Core.Path.{_≡_};
 ghost use Prim.Native.Nat.{_≤_};
 ghost use lib.ListN.{length};
-ghost use Rattle.replay.specs.Cases.{Told};
+ghost use Rattle.replay.specs.Cases.{caseAt, well-formed, ends, replayed};
 
 // How many cases there are and how many differ, or where a case or the end of the list is not what the format says.
 pub enum Replayed {
@@ -12,25 +14,38 @@ pub enum Replayed {
     Malformed(usize),
 }
 
+// Whether a whole case stands at a place.
+fn stands(list: &[u8], at: usize) -> bool
+    requires { ⌜ at ≤ length (now list) ⌝ }
+    ensures { λ r. ⌜ r ≡ well-formed (length (now (list .entry))) (caseAt (now (list .entry)) at) ⌝ }
+{
+    is_whole(list, case_at(list, at))
+}
+
+// Whether the byte 0 stands at a place, and nothing behind it.
+fn ends(list: &[u8], at: usize) -> bool
+    requires { ⌜ at ≤ length (now list) ⌝ }
+    ensures { λ r. ⌜ r ≡ ends (now (list .entry)) at ⌝ }
+{
+    (at + 1 == list.len()) & (byte_at(list, at) == 0)
+}
+
 pub fn replay(list: &[u8]) -> Replayed
-    ensures { λ r. ⌜ Told (length (now (list .entry))) r ⌝ }
+    ensures { λ r. ⌜ r ≡ replayed (now (list .entry)) ⌝ }
 {
     let mut at = 0;
     let mut cases = 0;
     let mut differ = 0;
-    while at < list.len() && list[at] != 0 {
+    while stands(list, at) {
         let case = case_at(list, at);
-        if !is_whole(list, case) {
-            return Replayed::Malformed(at);
-        }
         if !case_same(list, case) {
             differ += 1;
         }
         cases += 1;
         at = case.next;
     }
-    if at + 1 != list.len() {
-        return Replayed::Malformed(at);
+    if ends(list, at) {
+        return Replayed::Cases { cases, differ };
     }
-    Replayed::Cases { cases, differ }
+    Replayed::Malformed(at)
 }

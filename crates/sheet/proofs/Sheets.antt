@@ -9,7 +9,7 @@ use lib.ListN.{getD, length, take, drop, replicate, length-append}
 use lib.Seq.{paste, length-take-le, take-all, take-at, drop-append-add, drop-drop}
 use lib.Dec.{eqb, ltb}
 use Rattle.mathematics.specs.Lists.{same}
-use Rattle.mathematics.specs.Tests.{all}
+use Rattle.mathematics.specs.Tests.{every-entry}
 use Rattle.mathematics.specs.Refusals.{first, Outcome, value, refused, outcome, written}
 use Rattle.mathematics.proofs.Refusals.{numbered, first-stops, first-goes-on}
 use Rattle.complex.specs.declared.SimplicialComplex.{SimplicialComplex}
@@ -72,7 +72,7 @@ module _ (b : List ℕ) where
 
   -- after the header, the judge of the complex decides
   pub shape-decides : first (header-tests b) ≡ 0 → reading-refusal b ≡ refusal (complexOf (sheetIn b .complex))
-  unfolding reading-refusal refusal complexOf sheetIn first header-tests numbered all
+  unfolding reading-refusal refusal complexOf sheetIn first header-tests numbered every-entry
   shape-decides h =
       let c = sheetIn b .complex in
       let on : first (header-tests b ++ shape-tests (complexOf c)) ≡ first (shape-tests (complexOf c)) = first-goes-on (header-tests b) (shape-tests (complexOf c)) refl h in
@@ -158,7 +158,7 @@ module _ (s : Sheet) (before : List ℕ) where
 
   module _ (none : first (truncated-tests (complexOf (s .complex)) (s .lambda)) ≡ 0) where
     room-decides : writing-refusal (complexOf (s .complex)) (s .lambda) (length before) ≡ cond (ltb (length before) (length (sheetBytes (complexOf (s .complex)) (s .lambda)))) 15 0
-    unfolding writing-refusal first numbered all
+    unfolding writing-refusal first numbered every-entry
     room-decides =
         let c = complexOf (s .complex) in
         first-goes-on (truncated-tests c (s .lambda)) ((15, ltb (length before) (length (sheetBytes c (s .lambda)))) ∷ []) refl none

@@ -1,14 +1,14 @@
 -- A sheet's bytes from flat lists.
-use Prim.Native.Nat.{ℕ, zero, suc, _+_, _*_, _/_, _%_, _<_, _≤_}
+use Prim.Native.Nat.{ℕ, _/_, _%_}
 use mathlib.Core.List.{List, [], _∷_, _++_}
 use mathlib.Core.Bool.{Bool, not, _&&_}
 use mathlib.Core.Path.{_≡_}
-use lib.ListN.{length, drop}
+use lib.ListN.{length}
 use lib.Dec.{eqb, ltb}
 use Rattle.mathematics.specs.Writing.{front}
 use Rattle.mathematics.specs.Refusals.{first, outcome, written}
 use Rattle.complex.specs.Complex.{Complex, simplices}
-use Rattle.complex.specs.Judge.{counts-right, shape-tests}
+use Rattle.complex.specs.Judge.{counts-right, truncation-test, shape-tests}
 use Rattle.sheet.specs.declared.Written.{Written}
 use Rattle.sheet.specs.Sheet.{sheetBytes, writtenAnswer}
 
@@ -25,16 +25,18 @@ flatComplex n edges triangles =
 unfoldable pub size-tests : ℕ → List ℕ → List ℕ → ℕ → List (ℕ × Bool)
 size-tests n edges triangles lambda =
     (4, not (counts-right n (length edges / 2) (length triangles / 3)))
-    ∷ (5, ltb 1000 lambda)
+    ∷ truncation-test lambda
     ∷ (6, not (eqb (length edges % 2) 0 && eqb (length triangles % 3) 0))
     ∷ []
 
 -- the refusals of making in their order, or 0, for a lent list of a given length
+abbrev pub making-tests : ℕ → List ℕ → List ℕ → ℕ → ℕ → List (ℕ × Bool)
+making-tests n edges triangles lambda room =
+    size-tests n edges triangles lambda
+    ++ (shape-tests (flatComplex n edges triangles) ++ ((15, ltb room (length (sheetBytes (flatComplex n edges triangles) lambda))) ∷ []))
+
 unfoldable pub making-refusal : ℕ → List ℕ → List ℕ → ℕ → ℕ → ℕ
-making-refusal n edges triangles lambda room =
-    first
-    (size-tests n edges triangles lambda
-    ++ (shape-tests (flatComplex n edges triangles) ++ ((15, ltb room (length (sheetBytes (flatComplex n edges triangles) lambda))) ∷ [])))
+making-refusal n edges triangles lambda room = first (making-tests n edges triangles lambda room)
 
 -- what making a sheet answers, and what it leaves in the lent list
 pub record Made (n : ℕ) (edges triangles : List ℕ) (lambda : ℕ) (before : List ℕ) (r : Written) (after : List ℕ) : Type 0 where

@@ -9,9 +9,8 @@ use lib.Dec.{eqb, ltb}
 use Rattle.mathematics.specs.Writing.{front}
 use Rattle.mathematics.specs.Lists.{same}
 use Rattle.mathematics.specs.Refusals.{first, Outcome, value, refused, outcome, written}
-use Rattle.complex.specs.declared.SimplicialComplex.{SimplicialComplex}
 use Rattle.complex.specs.Complex.{Complex, complexOf}
-use Rattle.complex.specs.Judge.{counts-right, shape-tests, truncated-tests}
+use Rattle.complex.specs.Judge.{counts-right, truncation-test, shape-tests, truncated-tests}
 use Rattle.sheet.specs.declared.Sheet.{Sheet}
 use Rattle.sheet.specs.declared.SheetRead.{SheetRead}
 use Rattle.sheet.specs.declared.Reading.{Reading}
@@ -56,14 +55,18 @@ header-tests b =
     ∷ (2, not (same (take 3 b) (71 ∷ 76 ∷ 83 ∷ [])))
     ∷ (3, not (eqb (word b 3) 1))
     ∷ (4, not (counts-right (getD b 5 0) (getD b 6 0) (word b 7)))
-    ∷ (5, ltb 1000 (word b 9))
+    ∷ truncation-test (word b 9)
     ∷ (6, not (eqb (length b) (11 + 2 * getD b 6 0 + 3 * word b 7)))
     ∷ []
 
--- the refusals of reading in their order, or 0
-unfoldable pub reading-refusal : List ℕ → ℕ
-reading-refusal b = first (header-tests b ++ shape-tests (complexOf (sheetIn b .complex)))
+-- what is judged in reading, and the first of it that holds, or 0
+abbrev pub reading-tests : List ℕ → List (ℕ × Bool)
+reading-tests b = header-tests b ++ shape-tests (complexOf (sheetIn b .complex))
 
+unfoldable pub reading-refusal : List ℕ → ℕ
+reading-refusal b = first (reading-tests b)
+
+-- the answer of a refusal, 0 for none
 unfoldable pub readAnswer : ℕ → Reading
 readAnswer zero = Accepted
 readAnswer (suc n) = Refused (suc n)
@@ -71,10 +74,6 @@ readAnswer (suc n) = Refused (suc n)
 -- what reading gives: the answer, and the sheet, or zeros beside a refusal
 unfoldable pub readOf : List ℕ → SheetRead
 readOf b = record { answer = readAnswer (reading-refusal b); sheet = written (reading-refusal b) (sheetIn b) blank }
-
--- a refusal, with zeros beside it
-unfoldable pub refusedOf : ℕ → SheetRead
-refusedOf n = record { answer = Refused n; sheet = blank }
 
 -- the first eleven bytes
 unfoldable pub headerOf : ℕ → ℕ → ℕ → ℕ → List ℕ
@@ -85,8 +84,12 @@ unfoldable pub sheetBytes : Complex → ℕ → List ℕ
 sheetBytes c lambda = headerOf (c .vertices) (length (c .edges)) (length (c .triangles)) lambda ++ (flatten (c .edges) ++ flatten (c .triangles))
 
 -- the refusals of writing in their order, or 0, for a lent list of a given length
+abbrev pub writing-tests : Complex → ℕ → ℕ → List (ℕ × Bool)
+writing-tests c lambda room =
+    truncated-tests c lambda ++ ((15, ltb room (length (sheetBytes c lambda))) ∷ [])
+
 unfoldable pub writing-refusal : Complex → ℕ → ℕ → ℕ
-writing-refusal c lambda room = first (truncated-tests c lambda ++ ((15, ltb room (length (sheetBytes c lambda))) ∷ []))
+writing-refusal c lambda room = first (writing-tests c lambda room)
 
 -- what an answer says
 unfoldable pub writtenAnswer : Written → Outcome ℕ
@@ -97,6 +100,11 @@ writtenAnswer (NotWritten n) = refused n
 pub record WrittenOf (s : Sheet) (before : List ℕ) (r : Written) (after : List ℕ) : Type 0 where
   pub answer : writtenAnswer r ≡ outcome (writing-refusal (complexOf (s .complex)) (s .lambda) (length before)) (length (sheetBytes (complexOf (s .complex)) (s .lambda)))
   pub bytes : after ≡ written (writing-refusal (complexOf (s .complex)) (s .lambda) (length before)) (front (sheetBytes (complexOf (s .complex)) (s .lambda)) before) before
+
+-- ---- as the code keeps it
+-- a refusal, with zeros beside it
+unfoldable pub refusedOf : ℕ → SheetRead
+refusedOf n = record { answer = Refused n; sheet = blank }
 
 -- what the writer of the bytes asks: counts in their ranges, and room
 pub record Writable (s : Sheet) (out : List ℕ) : Type 0 where

@@ -1,17 +1,17 @@
 // The sheet file: a complex and its truncation, as bytes.
+use acceptance::counts_right;
+use acceptance::judge;
+use acceptance::judge_truncated;
 use complex::SimplicialComplex;
-use complex::judge::byte;
-use complex::judge::counts_right;
-use complex::judge::judge;
-use complex::judge::judge_truncated;
+use complex::numbering::byte;
 ghost use mathlib.Core.Path.{_≡_};
-ghost use mathlib.Core.List.{_++_, _∷_, []};
-ghost use Prim.Native.Nat.{ℕ, _+_, _*_, _/_, _%_, _<_, _≤_};
+ghost use mathlib.Core.List.{_++_};
+ghost use Prim.Native.Nat.{_+_, _*_, _/_, _%_, _<_, _≤_};
 ghost use lib.ListN.{length, take, drop};
 ghost use lib.Seq.{paste};
 ghost use Rattle.mathematics.specs.Refusals.{first};
 ghost use Rattle.complex.specs.Complex.{complexOf};
-ghost use Rattle.sheet.specs.Sheet.{word, padded, sheetIn, blank, header-tests, readOf, refusedOf, headerOf, sheetBytes, Writable, WrittenOf};
+ghost use Rattle.sheet.specs.Sheet.{word, padded, sheetIn, header-tests, readOf, refusedOf, headerOf, sheetBytes, Writable, WrittenOf};
 ghost use Rattle.sheet.specs.Making.{flatComplex, size-tests, Made};
 
 // A complex and its truncation.

@@ -13,21 +13,20 @@ use lib.ListN.{getD, length, List·getD-append}
 use Rattle.mathematics.specs.Writing.{front}
 use Rattle.complex.specs.Complex.{Complex}
 use Rattle.complex.specs.Judge.{Accepted}
-use Rattle.complex.specs.Sides.{sides}
+use Rattle.complex.specs.Sides.{sides, side}
 use Rattle.complex.proofs.TriangleEdges.{triangle-sides}
-use Rattle.gauss_law.specs.Shifts.{side}
 use Rattle.matrices.specs.declared.coupling.KSParams.{KSParams}
-use Rattle.matrices.specs.Coupling.{whole}
-use Rattle.matrices.specs.Matrix.{rows, Matrix, passed}
+use Rattle.matrices.specs.Coupling.{float-of}
+use Rattle.matrices.specs.Matrix.{matrix-rows, Matrix, passed}
 use Rattle.matrices.proofs.Matrices.{matrix-is, matrix-same, passed-all}
-use Rattle.su2_quantum.specs.declared.forest.Forest.{Forest}
-use Rattle.su2_quantum.specs.EvenSets.{su2-states, mask-place}
-use Rattle.su2_quantum.specs.Place.{LoopsOf}
-use Rattle.su2_quantum.specs.Loops.{closing-bits}
+use Rattle.even_sets.specs.declared.Forest.{Forest}
+use Rattle.even_sets.specs.EvenSets.{su2-states, mask-place}
+use Rattle.masks.specs.Place.{LoopsOf}
+use Rattle.even_sets.specs.Loops.{closing-bits}
 use Rattle.su2_quantum.specs.Dense.{triangle-mask, flips, su2-electric-entry, su2-entry, su2-dense, MatrixOf}
-use Rattle.su2_quantum.proofs.Spans.{bits-below}
-use Rattle.su2_quantum.proofs.EvenLists.{even-complete, state-place, three-listed, flipped-place}
-use Rattle.su2_quantum.proofs.Placing.{states-number, listed-place}
+use Rattle.even_sets.proofs.Spans.{bits-below}
+use Rattle.even_sets.proofs.EvenLists.{even-complete, state-place, three-listed, flipped-place}
+use Rattle.masks.proofs.Placing.{states-number, listed-place}
 
 -- the mask of a triangle whose edges are known
 pub mask-is : (c : Complex) (t i j k : ℕ) → sides c t ≡ i ∷ j ∷ k ∷ [] → triangle-mask c t ≡ bitXor (bitXor (2 ^ i) (2 ^ j)) (2 ^ k)
@@ -68,12 +67,12 @@ module _ (c : Complex) (accepted : Accepted c) where
   module _ (p : KSParams) (n : ℕ) (number : n ≡ length (su2-states c)) (old new : List Float) where
     -- the diagonal is added to zeros
     pub electric-matrix : (states rest : List ℕ) → states ≡ su2-states c ++ rest
-        → Matrix (passed (λ i j. whole 0) (λ i. i) (λ i. mul binary64 (p .electric) (whole (ones (getD states i 0)))) n) n old new → Matrix (su2-electric-entry c p) n old new
+        → Matrix (passed (λ i j. float-of 0) (λ i. i) (λ i. mul binary64 (p .electric) (float-of (ones (getD states i 0)))) n) n old new → Matrix (su2-electric-entry c p) n old new
     unfolding su2-electric-entry
     electric-matrix states rest begins =
         matrix-same _ (su2-electric-entry c p) n old new
         (λ i j h k. passed-all _ _ _ n i j h
-        ∙ ap (λ (x : ℕ). cond (eqb i j) (add binary64 (whole 0) (mul binary64 (p .electric) (whole (ones x)))) (whole 0)) (rw begins (List·getD-append (su2-states c) rest 0 i (rw (← number) h))))
+        ∙ ap (λ (x : ℕ). cond (eqb i j) (add binary64 (float-of 0) (mul binary64 (p .electric) (float-of (ones x)))) (float-of 0)) (rw begins (List·getD-append (su2-states c) rest 0 i (rw (← number) h))))
 
     -- one triangle more
     pub triangle-matrix : (w : ℕ → Float) (t : ℕ) → t < length (c .triangles)
@@ -88,4 +87,4 @@ module _ (c : Complex) (accepted : Accepted c) where
     -- all entries
     pub matrix-written : (w : ℕ → Float) → Matrix (su2-entry c p w (length (c .triangles))) n old new → n * n ≤ length old → new ≡ front (su2-dense c p w) old
     unfolding su2-dense
-    matrix-written w m room = matrix-is _ n old new m room ∙ ap (λ (k : ℕ). front (rows (su2-entry c p w (length (c .triangles))) k) old) number
+    matrix-written w m room = matrix-is _ n old new m room ∙ ap (λ (k : ℕ). front (matrix-rows (su2-entry c p w (length (c .triangles))) k) old) number

@@ -1,15 +1,15 @@
 -- What build_su2_hamiltonian tells, by the test that decides it.
 use Prim.Native.Nat.{ℕ, _*_, _^_, _<_, _≤_}
 use mathlib.Core.List.{List, [], _∷_, _++_}
-use mathlib.Core.Bool.{Bool, true, false, not, _||_, cond}
+use mathlib.Core.Bool.{Bool, true, false, _||_, cond}
 use mathlib.Core.Path.{_≡_, refl, sym, ap, _∙_}
 use native.Mathlib.Omega.{arith}
-use borrow.Author.Tests.{eqb-true, lt-ltb, le-ltb, ltb-false}
-use lib.Dec.{eqb, ltb}
+use borrow.Author.Tests.{lt-ltb, le-ltb, ltb-false}
+use lib.Dec.{ltb}
 use lib.Ieee.{Float}
 use lib.Pow.{pow-mono}
 use lib.ListN.{length, drop}
-use Rattle.mathematics.specs.Tests.{all}
+use Rattle.mathematics.specs.Tests.{every-entry}
 use Rattle.mathematics.specs.Writing.{front}
 use Rattle.mathematics.specs.Refusals.{first, value, outcome, written}
 use Rattle.mathematics.proofs.Refusals.{numbered, first-stops, first-goes-on, refused-outcome, refused-kept}
@@ -19,20 +19,20 @@ use Rattle.complex.specs.Complex.{complexOf}
 use Rattle.complex.specs.Judge.{refusal}
 use Rattle.complex.proofs.Accepting.{accepted}
 use Rattle.complex.proofs.Refusing.{refused-first, accepted-next}
-use Rattle.complex.proofs.SidesFound.{triangles-long}
+use Rattle.triangles.proofs.SidesFound.{triangles-long}
 use Rattle.gauss_law.specs.Listing.{free-edges}
 use Rattle.matrices.specs.declared.coupling.KSParams.{KSParams}
 use Rattle.matrices.specs.Coupling.{su2-right}
 use Rattle.matrices.specs.Weights.{weight, weights-tests}
 use Rattle.matrices.proofs.Weighing.{weights-fit}
-use Rattle.su2_quantum.specs.declared.forest.Forest.{Forest}
-use Rattle.walker.specs.declared.enumerate.Enumerated.the-variants.{States, Refused}
-use Rattle.walker.specs.Enumeration.{enumeratedAnswer}
-use Rattle.su2_quantum.specs.EvenSets.{su2-states}
-use Rattle.su2_quantum.specs.Place.{LoopsOf}
+use Rattle.even_sets.specs.declared.Forest.{Forest}
+use Rattle.gauss_law.specs.declared.answer.Enumerated.the-variants.{States, Refused}
+use Rattle.gauss_law.specs.Answer.{enumeratedAnswer}
+use Rattle.even_sets.specs.EvenSets.{su2-states}
+use Rattle.masks.specs.Place.{LoopsOf}
 use Rattle.su2_quantum.specs.Dense.{su2-dense, su2-dense-refusal, Su2Built, Weighed}
-use Rattle.su2_quantum.proofs.Placing.{closing-number, states-number}
-use Rattle.su2_quantum.proofs.Telling.{limit-told}
+use Rattle.masks.proofs.Placing.{closing-number, states-number}
+use Rattle.masks.proofs.Telling.{limit-told}
 
 pub weights-many : (c : SimplicialComplex) (right given : Bool) (weights : List Float) → first (weights-tests (c .«n_triangles») right given weights) ≡ 0 → Weighed (complexOf c) given weights
 weights-many c right given weights h some = weights-fit (c .«n_triangles») right given weights h some ∙ sym (triangles-long c)
@@ -92,7 +92,7 @@ module _ (c : SimplicialComplex) (p : KSParams) (given : Bool) (weights : List F
 
       module _ (weighed : first (weights-tests (c .«n_triangles») (su2-right p) given weights) ≡ 0) where
         by-room : su2-dense-refusal (complexOf c) p given weights (length work) (length result) ≡ cond (ltb (length work) (2 ^ f .count) || ltb (length result) (2 ^ f .count * 2 ^ f .count)) 15 0
-        unfolding weighing weights-tests short first numbered all
+        unfolding weighing weights-tests short first numbered every-entry
         by-room = by-weights ∙ first-goes-on weighing (short (2 ^ f .count) ∷ []) refl (rw (triangles-long c) weighed)
 
         pub room-refused : (ltb (length work) (2 ^ f .count) || ltb (length result) (2 ^ f .count * 2 ^ f .count)) ≡ true

@@ -1,11 +1,2 @@
-pub mod Spans
-pub mod Tables
-pub mod Degrees
-pub mod Forests
-pub mod ClosingCount
-pub mod EvenLists
-pub mod Doubling
-pub mod Placing
-pub mod Telling
 pub mod DenseEntries
 pub mod DenseTelling

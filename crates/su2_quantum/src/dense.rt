@@ -1,11 +1,11 @@
 // The two-valued Hamiltonian as a dense matrix.
-use crate::basis::write_masks;
-use crate::forest::Forest;
-use crate::forest::closing_loops;
-use crate::place::closing_bits;
+use acceptance::judge;
 use complex::SimplicialComplex;
-use complex::judge::judge;
-use complex::triangle::triangle_sides;
+use even_sets::Forest;
+use even_sets::closing_loops;
+use gauss_law::answer::Enumerated;
+use masks::place::closing_bits;
+use masks::write_masks;
 use matrices::coupling::KSParams;
 use matrices::coupling::is_su2;
 use matrices::electric::energy;
@@ -13,7 +13,7 @@ use matrices::matrix::add_entry;
 use matrices::matrix::clear_matrix;
 use matrices::weights::judge_weights;
 use matrices::weights::weight_of;
-use walker::enumerate::Enumerated;
+use triangles::triangle_sides;
 ghost use mathlib.Core.Path.{_≡_};
 ghost use mathlib.Core.List.{List, _++_};
 ghost use Prim.Native.Nat.{ℕ, _+_, _*_, _^_, _<_, _≤_};
@@ -24,16 +24,16 @@ ghost use lib.ListN.{getD, length};
 ghost use Rattle.mathematics.specs.Writing.{front};
 ghost use Rattle.complex.specs.Complex.{complexOf};
 ghost use Rattle.matrices.specs.declared.coupling.KSParams.{KSParams};
-ghost use Rattle.matrices.specs.Coupling.{whole};
 ghost use Rattle.matrices.specs.Weights.{weight};
 ghost use Rattle.matrices.specs.Matrix.{Matrix, passed};
-ghost use Rattle.su2_quantum.specs.EvenSets.{su2-states, mask-place};
-ghost use Rattle.su2_quantum.specs.Place.{LoopsOf};
+ghost use Rattle.even_sets.specs.EvenSets.{su2-states, mask-place};
+ghost use Rattle.masks.specs.Place.{LoopsOf};
 ghost use Rattle.su2_quantum.specs.Dense.{triangle-mask, su2-electric-entry, su2-entry, su2-dense, Su2Built, MatrixOf, Weighed};
+ghost use Rattle.matrices.specs.Squares.{energy};
 
 // A factor times the number of edges in a state.
 fn state_energy(factor: f64, state: u64) -> f64
-    ensures { λ r. ⌜ r ≡ mul binary64 factor (whole (ones state)) ⌝ }
+    ensures { λ r. ⌜ r ≡ energy factor (ones state) ⌝ }
 {
     energy(factor, u64::count_ones(state) as usize)
 }
@@ -41,7 +41,7 @@ fn state_energy(factor: f64, state: u64) -> f64
 // The energy of each state is added on the diagonal.
 fn add_energies(h: &mut [f64], n: usize, factor: f64, states: &[u64])
     requires { ⌜ (n ≤ 2 ^ 20) × (n * n ≤ length (now h)) × (n ≤ length (now states)) ⌝ }
-    ensures { λ _. ⌜ ((f : ℕ → ℕ → Float) (old : List Float) → Matrix f n old (now (h .entry)) → Matrix (passed f (λ i. i) (λ i. mul binary64 factor (whole (ones (getD (now (states .entry)) i 0)))) n) n old (now (h .exit))) ⌝ }
+    ensures { λ _. ⌜ ((f : ℕ → ℕ → Float) (old : List Float) → Matrix f n old (now (h .entry)) → Matrix (passed f (λ i. i) (λ i. energy factor (ones (getD (now (states .entry)) i 0))) n) n old (now (h .exit))) ⌝ }
 {
     for i in 0..n {
         add_entry(h, n, i, i, state_energy(factor, states[i]));

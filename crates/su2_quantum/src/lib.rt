@@ -1,6 +1,3 @@
 // The two-valued truncation of SU(2): even edge sets as masks, and the dense matrix on them.
 
-pub mod basis;
 pub mod dense;
-pub mod forest;
-pub mod place;

@@ -11,11 +11,11 @@ use lib.Seq.{getD-append-add}
 use Rattle.mathematics.specs.Counting.{below, applied}
 use Rattle.mathematics.proofs.Flat.{flatMap-last, flatten-append}
 use Rattle.walker.specs.declared.blocks.Span.{Span}
-use Rattle.walker.specs.Cycles.{row, added}
-use Rattle.walker.specs.Walker.{stepped, start, stop, rows, block, width, walked, walked-states}
+use Rattle.cycles.specs.Cycles.{row, with-cycle}
+use Rattle.walker.specs.Walker.{stepped, first-within, end-within, block-rows, block, width, walked, walked-states}
 use Rattle.walker.specs.Steps.{Small, Addable, CyclesFit, FreeFit, Walkable}
 use Rattle.mathematics.specs.Writing.{put}
-use Rattle.walker.specs.Blocks.{Spans}
+use Rattle.walker.specs.Blocks.{SpanOfBlock}
 use Rattle.walker.proofs.Interval.{stop-bound}
 use Rattle.walker.proofs.Stepping.{cycle-long, cycle-signs}
 use Rattle.mathematics.proofs.Puts.{put-more}
@@ -38,8 +38,8 @@ width-some L (suc n) h = refl
 block-long : (L n : ℕ) (s z : List ℤ) → length (flatten (block L n s z)) ≡ length (block L n s z) * length s
 unfolding block
 block-long L n s z =
-    let from = start L n s z (length s) in
-    let to = stop L n s z (length s) in
+    let from = first-within L n s z (length s) in
+    let to = end-within L n s z (length s) in
     rows-long s z from to ∙ ap (λ k. k * length s) (sym (rows-length s z from to))
 
 module _ (free : List ℕ) (cycle : ℕ → List ℤ) (L n : ℕ) (s : List ℤ) where
@@ -82,9 +82,9 @@ module _ (free : List ℕ) (cycle : ℕ → List ℤ) (L n : ℕ) (s : List ℤ)
   states-few zero = rw states-none (omega arith)
   states-few (suc k) =
       let w = width L n in
-      let from = start L w (at k) (cycle 0) (length (at k)) in
-      let to = stop L w (at k) (cycle 0) (length (at k)) in
-      rw (states-suc k, length-append (states k) (rows (at k) (cycle 0) from to), rows-length (at k) (cycle 0) from to)
+      let from = first-within L w (at k) (cycle 0) (length (at k)) in
+      let to = end-within L w (at k) (cycle 0) (length (at k)) in
+      rw (states-suc k, length-append (states k) (block-rows (at k) (cycle 0) from to), rows-length (at k) (cycle 0) from to)
       (omega (arith, states-few k, stop-bound L w (at k) (cycle 0) (length (at k))))
 
   -- more blocks go on where fewer ended
@@ -132,8 +132,8 @@ module _ (free : List ℕ) (cycles : List ℤ) (L n : ℕ) (s : List ℤ) (block
     pub step-made : (new : List ℤ) → new ≡ stepped free (row (length config) cycles) L (n - 1) 1 config → new ≡ walked free cycle L n s (k + 1)
     step-made new h = h ∙ rw (config-long, is) (sym (walked-next free cycle L n s k))
 
-    module _ (w : ℕ) (wide : w ≡ width L n) (r : Span) (spans : Spans L w config (take (length s - 0) cycles) r) where
-      pub span-block : rows config (take (length s - 0) cycles) (r .from) (r .to) ≡ block L (width L n) (walked free cycle L n s k) (cycle 0)
+    module _ (w : ℕ) (wide : w ≡ width L n) (r : Span) (spans : SpanOfBlock L w config (take (length s - 0) cycles) r) where
+      pub span-block : block-rows config (take (length s - 0) cycles) (r .from) (r .to) ≡ block L (width L n) (walked free cycle L n s k) (cycle 0)
       span-block = spans .is ∙ rw (is, wide, first-part)
 
       pub span-few : r .to ≤ 2001
@@ -160,7 +160,7 @@ module _ (free : List ℕ) (cycles : List ℤ) (L n : ℕ) (s : List ℤ) (block
           add-mul a b m c e = rw e (omega arith)
 
       pub written-more : (old list new : List ℤ) → length (walked-states free cycle L n s blocks) * length s ≤ length old → (count : ℕ) → count ≡ length (walked-states free cycle L n s k)
-          → list ≡ put old 0 (flatten (walked-states free cycle L n s k)) → new ≡ put list (count * length s) (flatten (rows config (take (length s - 0) cycles) (r .from) (r .to)))
+          → list ≡ put old 0 (flatten (walked-states free cycle L n s k)) → new ≡ put list (count * length s) (flatten (block-rows config (take (length s - 0) cycles) (r .from) (r .to)))
           → new ≡ put old 0 (flatten (walked-states free cycle L n s (k + 1)))
       written-more old list new room count h before after =
           let old-states = walked-states free cycle L n s k in
@@ -181,7 +181,7 @@ module _ (free : List ℕ) (cycles : List ℤ) (L n : ℕ) (s : List ℤ) (block
           (record { sized = ready .0; values = λ e. omega (arith, config-small e); times = omega arith; signs = ready .2 }, omega arith)
 
       pub state-found : (place i : ℕ) → i < r .to - r .from → i + length (walked-states free cycle L n s k) ≡ place
-          → getD (walked-states free cycle L n s blocks) place [] ≡ added config (pos (r .from + i)) (take (length s - 0) cycles)
+          → getD (walked-states free cycle L n s blocks) place [] ≡ with-cycle config (pos (r .from + i)) (take (length s - 0) cycles)
       state-found place i h e =
           let old = walked-states free cycle L n s k in
           let B = block L (width L n) (walked free cycle L n s k) (cycle 0) in

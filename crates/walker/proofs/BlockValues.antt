@@ -12,8 +12,8 @@ use borrow.Author.Tests.{leb-true}
 use Rattle.mathematics.proofs.Tests.{all-at}
 use Rattle.mathematics.specs.Entries.{Each}
 use Rattle.mathematics.proofs.Ordered.{keep-passes, each-at}
-use Rattle.walker.specs.Cycles.{added}
-use Rattle.walker.specs.Walker.{rows, block}
+use Rattle.cycles.specs.Cycles.{with-cycle}
+use Rattle.walker.specs.Walker.{block-rows, block}
 use Rattle.walker.specs.Steps.{Small}
 use Rattle.walker.proofs.Candidates.{within}
 use Rattle.walker.proofs.Interval.{block-kept}
@@ -27,12 +27,12 @@ within-small L s h e = go (decLt e (length s))
     go (yes k) = leb-true _ L (all-at (λ x. leb (natAbs x) L) (pos 0) s h e k)
     go (no k) = rw (List·getD-eq-default s (pos 0) {n = e} (omega arith)) (omega arith)
 
-module _ (L n : ℕ) (s z : List ℤ) (signs : Small 1 z) (long : length z ≡ length s) (from to : ℕ) (is : rows s z from to ≡ block L n s z) where
-  rows-pass : Each (λ t. within L t ≡ true) (rows s z from to)
+module _ (L n : ℕ) (s z : List ℤ) (signs : Small 1 z) (long : length z ≡ length s) (from to : ℕ) (is : block-rows s z from to ≡ block L n s z) where
+  rows-pass : Each (λ t. within L t ≡ true) (block-rows s z from to)
   rows-pass = rw (is, ← (block-kept L n s z signs long)) (keep-passes (within L) _)
 
-  pub row-small : (d : ℕ) → from ≤ d → d < to → Small L (added s (pos d) z)
+  pub row-small : (d : ℕ) → from ≤ d → d < to → Small L (with-cycle s (pos d) z)
   row-small d h k =
-      let inside : d - from < length (rows s z from to) = omega (arith, rows-length s z from to) in
+      let inside : d - from < length (block-rows s z from to) = omega (arith, rows-length s z from to) in
       let e : from + (d - from) ≡ d = omega arith in
-      within-small L (added s (pos d) z) (rw (rows-at s z from to (d - from) (omega arith), e) at (each-at [] rows-pass (d - from) inside))
+      within-small L (with-cycle s (pos d) z) (rw (rows-at s z from to (d - from) (omega arith), e) at (each-at [] rows-pass (d - from) inside))

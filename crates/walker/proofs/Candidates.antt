@@ -11,9 +11,9 @@ use lib.IntN.{ℤ, pos, _+ℤ_, _*ℤ_, natAbs, negℤ, *ℤ-zero, +ℤ-idr}
 use lib.Signed.{ltZ, _<ℤ_}
 use lib.ListN.{getD, length, set, length-set, length-map}
 use lib.Seq.{getD-set-same, getD-set-other}
-use Rattle.mathematics.specs.Integers.{sum}
-use Rattle.mathematics.specs.Lists.{place}
-use Rattle.mathematics.specs.Tests.{all}
+use Rattle.mathematics.specs.Integers.{sum-below}
+use Rattle.mathematics.specs.Lists.{position}
+use Rattle.mathematics.specs.Tests.{every-entry}
 use Rattle.mathematics.specs.Counting.{keep, counted}
 use Rattle.mathematics.proofs.Tests.{all-at, at-all}
 use Rattle.mathematics.specs.Entries.{Each}
@@ -24,7 +24,7 @@ use Rattle.complex.specs.Complex.{Complex}
 use Rattle.complex.specs.Judge.{Accepted}
 use Rattle.gauss_law.specs.Gauss.{Lawful, State}
 use Rattle.gauss_law.specs.Listing.{tree-edges, free-edges, values, listing, Before}
-use Rattle.walker.specs.Cycles.{added, Cycle, Tables}
+use Rattle.cycles.specs.Cycles.{with-cycle, Cycle, Tables}
 use Rattle.walker.specs.Walker.{counted-up, stepped}
 use Rattle.gauss_law.proofs.Tree.{Solvable}
 use Rattle.gauss_law.proofs.Free.{free-below, free-once, determined}
@@ -32,7 +32,7 @@ use Rattle.gauss_law.proofs.Listing.{values-within, values-ordered, values-memb
 use Rattle.gauss_law.proofs.Extension.{Extends}
 use Rattle.gauss_law.proofs.Accepted.{accepted-tree, accepted-extension, complete-listing}
 use Rattle.mathematics.proofs.Integers.{times-one}
-use Rattle.walker.proofs.Adding.{added-length, added-at, gauss-closed}
+use Rattle.cycles.proofs.Adding.{added-length, added-at, gauss-closed}
 use Rattle.walker.proofs.Counter.{moved, up-from}
 
 -- s is lawful, and xs are its values on the free edges
@@ -49,7 +49,7 @@ module _ (c : Complex) (q : ℕ → ℤ) where
       agree : (e : ℕ) → (j : ℕ) × (j < length (free-edges c)) × (getD (free-edges c) j 0 ≡ e) → getD s e (pos 0) ≡ getD t e (pos 0)
       agree e (j, h, k) = rw (← k) (a .free j h ∙ sym (b .free j h))
 
-  pub extends-chosen : (xs s : List ℤ) → Extends c q (λ e. getD xs (place eqb e (free-edges c)) (pos 0)) s → Chosen c q xs s
+  pub extends-chosen : (xs s : List ℤ) → Extends c q (λ e. getD xs (position eqb e (free-edges c)) (pos 0)) s → Chosen c q xs s
   extends-chosen xs s h =
       record {
         sized = h .sized;
@@ -71,7 +71,7 @@ module _ (c : Complex) (q : ℕ → ℤ) where
             cycle .others (getD (free-edges c) i 0) (member-listed (place-member 0 (free-edges c) i h)) (λ e. n (same-place 0 (free-once c) i j h inside e)) in
             rw (off, *ℤ-zero t) (+ℤ-idr x ∙ k ∙ sym (getD-set-other xs j i _ (pos 0) n))
 
-    pub added-chosen : (t : ℤ) (xs s : List ℤ) → length xs ≡ length (free-edges c) → Chosen c q xs s → Chosen c q (moved xs t j) (added s t z)
+    pub added-chosen : (t : ℤ) (xs s : List ℤ) → length xs ≡ length (free-edges c) → Chosen c q xs s → Chosen c q (moved xs t j) (with-cycle s t z)
     added-chosen t xs s l h =
         let long : length z ≡ length s = cycle .sized ∙ sym (h .sized) in
         record {
@@ -95,7 +95,7 @@ module _ (c : Complex) (q : ℕ → ℤ) where
         let back = negℤ (pos (2 * L)) in
         rw (tables .edges j inside, k .free j inside)
         (go (ltZ (getD xs j (pos 0)) (pos L)) (added-chosen j inside (cycle j) (tables .cycles j inside) (pos 1) xs s l k)
-        (stepped-chosen n (suc j) (moved xs back j) (added s back (cycle j)) (omega arith) (moved-length xs back j ∙ l) (added-chosen j inside (cycle j) (tables .cycles j inside) back xs s l k)))
+        (stepped-chosen n (suc j) (moved xs back j) (with-cycle s back (cycle j)) (omega arith) (moved-length xs back j ∙ l) (added-chosen j inside (cycle j) (tables .cycles j inside) back xs s l k)))
       where
         go : (b : Bool) {xs ys s t : List ℤ} → Chosen c q xs s → Chosen c q ys t → Chosen c q (cond b xs ys) (cond b s t)
         go true x y = x
@@ -103,16 +103,16 @@ module _ (c : Complex) (q : ℕ → ℤ) where
 
 -- ---- the states are the candidates within -L to L
 unfoldable pub within : ℕ → List ℤ → Bool
-within L s = all (λ x. leb (natAbs x) L) s
+within L s = every-entry (λ x. leb (natAbs x) L) s
 
-module _ (c : Complex) (accepted : Accepted c) (q : ℕ → ℤ) (charges : sum q (c .vertices) ≡ pos 0) where
+module _ (c : Complex) (accepted : Accepted c) (q : ℕ → ℤ) (charges : sum-below q (c .vertices) ≡ pos 0) where
   -- the lawful assignment with the values xs on the free edges
   pub candidate : List ℤ → List ℤ
-  candidate xs = accepted-extension c accepted q charges (λ e. getD xs (place eqb e (free-edges c)) (pos 0)) .0
+  candidate xs = accepted-extension c accepted q charges (λ e. getD xs (position eqb e (free-edges c)) (pos 0)) .0
 
   pub candidate-chosen : (xs : List ℤ) → Chosen c q xs (candidate xs)
   unfolding candidate
-  candidate-chosen xs = extends-chosen c q xs (candidate xs) (accepted-extension c accepted q charges (λ e. getD xs (place eqb e (free-edges c)) (pos 0)) .1)
+  candidate-chosen xs = extends-chosen c q xs (candidate xs) (accepted-extension c accepted q charges (λ e. getD xs (position eqb e (free-edges c)) (pos 0)) .1)
 
   pub chosen-candidate : (xs s : List ℤ) → Chosen c q xs s → candidate xs ≡ s
   chosen-candidate xs s h = chosen-once c q (accepted-tree c accepted) xs (candidate xs) s (candidate-chosen xs) h

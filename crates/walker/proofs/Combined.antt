@@ -1,23 +1,22 @@
 -- Every candidate is a sum of cycles, so its values are small.
 use Prim.Native.Nat.{ℕ, zero, suc, _+_, _*_, _≤_, _<_}
-use mathlib.Core.List.{List, [], _∷_}
+use mathlib.Core.List.{List}
 use mathlib.Core.Path.{_≡_, refl, sym, _∙_}
 use native.Mathlib.Omega.{arith}
 use native.Mathlib.Decide.{ℕ-discrete}
 use lib.IntN.{ℤ, pos, _+ℤ_, _*ℤ_, negℤ, natAbs, +ℤ-idl}
 use lib.ListN.{getD, length, replicate, length-replicate, getD-replicate}
 use lib.Seq.{getD-set-same, getD-set-other}
-use Rattle.complex.specs.Complex.{Simplex, Complex}
-use Rattle.gauss_law.specs.Gauss.{gauss}
+use Rattle.complex.specs.Complex.{Complex}
 use Rattle.gauss_law.specs.Listing.{tree-edges, free-edges}
-use Rattle.walker.specs.Cycles.{Tables}
-use Rattle.walker.specs.Walker.{combined, lowest}
+use Rattle.cycles.specs.Cycles.{Tables}
+use Rattle.walker.specs.Walker.{sum-of-cycles, lowest-candidate}
 use Rattle.mathematics.proofs.Signed.{size-sum, size-sign}
 use Rattle.gauss_law.proofs.Tree.{Solvable}
-use Rattle.walker.proofs.Adding.{added-at}
-use Rattle.gauss_law.proofs.Gauss.{flow-zero}
+use Rattle.cycles.proofs.Adding.{added-at, zeros-at, gauss-zeros}
 use Rattle.walker.proofs.Counter.{moved, value}
 use Rattle.walker.proofs.Candidates.{Chosen, chosen-once, added-chosen, moved-length}
+use Rattle.gauss_law.specs.Gauss.{uncharged}
 
 pub chosen-same : (c : Complex) (q : ℕ → ℤ) (xs ys s : List ℤ) → ((j : ℕ) → j < length (free-edges c) → getD xs j (pos 0) ≡ getD ys j (pos 0)) → Chosen c q xs s → Chosen c q ys s
 chosen-same c q xs ys s same h = record { sized = h .sized; free = λ j k. h .free j k ∙ same j k; law = h .law }
@@ -49,21 +48,21 @@ module _ (c : Complex) (q : ℕ → ℤ) (free : List ℕ) (cycle : ℕ → List
             rw (e, getD-set-same (digits-to n) n (getD (digits-to n) n (pos 0) +ℤ x n) (pos 0) (omega (arith, digits-long n)), digits-later n n (omega arith) k) (+ℤ-idl (x n))
         go (no m) ih = getD-set-other (digits-to n) n i _ (pos 0) m ∙ ih (omega arith)
 
-    combined-to : (n : ℕ) → n ≤ length (free-edges c) → Chosen c q (digits-to n) (combined cycle x p n)
-    unfolding digits-to combined
+    combined-to : (n : ℕ) → n ≤ length (free-edges c) → Chosen c q (digits-to n) (sum-of-cycles cycle x p n)
+    unfolding digits-to sum-of-cycles
     combined-to zero h = start
-    combined-to (suc n) h = added-chosen c q n h (cycle n) (tables .cycles n h) (x n) (digits-to n) (combined cycle x p n) (digits-long n) (combined-to n (omega arith))
+    combined-to (suc n) h = added-chosen c q n h (cycle n) (tables .cycles n h) (x n) (digits-to n) (sum-of-cycles cycle x p n) (digits-long n) (combined-to n (omega arith))
 
-    pub combined-chosen : (xs : List ℤ) → ((j : ℕ) → j < length (free-edges c) → x j ≡ getD xs j (pos 0)) → Chosen c q xs (combined cycle x p (length (free-edges c)))
+    pub combined-chosen : (xs : List ℤ) → ((j : ℕ) → j < length (free-edges c) → x j ≡ getD xs j (pos 0)) → Chosen c q xs (sum-of-cycles cycle x p (length (free-edges c)))
     combined-chosen xs same =
         chosen-same c q (digits-to (length (free-edges c))) xs _ (λ j h. digits-done (length (free-edges c)) j h (omega arith) ∙ same j h) (combined-to (length (free-edges c)) (omega arith))
 
     combined-small : (B L : ℕ) → ((e : ℕ) → natAbs (getD p e (pos 0)) ≤ B) → ((j : ℕ) → j < length (free-edges c) → natAbs (x j) ≤ L)
-        → (n : ℕ) → n ≤ length (free-edges c) → (e : ℕ) → natAbs (getD (combined cycle x p n) e (pos 0)) ≤ B + n * L
-    unfolding combined
+        → (n : ℕ) → n ≤ length (free-edges c) → (e : ℕ) → natAbs (getD (sum-of-cycles cycle x p n) e (pos 0)) ≤ B + n * L
+    unfolding sum-of-cycles
     combined-small B L b h zero k e = omega (arith, b e)
     combined-small B L b h (suc n) k e =
-        let s = combined cycle x p n in
+        let s = sum-of-cycles cycle x p n in
         let z = cycle n in
         let is = tables .cycles n k in
         let long : length z ≡ length s = is .sized ∙ sym (combined-to n (omega arith) .sized) in
@@ -84,19 +83,8 @@ module _ (c : Complex) (q : ℕ → ℤ) (free : List ℕ) (cycle : ℕ → List
       (combined-small (λ j. getD xs j (pos 0)) B L b h (length (free-edges c)) (omega arith) e)
 
 -- ---- without charges: all values zero, and the candidate with -L on every free edge
-pub zeros-at : (n e : ℕ) → getD (replicate n (pos 0)) e (pos 0) ≡ pos 0
-zeros-at zero e = refl
-zeros-at (suc n) zero = refl
-zeros-at (suc n) (suc e) = zeros-at n e
-
-pub gauss-zeros : (es : List Simplex) (n v : ℕ) → gauss es (replicate n (pos 0)) v ≡ pos 0
-unfolding gauss
-gauss-zeros [] n v = refl
-gauss-zeros (e ∷ es) zero v = refl
-gauss-zeros (e ∷ es) (suc n) v = rw (flow-zero e v, gauss-zeros es n v)
-
 module _ (c : Complex) where
-  pub zeros-chosen : Chosen c (λ v. pos 0) (replicate (length (free-edges c)) (pos 0)) (replicate (length (c .edges)) (pos 0))
+  pub zeros-chosen : Chosen c uncharged (replicate (length (free-edges c)) (pos 0)) (replicate (length (c .edges)) (pos 0))
   zeros-chosen =
       record {
         sized = length-replicate (length (c .edges)) (pos 0);
@@ -104,8 +92,8 @@ module _ (c : Complex) where
         law = λ v h. gauss-zeros (c .edges) (length (c .edges)) v;
       }
 
-  pub lowest-chosen : (free : List ℕ) (cycle : ℕ → List ℤ) → Tables c free cycle → (L : ℕ) → Chosen c (λ v. pos 0) (replicate (length (free-edges c)) (value L zero)) (lowest cycle L (length (c .edges)) (length (free-edges c)))
-  unfolding lowest
+  pub lowest-chosen : (free : List ℕ) (cycle : ℕ → List ℤ) → Tables c free cycle → (L : ℕ) → Chosen c uncharged (replicate (length (free-edges c)) (value L zero)) (lowest-candidate cycle L (length (c .edges)) (length (free-edges c)))
+  unfolding lowest-candidate
   lowest-chosen free cycle tables L =
-      combined-chosen c (λ v. pos 0) free cycle tables (replicate (length (c .edges)) (pos 0)) zeros-chosen (λ j. negℤ (pos L)) (replicate (length (free-edges c)) (value L zero))
+      combined-chosen c uncharged free cycle tables (replicate (length (c .edges)) (pos 0)) zeros-chosen (λ j. negℤ (pos L)) (replicate (length (free-edges c)) (value L zero))
       (λ j h. sym (getD-replicate (length (free-edges c)) j (value L zero) (pos 0) h ∙ +ℤ-idl (negℤ (pos L))))

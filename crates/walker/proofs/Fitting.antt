@@ -17,16 +17,17 @@ use Rattle.gauss_law.specs.Spanning.{FreeOf}
 use Rattle.gauss_law.proofs.Free.{free-below}
 use Rattle.gauss_law.proofs.Spanned.{edges-long}
 use Rattle.walker.specs.declared.tables.Walker.{Walker}
-use Rattle.walker.specs.Cycles.{row, CycleTable, Tables}
-use Rattle.walker.specs.Walker.{lowest, walked}
+use Rattle.cycles.specs.Cycles.{row, CycleTable, Tables}
+use Rattle.walker.specs.Walker.{lowest-candidate, walked}
 use Rattle.walker.specs.Steps.{CyclesFit}
 use Rattle.walker.specs.Tables.{Walks, begin-of, states-of, Fit}
-use Rattle.walker.proofs.Rows.{zero-row}
+use Rattle.cycles.proofs.Rows.{zero-row}
 use Rattle.walker.proofs.Stepping.{cycle-long, cycle-signs}
 use Rattle.walker.proofs.Combined.{lowest-chosen}
 use Rattle.walker.proofs.Uncharged.{uncharged-states, uncharged-long, uncharged-small}
 use Rattle.walker.proofs.BlockStates.{states-long}
-use Rattle.walker.proofs.CycleTables.{free-listed}
+use Rattle.cycles.proofs.CycleTables.{free-listed}
+use Rattle.gauss_law.specs.Gauss.{uncharged}
 
 -- ---- the tables are those of the record
 pub tables-walk : (c : SimplicialComplex) → refusal (complexOf c) ≡ 0 → (free : FreeEdges) → FreeOf (complexOf c) free → (cycles : List ℤ) → CycleTable (complexOf c) (length (free-edges (complexOf c))) cycles
@@ -59,7 +60,7 @@ module _ (w : Walker) (L k : ℕ) (fit : Fit w L k) where
     rw (space-long, ← (fit .sized)) (fit .walkable .cycles-fit),
   )
 
-  pub begin-made : (new : List ℤ) → new ≡ lowest (row (length space) (w .cycles)) L (length space) (w .«n_free») → new ≡ begin-of w L
+  pub begin-made : (new : List ℤ) → new ≡ lowest-candidate (row (length space) (w .cycles)) L (length space) (w .«n_free») → new ≡ begin-of w L
   unfolding begin-of
   begin-made new h = rw space-long at h
 
@@ -71,7 +72,7 @@ module _ (c : Complex) (w : Walker) (walks : Walks c w) where
   cycles-fit : (L : ℕ) → L ≤ 1000 → CyclesFit (length (c .edges)) (length (free-edges c)) L (w .cycles)
   cycles-fit L h =
       record {
-        edges-few = walks .accepted .edges;
+        edges-few = walks .accepted .few-edges;
         free-few = rw (← (walks .count)) (walks .few);
         truncation = h;
         long = walks .table .long;
@@ -88,11 +89,11 @@ module _ (c : Complex) (w : Walker) (walks : Walks c w) where
       }
 
   module _ (L : ℕ) where
-    begin-is : begin-of w L ≡ lowest cycle L (length (c .edges)) (length (free-edges c))
+    begin-is : begin-of w L ≡ lowest-candidate cycle L (length (c .edges)) (length (free-edges c))
     unfolding begin-of
     begin-is = rw (walks .edges, walks .count)
 
-    lowest-long : length (lowest cycle L (length (c .edges)) (length (free-edges c))) ≡ length (c .edges)
+    lowest-long : length (lowest-candidate cycle L (length (c .edges)) (length (free-edges c))) ≡ length (c .edges)
     lowest-long = lowest-chosen c (w .free) cycle walks-tables L .sized
 
     begin-long : length (begin-of w L) ≡ length (c .edges)
@@ -101,7 +102,7 @@ module _ (c : Complex) (w : Walker) (walks : Walks c w) where
     pub walks-fit : (k : ℕ) → L ≤ 1000 → k ≤ 2 ^ 20 → Fit w L k
     walks-fit k h few =
         record {
-          edges = rw (walks .edges) (walks .accepted .edges);
+          edges = rw (walks .edges) (walks .accepted .few-edges);
           sized = begin-long ∙ sym (walks .edges);
           walkable =
               record {
@@ -113,7 +114,7 @@ module _ (c : Complex) (w : Walker) (walks : Walks c w) where
               };
         }
       where
-        small : (i e : ℕ) → natAbs (getD (walked (w .free) cycle L (length (free-edges c)) (lowest cycle L (length (c .edges)) (length (free-edges c))) i) e (pos 0)) ≤ 2 ^ 20
+        small : (i e : ℕ) → natAbs (getD (walked (w .free) cycle L (length (free-edges c)) (lowest-candidate cycle L (length (c .edges)) (length (free-edges c))) i) e (pos 0)) ≤ 2 ^ 20
         small i e =
             omega (
               arith,
@@ -121,7 +122,7 @@ module _ (c : Complex) (w : Walker) (walks : Walks c w) where
               mul-le-mul (cycles-fit L h .free-few) h,
             )
 
-    pub walks-states : states-of w L ((2 * L + 1) ^ (w .«n_free» - 1)) ≡ listing c (λ v. pos 0) L
+    pub walks-states : states-of w L ((2 * L + 1) ^ (w .«n_free» - 1)) ≡ listing c uncharged L
     unfolding states-of
     walks-states = rw (begin-is, walks .edges, walks .count) (sym (uncharged-states c (walks .accepted) (w .free) cycle walks-tables L))
 

@@ -1,5 +1,5 @@
 -- The multiples of a cycle that keep an assignment within -L to L are an interval.
-use Prim.Native.Nat.{ℕ, zero, suc, _+_, _-_, _*_, _≤_, _<_}
+use Prim.Native.Nat.{ℕ, zero, suc, _+_, _-_, _≤_, _<_}
 use mathlib.Core.List.{List, map, map-map}
 use mathlib.Core.Bool.{Bool, true, false, _&&_, cond}
 use mathlib.Core.Path.{_≡_, refl, _∙_, ap}
@@ -11,14 +11,13 @@ use lib.Signed.{ltZ}
 use lib.ListN.{getD, length}
 use borrow.Author.Tests.{leb-true, ltb-true, le-leb, lt-leb, lt-ltb}
 use Rattle.mathematics.specs.Integers.{equal}
-use Rattle.mathematics.specs.Tests.{all}
 use Rattle.mathematics.specs.Counting.{below, keep}
 use Rattle.mathematics.proofs.Tests.{and-parts, and-both, same-tests, all-at, at-all}
 use Rattle.mathematics.proofs.Maps.{keep-map}
 use Rattle.mathematics.proofs.Integers.{positive, negative, parts, parts-size, one-part, the, _⊞_, _⊟_, ⊖_, test-less, test-not-less, times-one, times-minus-one, minus-one-times}
-use Rattle.walker.specs.Cycles.{added}
-use Rattle.walker.specs.Walker.{excess, entry-start, entry-stop, start, stop, rows, block}
-use Rattle.walker.proofs.Adding.{added-length, added-at}
+use Rattle.cycles.specs.Cycles.{with-cycle}
+use Rattle.walker.specs.Walker.{excess, entry-start, entry-stop, first-within, end-within, block-rows, block}
+use Rattle.cycles.proofs.Adding.{added-length, added-at}
 use Rattle.mathematics.proofs.Below.{keep-between}
 use Rattle.walker.proofs.Candidates.{within}
 
@@ -79,8 +78,8 @@ module _ (L n d : ℕ) where
   inside-entry x (negsuc (suc m)) h k a b = absurd (omega arith)
 
 -- ---- all entries
-pub stop-bound : (L n : ℕ) (s z : List ℤ) (m : ℕ) → stop L n s z m ≤ n
-unfolding stop
+pub stop-bound : (L n : ℕ) (s z : List ℤ) (m : ℕ) → end-within L n s z m ≤ n
+unfolding end-within
 stop-bound L n s z zero = omega arith
 stop-bound L n s z (suc m) = omega (arith, stop-bound L n s z m)
 
@@ -88,16 +87,16 @@ module _ (L n : ℕ) (s z : List ℤ) (signs : (e : ℕ) → natAbs (getD z e (p
   abbrev moves : ℕ → ℕ → ℤ
   moves d e = getD s e (pos 0) +ℤ pos d *ℤ getD z e (pos 0)
 
-  inside-span : (d m : ℕ) → d < n → ((e : ℕ) → e < m → natAbs (moves d e) ≤ L) → (start L n s z m ≤ d) × (d < stop L n s z m)
-  unfolding start stop
+  inside-span : (d m : ℕ) → d < n → ((e : ℕ) → e < m → natAbs (moves d e) ≤ L) → (first-within L n s z m ≤ d) × (d < end-within L n s z m)
+  unfolding first-within end-within
   inside-span d zero h k = (omega arith, h)
   inside-span d (suc m) h k =
       let r = inside-span d m h (λ e l. k e (omega arith)) in
       let t = entry-inside L n d (getD s m (pos 0)) (getD z m (pos 0)) (signs m) h (k m (omega arith)) in
       (omega (arith, r .0, t .0), omega (arith, r .1, t .1))
 
-  span-inside : (d m : ℕ) → d < n → start L n s z m ≤ d → d < stop L n s z m → (e : ℕ) → e < m → natAbs (moves d e) ≤ L
-  unfolding start stop
+  span-inside : (d m : ℕ) → d < n → first-within L n s z m ≤ d → d < end-within L n s z m → (e : ℕ) → e < m → natAbs (moves d e) ≤ L
+  unfolding first-within end-within
   span-inside d zero h a b e k = absurd (omega arith)
   span-inside d (suc m) h a b e k = go (ℕ-discrete e m) (λ l. span-inside d m h (omega arith) (omega arith) e l)
     where
@@ -106,26 +105,26 @@ module _ (L n : ℕ) (s z : List ℤ) (signs : (e : ℕ) → natAbs (getD z e (p
       go (no i) ih = ih (omega arith)
 
   module _ (long : length z ≡ length s) where
-    within-span : (d : ℕ) → d < n → within L (added s (pos d) z) ≡ (leb (start L n s z (length s)) d && ltb d (stop L n s z (length s)))
+    within-span : (d : ℕ) → d < n → within L (with-cycle s (pos d) z) ≡ (leb (first-within L n s z (length s)) d && ltb d (end-within L n s z (length s)))
     unfolding within
     within-span d h =
-        same-tests (within L (added s (pos d) z)) _
+        same-tests (within L (with-cycle s (pos d) z)) _
         (λ t.
-        let r = inside-span d (length s) h (λ e k. rw (added-at s (pos d) z e long) at (leb-true _ L (all-at (λ x. leb (natAbs x) L) (pos 0) (added s (pos d) z) t e (omega (arith, added-length s (pos d) z))))) in
+        let r = inside-span d (length s) h (λ e k. rw (added-at s (pos d) z e long) at (leb-true _ L (all-at (λ x. leb (natAbs x) L) (pos 0) (with-cycle s (pos d) z) t e (omega (arith, added-length s (pos d) z))))) in
         and-both _ _ (le-leb _ d (r .0)) (lt-ltb d _ (r .1)))
         (λ t.
-        let r = and-parts (leb (start L n s z (length s)) d) (ltb d (stop L n s z (length s))) t in
-        at-all (λ x. leb (natAbs x) L) (pos 0) (added s (pos d) z)
+        let r = and-parts (leb (first-within L n s z (length s)) d) (ltb d (end-within L n s z (length s))) t in
+        at-all (λ x. leb (natAbs x) L) (pos 0) (with-cycle s (pos d) z)
         (λ e k.
         le-leb _ L
         (rw (added-at s (pos d) z e long)
         (span-inside d (length s) h (leb-true _ d (r .0)) (ltb-true d _ (r .1)) e (omega (arith, added-length s (pos d) z))))))
 
-    pub block-kept : keep (within L) (map (λ d. added s (pos d) z) (below n)) ≡ block L n s z
-    unfolding block rows
+    pub block-kept : keep (within L) (map (λ d. with-cycle s (pos d) z) (below n)) ≡ block L n s z
+    unfolding block block-rows
     block-kept =
-        let from = start L n s z (length s) in
-        let to = stop L n s z (length s) in
-        keep-map (within L) (λ d. added s (pos d) z) (below n)
-        ∙ ap (map (λ d. added s (pos d) z)) (keep-between (λ d. within L (added s (pos d) z)) from to n (stop-bound L n s z (length s)) within-span)
-        ∙ map-map (λ d. added s (pos d) z) (λ i. from + i) (below (to - from))
+        let from = first-within L n s z (length s) in
+        let to = end-within L n s z (length s) in
+        keep-map (within L) (λ d. with-cycle s (pos d) z) (below n)
+        ∙ ap (map (λ d. with-cycle s (pos d) z)) (keep-between (λ d. within L (with-cycle s (pos d) z)) from to n (stop-bound L n s z (length s)) within-span)
+        ∙ map-map (λ d. with-cycle s (pos d) z) (λ i. from + i) (below (to - from))

@@ -1,5 +1,4 @@
 pub mod Signs
-pub mod Adding
 pub mod Counter
 pub mod Candidates
 pub mod Combined
@@ -7,14 +6,8 @@ pub mod Interval
 pub mod BlockValues
 pub mod Walk
 pub mod Uncharged
-pub mod Paths
-pub mod Rows
-pub mod PathTables
-pub mod CycleTables
 pub mod Stepping
 pub mod Narrowing
 pub mod BlockRows
 pub mod BlockStates
 pub mod Fitting
-pub mod Limits
-pub mod Enumerating

@@ -18,8 +18,8 @@ use Rattle.mathematics.proofs.Tests.{and-parts, and-both, same-tests}
 use Rattle.mathematics.proofs.Integers.{negative, parts, one-part, the, _⊟_, test-less}
 use Rattle.mathematics.proofs.Signed.{size-difference, size-fits, small-back}
 use Rattle.walker.specs.declared.blocks.Span.{Span}
-use Rattle.walker.specs.Walker.{excess, entry-start, entry-stop, start, stop, block}
-use Rattle.walker.specs.Blocks.{Narrowed, SpanTo, Spans}
+use Rattle.walker.specs.Walker.{excess, entry-start, entry-stop, first-within, end-within, block}
+use Rattle.walker.specs.Blocks.{Narrowed, SpanTo, SpanOfBlock}
 use Rattle.walker.proofs.Interval.{stop-bound}
 use Rattle.walker.proofs.BlockRows.{rows-none}
 
@@ -78,11 +78,11 @@ module _ (L n : ℕ) (x s : ℤ) (span : Span) (bound : span .to ≤ n) where
 
 -- ---- entry after entry
 pub span-none : (L n : ℕ) (s z : List ℤ) → SpanTo L n s z 0 (record { from = 0; to = n })
-unfolding start stop
+unfolding first-within end-within
 span-none L n s z = record { from = refl; to = refl }
 
 pub span-more : (L n : ℕ) (s z : List ℤ) (m : ℕ) (old new : Span) → SpanTo L n s z m old → Narrowed L n (getD s m (pos 0)) (getD z m (pos 0)) old new → SpanTo L n s z (m + 1) new
-unfolding start stop
+unfolding first-within end-within
 span-more L n s z m old new h k =
     let x = getD s m (pos 0) in
     let y = getD z m (pos 0) in
@@ -93,17 +93,17 @@ module _ (L n : ℕ) (s z : List ℤ) (m : ℕ) (r : Span) (h : SpanTo L n s z m
   span-bound = rw (h .to) (stop-bound L n s z m)
 
   -- more entries narrow it further
-  narrower : (d : ℕ) → (start L n s z m ≤ start L n s z (m + d)) × (stop L n s z (m + d) ≤ stop L n s z m)
-  unfolding start stop
+  narrower : (d : ℕ) → (first-within L n s z m ≤ first-within L n s z (m + d)) × (end-within L n s z (m + d) ≤ end-within L n s z m)
+  unfolding first-within end-within
   narrower zero = rw (add-zero m) (omega arith, omega arith)
   narrower (suc d) = let k = narrower d in rw (add-suc m d) (omega (arith, k .0), omega (arith, k .1))
 
   -- all entries, or the span is empty already
-  pub span-all : m ≡ length s → Spans L n s z r
+  pub span-all : m ≡ length s → SpanOfBlock L n s z r
   unfolding block
   span-all e = record { is = rw (h .from, h .to, e); bound = span-bound }
 
-  pub span-empty : m ≤ length s → r .to ≤ r .from → Spans L n s z r
+  pub span-empty : m ≤ length s → r .to ≤ r .from → SpanOfBlock L n s z r
   unfolding block
   span-empty few none =
       let e : m + (length s - m) ≡ length s = omega arith in

@@ -10,13 +10,13 @@ use lib.IntN.{ℤ, pos, negℤ, natAbs, _*ℤ_}
 use lib.Signed.{ltZ}
 use lib.ListN.{getD, length, List·getD-eq-default}
 use Rattle.mathematics.proofs.Signed.{size-sum, size-sign}
-use Rattle.walker.specs.Cycles.{row, added}
-use Rattle.walker.specs.Walker.{combined, counted-up, stepped}
+use Rattle.cycles.specs.Cycles.{row, with-cycle}
+use Rattle.walker.specs.Walker.{sum-of-cycles, counted-up, stepped}
 use Rattle.walker.specs.Steps.{Small, Addable, CyclesFit}
-use Rattle.walker.proofs.Adding.{added-at}
-use Rattle.walker.proofs.Rows.{row-at, row-length}
+use Rattle.cycles.proofs.Adding.{added-at}
+use Rattle.cycles.proofs.Rows.{row-at, row-length}
 
-pub added-small : (s : List ℤ) (t : ℤ) (z : List ℤ) (B T : ℕ) → length z ≡ length s → Small B s → natAbs t ≤ T → Small 1 z → Small (B + T) (added s t z)
+pub added-small : (s : List ℤ) (t : ℤ) (z : List ℤ) (B T : ℕ) → length z ≡ length s → Small B s → natAbs t ≤ T → Small 1 z → Small (B + T) (with-cycle s t z)
 added-small s t z B T long values few signs e =
     rw (added-at s t z e long)
     (omega (arith, values e, size-sign t (getD z e (pos 0)) (signs e), size-sum (getD s e (pos 0)) (t *ℤ getD z e (pos 0))))
@@ -38,18 +38,18 @@ module _ (m n L : ℕ) (cycles : List ℤ) (fit : CyclesFit m n L cycles) where
       record { sized = cycle-long j inside ∙ sym long; values = values; times = few; signs = cycle-signs j inside }
 
 -- ---- from zeros to the lowest candidate
-pub combined-next : (cycle : ℕ → List ℤ) (x : ℕ → ℤ) (p : List ℤ) (j : ℕ) → combined cycle x p (j + 1) ≡ added (combined cycle x p j) (x j) (cycle j)
-unfolding combined
+pub combined-next : (cycle : ℕ → List ℤ) (x : ℕ → ℤ) (p : List ℤ) (j : ℕ) → sum-of-cycles cycle x p (j + 1) ≡ with-cycle (sum-of-cycles cycle x p j) (x j) (cycle j)
+unfolding sum-of-cycles
 combined-next cycle x p j = rw (add-one j)
 
 -- ---- one digit of a step
 module _ (free : List ℕ) (cycle : ℕ → List ℤ) (L n j : ℕ) (s : List ℤ) where
-  pub step-here : j < n → ltZ (getD s (getD free j 0) (pos 0)) (pos L) ≡ true → stepped free cycle L (n - j) j s ≡ added s (pos 1) (cycle j)
+  pub step-here : j < n → ltZ (getD s (getD free j 0) (pos 0)) (pos L) ≡ true → stepped free cycle L (n - j) j s ≡ with-cycle s (pos 1) (cycle j)
   unfolding stepped counted-up
   step-here h t = let e : n - j ≡ suc (n - (j + 1)) = omega arith in rw (e, t)
 
   pub step-on : j < n → ltZ (getD s (getD free j 0) (pos 0)) (pos L) ≡ false
-      → stepped free cycle L (n - j) j s ≡ stepped free cycle L (n - (j + 1)) (j + 1) (added s (negℤ (pos (2 * L))) (cycle j))
+      → stepped free cycle L (n - j) j s ≡ stepped free cycle L (n - (j + 1)) (j + 1) (with-cycle s (negℤ (pos (2 * L))) (cycle j))
   unfolding stepped counted-up
   step-on h t = let e : n - j ≡ suc (n - (j + 1)) = omega arith in rw (e, t, add-one j)
 

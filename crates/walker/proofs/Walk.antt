@@ -6,10 +6,10 @@ use mathlib.Core.Path.{_≡_, refl, sym, _∙_, ap}
 use native.Mathlib.Omega.{arith}
 use native.Mathlib.Nat.{pow-zero}
 use native.Mathlib.Decide.{decLt}
-use lib.IntN.{ℤ, pos, _+ℤ_, _-ℤ_, _*ℤ_, negℤ, natAbs, zero-*ℤ, +ℤ-idr}
+use lib.IntN.{ℤ, pos, _+ℤ_, _-ℤ_, negℤ, natAbs, zero-*ℤ, +ℤ-idr}
 use lib.Signed.{ltZ}
 use lib.ListN.{getD, length, replicate, length-replicate}
-use Rattle.mathematics.specs.Integers.{sum}
+use Rattle.mathematics.specs.Integers.{sum-below}
 use Rattle.mathematics.specs.Counting.{below, keep, counted, applied}
 use Rattle.mathematics.proofs.Integers.{positive, negative, integral, parts, parts-size, one-part, the, _⊞_, _⊟_, test-less, test-not-less}
 use Rattle.mathematics.proofs.Flat.{keep-flatMap, flatMap-same, map-flatMap, flatMap-map}
@@ -17,7 +17,7 @@ use Rattle.mathematics.proofs.Maps.{map-same}
 use Rattle.complex.specs.Complex.{Complex}
 use Rattle.complex.specs.Judge.{Accepted}
 use Rattle.gauss_law.specs.Listing.{free-edges, values, listing}
-use Rattle.walker.specs.Cycles.{added, Tables}
+use Rattle.cycles.specs.Cycles.{with-cycle, Tables}
 use Rattle.walker.specs.Walker.{counted-up, stepped, block, width, walked, walked-states}
 use Rattle.mathematics.proofs.Pasted.{entry-set}
 use Rattle.walker.proofs.Counter.{moved, up-from, up, up-later, up-length, value, after, after-length, counted-steps}
@@ -26,8 +26,8 @@ use Rattle.gauss_law.proofs.Accepted.{accepted-tree}
 use Rattle.walker.proofs.Combined.{chosen-small}
 use Rattle.walker.proofs.Interval.{block-kept}
 
-added-none : (s z : List ℤ) → added s (pos 0) z ≡ s
-unfolding added
+added-none : (s z : List ℤ) → with-cycle s (pos 0) z ≡ s
+unfolding with-cycle
 added-none [] z = refl
 added-none (x ∷ s) [] = refl
 added-none (x ∷ s) (y ∷ z) = rw (zero-*ℤ y, +ℤ-idr x, added-none s z)
@@ -72,7 +72,7 @@ record Digits (c : Complex) (q : ℕ → ℤ) (L : ℕ) (s : List ℤ) : Type 0 
   small : Small L digits
   chosen : Chosen c q digits s
 
-module _ (c : Complex) (accepted : Accepted c) (q : ℕ → ℤ) (charges : sum q (c .vertices) ≡ pos 0) (free : List ℕ) (cycle : ℕ → List ℤ) (tables : Tables c free cycle)
+module _ (c : Complex) (accepted : Accepted c) (q : ℕ → ℤ) (charges : sum-below q (c .vertices) ≡ pos 0) (free : List ℕ) (cycle : ℕ → List ℤ) (tables : Tables c free cycle)
     (L : ℕ) (s : List ℤ) (lowest : Chosen c q (replicate (length (free-edges c)) (value L zero)) s) where
   -- ---- with m free edges more than one
   module _ (m : ℕ) (number : length (free-edges c) ≡ suc m) where
@@ -93,7 +93,7 @@ module _ (c : Complex) (accepted : Accepted c) (q : ℕ → ℤ) (charges : sum 
     unfolding positive negative
     value-up d = omega (integral, parts (the (pos zero) ⊟ the (pos L) ⊞ the (pos d)), parts (the (pos d) ⊟ the (pos L)))
 
-    in-block : (k d : ℕ) → candidate c accepted q charges (value L d ∷ rest k) ≡ added (walked free cycle L (suc m) s k) (pos d) (cycle 0)
+    in-block : (k d : ℕ) → candidate c accepted q charges (value L d ∷ rest k) ≡ with-cycle (walked free cycle L (suc m) s k) (pos d) (cycle 0)
     unfolding moved
     in-block k d =
         chosen-candidate c accepted q charges (value L d ∷ rest k) _
@@ -108,7 +108,7 @@ module _ (c : Complex) (accepted : Accepted c) (q : ℕ → ℤ) (charges : sum 
         rw (
           map-map (λ x. x ∷ rest k) (value L) (below (2 * L + 1)),
           map-map (candidate c accepted q charges) (λ d. value L d ∷ rest k) (below (2 * L + 1)),
-          map-same (λ d. candidate c accepted q charges (value L d ∷ rest k)) (λ d. added S (pos d) (cycle 0)) (below (2 * L + 1)) (in-block k),
+          map-same (λ d. candidate c accepted q charges (value L d ∷ rest k)) (λ d. with-cycle S (pos d) (cycle 0)) (below (2 * L + 1)) (in-block k),
         )
         (block-kept L (2 * L + 1) S (cycle 0) (tables .first-signs) long)
 

@@ -1,6 +1,4 @@
-pub mod Cycles
 pub mod Walker
 pub mod Steps
 pub mod Blocks
 pub mod Tables
-pub mod Enumeration

@@ -4,7 +4,7 @@ use mathlib.Core.List.{List}
 use mathlib.Core.Path.{_≡_}
 use lib.IntN.{ℤ, pos, natAbs}
 use lib.ListN.{getD, length}
-use Rattle.walker.specs.Cycles.{row}
+use Rattle.cycles.specs.Cycles.{row}
 use Rattle.walker.specs.Walker.{walked}
 
 -- every value of the list is at most the bound in size

@@ -8,8 +8,8 @@ use Rattle.complex.specs.Complex.{Complex}
 use Rattle.complex.specs.Judge.{Accepted}
 use Rattle.gauss_law.specs.Listing.{free-edges}
 use Rattle.walker.specs.declared.tables.Walker.{Walker}
-use Rattle.walker.specs.Cycles.{row, CycleTable}
-use Rattle.walker.specs.Walker.{lowest, walked-states}
+use Rattle.cycles.specs.Cycles.{row, CycleTable}
+use Rattle.walker.specs.Walker.{lowest-candidate, walked-states}
 use Rattle.walker.specs.Steps.{Walkable}
 
 -- the tables of an accepted complex
@@ -24,7 +24,7 @@ pub record Walks (c : Complex) (w : Walker) : Type 0 where
 
 -- where the walk begins
 unfoldable pub begin-of : Walker → ℕ → List ℤ
-begin-of w L = lowest (row (w .«n_edges») (w .cycles)) L (w .«n_edges») (w .«n_free»)
+begin-of w L = lowest-candidate (row (w .«n_edges») (w .cycles)) L (w .«n_edges») (w .«n_free»)
 
 -- the states of the first k blocks
 unfoldable pub states-of : Walker → ℕ → ℕ → List (List ℤ)

@@ -8,7 +8,7 @@ use lib.Signed.{ltZ}
 use lib.ListN.{getD, length, replicate}
 use Rattle.mathematics.specs.Integers.{equal}
 use Rattle.mathematics.specs.Counting.{below, applied}
-use Rattle.walker.specs.Cycles.{added}
+use Rattle.cycles.specs.Cycles.{with-cycle}
 
 -- One step of a counter with digits from -L to L, of which n are looked at from number j on: the first that is below L goes up by one,
 -- and those before it go from L back to -L.
@@ -19,16 +19,16 @@ module _ {A : Type 0} (digit : A → ℕ → ℤ) (move : A → ℤ → ℕ → 
 
 -- the step of an assignment: its digits are the values on the free edges, and a digit is moved by the cycle of its edge
 unfoldable pub stepped : List ℕ → (ℕ → List ℤ) → ℕ → ℕ → ℕ → List ℤ → List ℤ
-stepped free cycle L n j s = counted-up (λ s j. getD s (getD free j 0) (pos 0)) (λ s t j. added s t (cycle j)) L n j s
+stepped free cycle L n j s = counted-up (λ s j. getD s (getD free j 0) (pos 0)) (λ s t j. with-cycle s t (cycle j)) L n j s
 
 -- to p each of the first n cycles is added, the j-th one x j times
-unfoldable pub combined : (ℕ → List ℤ) → (ℕ → ℤ) → List ℤ → ℕ → List ℤ
-combined cycle x p zero = p
-combined cycle x p (suc n) = added (combined cycle x p n) (x n) (cycle n)
+unfoldable pub sum-of-cycles : (ℕ → List ℤ) → (ℕ → ℤ) → List ℤ → ℕ → List ℤ
+sum-of-cycles cycle x p zero = p
+sum-of-cycles cycle x p (suc n) = with-cycle (sum-of-cycles cycle x p n) (x n) (cycle n)
 
 -- the candidate with -L on each of n free edges, for m edges and no charges
-unfoldable pub lowest : (ℕ → List ℤ) → ℕ → ℕ → ℕ → List ℤ
-lowest cycle L m n = combined cycle (λ j. negℤ (pos L)) (replicate m (pos 0)) n
+unfoldable pub lowest-candidate : (ℕ → List ℤ) → ℕ → ℕ → ℕ → List ℤ
+lowest-candidate cycle L m n = sum-of-cycles cycle (λ j. negℤ (pos L)) (replicate m (pos 0)) n
 
 -- how far a is above b, 0 where it is not
 unfoldable pub excess : ℤ → ℤ → ℕ
@@ -42,21 +42,21 @@ unfoldable pub entry-stop : ℕ → ℕ → ℤ → ℤ → ℕ
 entry-stop L n x s = cond (equal s (pos 0)) n (excess (pos (suc L)) (s *ℤ x))
 
 -- the same of s, s + z, s + 2 z, .., by the first m entries
-unfoldable pub start : ℕ → ℕ → List ℤ → List ℤ → ℕ → ℕ
-start L n s z zero = 0
-start L n s z (suc m) = max (start L n s z m) (entry-start L n (getD s m (pos 0)) (getD z m (pos 0)))
+unfoldable pub first-within : ℕ → ℕ → List ℤ → List ℤ → ℕ → ℕ
+first-within L n s z zero = 0
+first-within L n s z (suc m) = max (first-within L n s z m) (entry-start L n (getD s m (pos 0)) (getD z m (pos 0)))
 
-unfoldable pub stop : ℕ → ℕ → List ℤ → List ℤ → ℕ → ℕ
-stop L n s z zero = n
-stop L n s z (suc m) = min (stop L n s z m) (entry-stop L n (getD s m (pos 0)) (getD z m (pos 0)))
+unfoldable pub end-within : ℕ → ℕ → List ℤ → List ℤ → ℕ → ℕ
+end-within L n s z zero = n
+end-within L n s z (suc m) = min (end-within L n s z m) (entry-stop L n (getD s m (pos 0)) (getD z m (pos 0)))
 
 -- those of them with the numbers from one to before another
-unfoldable pub rows : List ℤ → List ℤ → ℕ → ℕ → List (List ℤ)
-rows s z from to = map (λ i. added s (pos (from + i)) z) (below (to - from))
+unfoldable pub block-rows : List ℤ → List ℤ → ℕ → ℕ → List (List ℤ)
+block-rows s z from to = map (λ i. with-cycle s (pos (from + i)) z) (below (to - from))
 
 -- those of them that are within -L to L in every entry
 unfoldable pub block : ℕ → ℕ → List ℤ → List ℤ → List (List ℤ)
-block L n s z = rows s z (start L n s z (length s)) (stop L n s z (length s))
+block L n s z = block-rows s z (first-within L n s z (length s)) (end-within L n s z (length s))
 
 -- the number of candidates in a block, of n free edges
 unfoldable pub width : ℕ → ℕ → ℕ

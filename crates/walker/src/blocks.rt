@@ -8,13 +8,13 @@ ghost use Prim.Native.Nat.{_+_, _*_, _-_, _^_, _<_, _≤_, min, max};
 ghost use lib.ListN.{length};
 ghost use lib.Dec.{leb};
 ghost use mathlib.Core.List.{flatten};
-ghost use lib.IntN.{ℤ, pos, natAbs, _*ℤ_};
+ghost use lib.IntN.{pos, natAbs, _*ℤ_};
 ghost use Rattle.mathematics.specs.Integers.{equal};
-ghost use Rattle.walker.specs.Walker.{excess, rows};
+ghost use Rattle.walker.specs.Walker.{excess, block-rows};
 ghost use Rattle.walker.specs.Steps.{Small, Addable};
-ghost use Rattle.walker.specs.Cycles.{added};
+ghost use Rattle.cycles.specs.Cycles.{with-cycle};
 ghost use Rattle.mathematics.specs.Writing.{put};
-ghost use Rattle.walker.specs.Blocks.{Narrowed, Spans};
+ghost use Rattle.walker.specs.Blocks.{Narrowed, SpanOfBlock};
 
 // The numbers from one to before another.
 pub struct Span {
@@ -90,7 +90,7 @@ fn narrow(span: Span, x: i32, sign: i8, lambda: usize, width: usize) -> Span
 // The multiples of a cycle that keep an assignment within the bounds, below a width.
 pub fn interval(config: &[i32], cycle: &[i8], lambda: usize, width: usize) -> Span
     requires { ⌜ (length (now cycle) ≡ length (now config)) × Small (2 ^ 20) (now config) × Small 1 (now cycle) × (lambda ≤ 1000) ⌝ }
-    ensures { λ r. ⌜ Spans lambda width (now (config .entry)) (now (cycle .entry)) r ⌝ }
+    ensures { λ r. ⌜ SpanOfBlock lambda width (now (config .entry)) (now (cycle .entry)) r ⌝ }
 {
     let mut span = Span { from: 0, to: width };
     for e in 0..config.len() {
@@ -115,7 +115,7 @@ pub fn size(span: Span) -> usize
 // An assignment with a cycle added a number of times goes to a place of the list.
 fn write_row(states: &mut [i32], at: usize, config: &[i32], cycle: &[i8], times: usize)
     requires { ⌜ Addable (now config) (pos times) (now cycle) × (times ≤ 2 ^ 20) × (at + length (now config) ≤ length (now states)) ⌝ }
-    ensures { λ _. ⌜ now (states .exit) ≡ put (now (states .entry)) at (added (now (config .entry)) (pos times) (now (cycle .entry))) ⌝ }
+    ensures { λ _. ⌜ now (states .exit) ≡ put (now (states .entry)) at (with-cycle (now (config .entry)) (pos times) (now (cycle .entry))) ⌝ }
 {
     let t = signed(times);
     for e in 0..config.len() {
@@ -126,7 +126,7 @@ fn write_row(states: &mut [i32], at: usize, config: &[i32], cycle: &[i8], times:
 // The states of a block go to a place of the list, one after the other.
 pub fn write_block(states: &mut [i32], at: usize, config: &[i32], cycle: &[i8], span: Span)
     requires { ⌜ Addable (now config) (pos 0) (now cycle) × (span .to ≤ 2 ^ 20) × (at + (span .to - span .from) * length (now config) ≤ length (now states)) ⌝ }
-    ensures { λ _. ⌜ now (states .exit) ≡ put (now (states .entry)) at (flatten (rows (now (config .entry)) (now (cycle .entry)) (span .from) (span .to))) ⌝ }
+    ensures { λ _. ⌜ now (states .exit) ≡ put (now (states .entry)) at (flatten (block-rows (now (config .entry)) (now (cycle .entry)) (span .from) (span .to))) ⌝ }
 {
     let m = config.len();
     let mut place = at;

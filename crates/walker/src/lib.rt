@@ -1,8 +1,6 @@
 // The walk over all states of a complex, and the list that it gives.
 
 pub mod blocks;
-pub mod cycles;
-pub mod enumerate;
 pub mod row;
 pub mod states;
 pub mod steps;

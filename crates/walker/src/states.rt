@@ -9,10 +9,10 @@ ghost use mathlib.Core.Path.{_≡_};
 ghost use mathlib.Core.List.{[]};
 ghost use Prim.Native.Nat.{_*_, _<_, _≤_};
 ghost use lib.ListN.{getD, length};
-ghost use Rattle.walker.specs.Cycles.{row};
+ghost use Rattle.cycles.specs.Cycles.{row};
 ghost use Rattle.walker.specs.Walker.{width, walked-states};
 ghost use Rattle.walker.specs.Steps.{Walkable};
-ghost use Rattle.walker.specs.Blocks.{Written};
+ghost use Rattle.walker.specs.Blocks.{StatesWritten};
 
 // The number of candidates in a block.
 pub fn width(n_free: usize, lambda: usize) -> usize
@@ -54,7 +54,7 @@ pub fn write_blocks(
     blocks: usize,
 ) -> usize
     requires { ⌜ Walkable (now free) (now cycles) lambda «n_free» (now config) blocks × (length (walked-states (now free) (row (length (now config)) (now cycles)) lambda «n_free» (now config) blocks) * length (now config) ≤ length (now states)) ⌝ }
-    ensures { λ r. ⌜ Written (walked-states (now (free .entry)) (row (length (now (config .entry))) (now (cycles .entry))) lambda «n_free» (now (config .entry)) blocks) (now (states .entry)) (now (states .exit)) r ⌝ }
+    ensures { λ r. ⌜ StatesWritten (walked-states (now (free .entry)) (row (length (now (config .entry))) (now (cycles .entry))) lambda «n_free» (now (config .entry)) blocks) (now (states .entry)) (now (states .exit)) r ⌝ }
 {
     let m = config.len();
     let n = width(n_free, lambda);

@@ -1,11 +1,11 @@
 // One lawful assignment, moved by fundamental cycles: where the walk begins, and its steps.
-use complex::judge::byte;
+use complex::numbering::byte;
 ghost use mathlib.Core.Path.{_≡_};
 ghost use Prim.Native.Nat.{_+_, _*_, _-_, _^_, _<_, _≤_};
 ghost use lib.ListN.{length, replicate};
-ghost use lib.IntN.{ℤ, pos, negℤ, natAbs, _+ℤ_, _*ℤ_};
-ghost use Rattle.walker.specs.Cycles.{row, added};
-ghost use Rattle.walker.specs.Walker.{stepped, lowest};
+ghost use lib.IntN.{pos, negℤ, natAbs, _+ℤ_, _*ℤ_};
+ghost use Rattle.cycles.specs.Cycles.{row, with-cycle};
+ghost use Rattle.walker.specs.Walker.{stepped, lowest-candidate};
 ghost use Rattle.walker.specs.Steps.{Small, Addable, CyclesFit, FreeFit};
 
 pub fn wide(x: i8) -> i32
@@ -40,7 +40,7 @@ pub fn plus(x: i32, times: i32, sign: i8) -> i32
 // A cycle added to an assignment a number of times.
 pub fn add(config: &mut [i32], cycle: &[i8], times: i32)
     requires { ⌜ Addable (now config) times (now cycle) ⌝ }
-    ensures { λ _. ⌜ now (config .exit) ≡ added (now (config .entry)) times (now (cycle .entry)) ⌝ }
+    ensures { λ _. ⌜ now (config .exit) ≡ with-cycle (now (config .entry)) times (now (cycle .entry)) ⌝ }
 {
     for e in 0..config.len() {
         config[e] = plus(config[e], times, cycle[e]);
@@ -50,7 +50,7 @@ pub fn add(config: &mut [i32], cycle: &[i8], times: i32)
 // From zeros to the candidate with -lambda on every free edge.
 pub fn begin(config: &mut [i32], cycles: &[i8], n_free: usize, lambda: usize)
     requires { ⌜ (now config ≡ replicate (length (now config)) (pos 0)) × CyclesFit (length (now config)) «n_free» lambda (now cycles) ⌝ }
-    ensures { λ _. ⌜ now (config .exit) ≡ lowest (row (length (now (config .entry))) (now (cycles .entry))) lambda (length (now (config .entry))) «n_free» ⌝ }
+    ensures { λ _. ⌜ now (config .exit) ≡ lowest-candidate (row (length (now (config .entry))) (now (cycles .entry))) lambda (length (now (config .entry))) «n_free» ⌝ }
 {
     let m = config.len();
     let low = minus(lambda);

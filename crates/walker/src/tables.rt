@@ -1,12 +1,12 @@
 // The tables of a record, by which its states are walked.
-use crate::cycles::fundamental_cycles;
-use crate::cycles::tree_paths;
 use crate::states::count_blocks;
 use crate::states::find_state;
 use crate::states::write_blocks;
 use crate::steps::begin;
 use complex::SimplicialComplex;
 use complex::search::search;
+use cycles::fundamental_cycles;
+use cycles::tree_paths;
 use gauss_law::spanning::free_edges;
 ghost use mathlib.Core.Path.{_≡_};
 ghost use mathlib.Core.List.{[]};
@@ -15,7 +15,7 @@ ghost use lib.ListN.{getD, length, take};
 ghost use Rattle.complex.specs.Complex.{complexOf};
 ghost use Rattle.complex.specs.Judge.{refusal};
 ghost use Rattle.walker.specs.Tables.{Walks, states-of, Fit};
-ghost use Rattle.walker.specs.Blocks.{Written};
+ghost use Rattle.walker.specs.Blocks.{StatesWritten};
 
 // The first n_free entries of free are the free edges; row j of cycles is the cycle of the j-th.
 pub struct Walker {
@@ -60,7 +60,7 @@ pub fn count_states(w: Walker, lambda: usize, blocks: usize) -> usize
 // The states of the first blocks go to the beginning of a list. How many they are.
 pub fn write_states(w: Walker, lambda: usize, blocks: usize, states: &mut [i32]) -> usize
     requires { ⌜ Fit w lambda blocks × (length (states-of w lambda blocks) * w .«n_edges» ≤ length (now states)) ⌝ }
-    ensures { λ r. ⌜ Written (states-of w lambda blocks) (now (states .entry)) (now (states .exit)) r ⌝ }
+    ensures { λ r. ⌜ StatesWritten (states-of w lambda blocks) (now (states .entry)) (now (states .exit)) r ⌝ }
 {
     let free = w.free;
     let n_free = w.n_free;

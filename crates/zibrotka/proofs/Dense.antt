@@ -9,15 +9,15 @@ use lib.Ieee.{Float}
 use Rattle.mathematics.specs.Refusals.{Outcome, outcome, written}
 use Rattle.complex.specs.Complex.{complexOf}
 use Rattle.sheet.specs.Sheet.{sheetIn}
-use Rattle.walker.specs.declared.enumerate.Enumerated.{Enumerated}
-use Rattle.walker.specs.Enumeration.{enumeratedAnswer}
+use Rattle.gauss_law.specs.declared.answer.Enumerated.{Enumerated}
+use Rattle.gauss_law.specs.Answer.{enumeratedAnswer}
 use Rattle.matrices.specs.declared.coupling.KSParams.{KSParams}
 use Rattle.matrices.specs.Coupling.{coupling-refusal, couplingOutcome}
-use Rattle.hamiltonian.specs.Dense.{Built}
+use Rattle.hamiltonian.specs.Dense.{U1Built}
 use Rattle.su2_quantum.specs.Dense.{Su2Built}
 use Rattle.zibrotka.specs.declared.Told.{Told}
 use Rattle.zibrotka.specs.declared.Opened.{Opened}
-use Rattle.zibrotka.specs.Exports.{signed, toldOf, signedOf, OpenedOf, complexIn, zeroOf, threeOf, Stored, Params, Matrices, Su2Matrices}
+use Rattle.zibrotka.specs.Exports.{signed, toldOf, signedOf, OpenedOf, complexIn, zeroOf, threeOf, Stored, ExportedParams, ExportedMatrix, ExportedSu2Matrix}
 use Rattle.zibrotka.proofs.Signs.{small-told}
 use Rattle.zibrotka.proofs.OnSheets.{stopped-told, stopped-kept, sheet-held, sheet-goes-on, call-told}
 
@@ -32,7 +32,7 @@ unfolding threeOf outcome written
 three-outcome zero p before = refl
 three-outcome (suc n) p before = refl
 
-pub params-told : (g : Float) (own : KSParams) (a : Outcome KSParams) → a ≡ couplingOutcome g own → (before : List Float) (r : ℤ) (after : List Float) → Stored a before r after → Params g own before r after
+pub params-told : (g : Float) (own : KSParams) (a : Outcome KSParams) → a ≡ couplingOutcome g own → (before : List Float) (r : ℤ) (after : List Float) → Stored a before r after → ExportedParams g own before r after
 unfolding couplingOutcome
 params-told g own a e before r after s =
     record {
@@ -42,7 +42,7 @@ params-told g own a e before r after s =
 
 -- ---- the matrix of U(1)
 module _ (b : List ℕ) (p : KSParams) (given : Bool) (weights : List Float) (work : List ℤ) (result : List Float) (o : Opened) (read : OpenedOf b o) where
-  pub matrix-refused : (o .refusal ≡ 0 → ⊥) → (r : ℤ) → r ≡ negℤ (pos (o .refusal)) → Matrices b p given weights work result r work result
+  pub matrix-refused : (o .refusal ≡ 0 → ⊥) → (r : ℤ) → r ≡ negℤ (pos (o .refusal)) → ExportedMatrix b p given weights work result r work result
   matrix-refused some r is =
       record {
         answer = stopped-told b o read some _ _ r is;
@@ -50,11 +50,11 @@ module _ (b : List ℕ) (p : KSParams) (given : Bool) (weights : List Float) (wo
         result-list = stopped-kept b o read some _ _ result;
       }
 
-  module _ (none : o .refusal ≡ 0) (a : Enumerated) (work′ : List ℤ) (result′ : List Float) (made : Built (complexOf (o .sheet .complex)) (o .sheet .lambda) p given weights work result a work′ result′) where
-    matrix-held : Built (complexIn b) (sheetIn b .lambda) p given weights work result a work′ result′
+  module _ (none : o .refusal ≡ 0) (a : Enumerated) (work′ : List ℤ) (result′ : List Float) (made : U1Built (complexOf (o .sheet .complex)) (o .sheet .lambda) p given weights work result a work′ result′) where
+    matrix-held : U1Built (complexIn b) (sheetIn b .lambda) p given weights work result a work′ result′
     matrix-held = rw (sheet-held b o read none) at made
 
-    pub matrix-told : (t : Told) → t ≡ toldOf (enumeratedAnswer a) → (r : ℤ) → r ≡ signedOf t → Matrices b p given weights work result r work′ result′
+    pub matrix-told : (t : Told) → t ≡ toldOf (enumeratedAnswer a) → (r : ℤ) → r ≡ signedOf t → ExportedMatrix b p given weights work result r work′ result′
     matrix-told t is r d =
         record {
           answer = call-told b o read none t (enumeratedAnswer a) _ _ is (matrix-held .answer) r d;
@@ -67,7 +67,7 @@ module _ (b : List ℕ) (p : KSParams) (given : Bool) (weights : List Float) (wo
 
 -- ---- the matrix of the two-valued mode
 module _ (b : List ℕ) (p : KSParams) (given : Bool) (weights : List Float) (work : List ℕ) (result : List Float) (o : Opened) (read : OpenedOf b o) where
-  pub su2-matrix-refused : (o .refusal ≡ 0 → ⊥) → (r : ℤ) → r ≡ negℤ (pos (o .refusal)) → Su2Matrices b p given weights work result r work result
+  pub su2-matrix-refused : (o .refusal ≡ 0 → ⊥) → (r : ℤ) → r ≡ negℤ (pos (o .refusal)) → ExportedSu2Matrix b p given weights work result r work result
   su2-matrix-refused some r is =
       record {
         answer = stopped-told b o read some _ _ r is;
@@ -79,7 +79,7 @@ module _ (b : List ℕ) (p : KSParams) (given : Bool) (weights : List Float) (wo
     su2-matrix-held : Su2Built (complexIn b) p given weights work result a work′ result′
     su2-matrix-held = rw (sheet-held b o read none) at made
 
-    pub su2-matrix-told : (t : Told) → t ≡ toldOf (enumeratedAnswer a) → (r : ℤ) → r ≡ signedOf t → Su2Matrices b p given weights work result r work′ result′
+    pub su2-matrix-told : (t : Told) → t ≡ toldOf (enumeratedAnswer a) → (r : ℤ) → r ≡ signedOf t → ExportedSu2Matrix b p given weights work result r work′ result′
     su2-matrix-told t is r d =
         record {
           answer = call-told b o read none t (enumeratedAnswer a) _ _ is (su2-matrix-held .answer) r d;

@@ -5,17 +5,17 @@ use mathlib.Core.Path.{_≡_, sym, _∙_}
 use native.Mathlib.Omega.{arith}
 use lib.IntN.{ℤ, pos, negℤ}
 use Rattle.complex.specs.Complex.{complexOf}
-use Rattle.walker.specs.declared.enumerate.Enumerated.{Enumerated}
-use Rattle.walker.specs.Enumeration.{enumeratedAnswer}
-use Rattle.su2_quantum.specs.Basis.{Su2Listed}
+use Rattle.gauss_law.specs.declared.answer.Enumerated.{Enumerated}
+use Rattle.gauss_law.specs.Answer.{enumeratedAnswer}
+use Rattle.masks.specs.Basis.{Su2Listed}
 use Rattle.zibrotka.specs.declared.Told.{Told}
 use Rattle.zibrotka.specs.declared.Opened.{Opened}
-use Rattle.zibrotka.specs.Exports.{toldOf, signedOf, OpenedOf, complexIn, Masks}
+use Rattle.zibrotka.specs.Exports.{toldOf, signedOf, OpenedOf, complexIn, ExportedMasks}
 use Rattle.zibrotka.proofs.Signs.{small-told}
 use Rattle.zibrotka.proofs.OnSheets.{stopped, stopped-told, stopped-kept, sheet-held, sheet-goes-on, call-told}
 
 module _ (b old : List ℕ) (o : Opened) (read : OpenedOf b o) where
-  pub masks-refused : (o .refusal ≡ 0 → ⊥) → (r : ℤ) → r ≡ negℤ (pos (o .refusal)) → Masks b old r old
+  pub masks-refused : (o .refusal ≡ 0 → ⊥) → (r : ℤ) → r ≡ negℤ (pos (o .refusal)) → ExportedMasks b old r old
   masks-refused some r is =
       record {
         answer = stopped-told b o read some _ _ r is;
@@ -27,7 +27,7 @@ module _ (b old : List ℕ) (o : Opened) (read : OpenedOf b o) where
     masks-held : Su2Listed (complexIn b) old new a
     masks-held = rw (sheet-held b o read none) at given
 
-    pub masks-told : (t : Told) → t ≡ toldOf (enumeratedAnswer a) → (r : ℤ) → r ≡ signedOf t → Masks b old r new
+    pub masks-told : (t : Told) → t ≡ toldOf (enumeratedAnswer a) → (r : ℤ) → r ≡ signedOf t → ExportedMasks b old r new
     masks-told t e r d =
         record {
           answer = call-told b o read none t (enumeratedAnswer a) _ _ e (masks-held .answer) r d;

@@ -7,16 +7,16 @@ use lib.IntN.{ℤ, pos, negℤ}
 use lib.ListN.{length}
 use Rattle.complex.specs.Complex.{Complex, complexOf}
 use Rattle.sheet.specs.Sheet.{sheetIn}
-use Rattle.walker.specs.Enumeration.{states}
+use Rattle.gauss_law.specs.Listing.{states}
 use Rattle.hilbert.specs.declared.index.Index.{Index}
 use Rattle.hilbert.specs.Basis.{At}
 use Rattle.hilbert.specs.Index.{indexAnswer, Indexed}
-use Rattle.hilbert.specs.Shift.{Shifted}
-use Rattle.hamiltonian.specs.declared.triangle.TriangleShift.{TriangleShift}
-use Rattle.hamiltonian.specs.Triangle.{triangleAnswer, triangleOutcome, TriangleTold}
+use Rattle.hilbert.specs.Shift.{EdgeShiftTold}
+use Rattle.plaquettes.specs.declared.triangle.TriangleShift.{TriangleShift}
+use Rattle.plaquettes.specs.Triangle.{triangleAnswer, triangleOutcome, TriangleShiftTold}
 use Rattle.zibrotka.specs.declared.Told.{Told}
 use Rattle.zibrotka.specs.declared.Opened.{Opened}
-use Rattle.zibrotka.specs.Exports.{toldOf, signedOf, OpenedOf, complexIn, Places, ShiftedPlaces, TrianglePlaces}
+use Rattle.zibrotka.specs.Exports.{toldOf, signedOf, OpenedOf, complexIn, ExportedPlace, ExportedShift, ExportedTriangleShift}
 use Rattle.zibrotka.proofs.Signs.{small-told}
 use Rattle.zibrotka.proofs.OnSheets.{stopped, stopped-told, stopped-kept, sheet-held, sheet-goes-on, call-told}
 
@@ -26,7 +26,7 @@ place-small c L s p at few = omega arith
 
 -- ---- the place of a configuration
 module _ (b : List ℕ) (s old : List ℤ) (o : Opened) (read : OpenedOf b o) where
-  pub index-refused : (o .refusal ≡ 0 → ⊥) → (r : ℤ) → r ≡ negℤ (pos (o .refusal)) → Places b s old r old
+  pub index-refused : (o .refusal ≡ 0 → ⊥) → (r : ℤ) → r ≡ negℤ (pos (o .refusal)) → ExportedPlace b s old r old
   index-refused some r is =
       record {
         answer = stopped-told b o read some _ _ r is;
@@ -38,7 +38,7 @@ module _ (b : List ℕ) (s old : List ℤ) (o : Opened) (read : OpenedOf b o) wh
     index-held : Indexed (complexIn b) (sheetIn b .lambda) s old new a
     index-held = rw (sheet-held b o read none) at given
 
-    pub index-told : (t : Told) → t ≡ toldOf (indexAnswer a) → (r : ℤ) → r ≡ signedOf t → Places b s old r new
+    pub index-told : (t : Told) → t ≡ toldOf (indexAnswer a) → (r : ℤ) → r ≡ signedOf t → ExportedPlace b s old r new
     index-told t e r d =
         record {
           answer = call-told b o read none t (indexAnswer a) _ _ e (index-held .answer) r d;
@@ -51,7 +51,7 @@ module _ (b : List ℕ) (s old : List ℤ) (o : Opened) (read : OpenedOf b o) wh
 
 -- ---- the place of a shifted configuration
 module _ (b : List ℕ) (s : List ℤ) (e : ℕ) (delta : ℤ) (work result : List ℤ) (o : Opened) (read : OpenedOf b o) where
-  pub shift-refused : (o .refusal ≡ 0 → ⊥) → (r : ℤ) → r ≡ negℤ (pos (o .refusal)) → ShiftedPlaces b s e delta work result r work result
+  pub shift-refused : (o .refusal ≡ 0 → ⊥) → (r : ℤ) → r ≡ negℤ (pos (o .refusal)) → ExportedShift b s e delta work result r work result
   shift-refused some r is =
       record {
         answer = stopped-told b o read some _ _ r is;
@@ -60,11 +60,11 @@ module _ (b : List ℕ) (s : List ℤ) (e : ℕ) (delta : ℤ) (work result : Li
         found = λ z. absurd (stopped b o read some _ z);
       }
 
-  module _ (none : o .refusal ≡ 0) (a : Index) (work′ result′ : List ℤ) (given : Shifted (complexOf (o .sheet .complex)) (o .sheet .lambda) s e delta work result a work′ result′) where
-    shift-held : Shifted (complexIn b) (sheetIn b .lambda) s e delta work result a work′ result′
+  module _ (none : o .refusal ≡ 0) (a : Index) (work′ result′ : List ℤ) (given : EdgeShiftTold (complexOf (o .sheet .complex)) (o .sheet .lambda) s e delta work result a work′ result′) where
+    shift-held : EdgeShiftTold (complexIn b) (sheetIn b .lambda) s e delta work result a work′ result′
     shift-held = rw (sheet-held b o read none) at given
 
-    pub shift-told : (t : Told) → t ≡ toldOf (indexAnswer a) → (r : ℤ) → r ≡ signedOf t → ShiftedPlaces b s e delta work result r work′ result′
+    pub shift-told : (t : Told) → t ≡ toldOf (indexAnswer a) → (r : ℤ) → r ≡ signedOf t → ExportedShift b s e delta work result r work′ result′
     shift-told t is r d =
         record {
           answer = call-told b o read none t (indexAnswer a) _ _ is (shift-held .answer) r d;
@@ -78,7 +78,7 @@ module _ (b : List ℕ) (s : List ℤ) (e : ℕ) (delta : ℤ) (work result : Li
 
 -- ---- the place of a shifted state
 module _ (b : List ℕ) (n k : ℕ) (old : List ℤ) (o : Opened) (read : OpenedOf b o) where
-  pub triangle-refused : (o .refusal ≡ 0 → ⊥) → (r : ℤ) → r ≡ negℤ (pos (o .refusal)) → TrianglePlaces b n k old r old
+  pub triangle-refused : (o .refusal ≡ 0 → ⊥) → (r : ℤ) → r ≡ negℤ (pos (o .refusal)) → ExportedTriangleShift b n k old r old
   triangle-refused some r is =
       record {
         answer = stopped-told b o read some _ _ r is;
@@ -86,11 +86,11 @@ module _ (b : List ℕ) (n k : ℕ) (old : List ℤ) (o : Opened) (read : Opened
         found = λ z. absurd (stopped b o read some _ z);
       }
 
-  module _ (none : o .refusal ≡ 0) (a : TriangleShift) (new : List ℤ) (given : TriangleTold (complexOf (o .sheet .complex)) (o .sheet .lambda) n k old new a) where
-    triangle-held : TriangleTold (complexIn b) (sheetIn b .lambda) n k old new a
+  module _ (none : o .refusal ≡ 0) (a : TriangleShift) (new : List ℤ) (given : TriangleShiftTold (complexOf (o .sheet .complex)) (o .sheet .lambda) n k old new a) where
+    triangle-held : TriangleShiftTold (complexIn b) (sheetIn b .lambda) n k old new a
     triangle-held = rw (sheet-held b o read none) at given
 
-    pub triangle-told : (t : Told) → t ≡ toldOf (triangleAnswer a) → (r : ℤ) → r ≡ signedOf t → TrianglePlaces b n k old r new
+    pub triangle-told : (t : Told) → t ≡ toldOf (triangleAnswer a) → (r : ℤ) → r ≡ signedOf t → ExportedTriangleShift b n k old r new
     unfolding triangleOutcome
     triangle-told t e r d =
         record {

@@ -9,36 +9,37 @@ use lib.ListN.{length, drop}
 use lib.Dec.{eqb}
 use Rattle.mathematics.specs.Writing.{front}
 use Rattle.mathematics.specs.Refusals.{Outcome, value, refused, outcome, written}
-use Rattle.complex.specs.declared.triangle.TriEdgeIndices.{TriEdgeIndices as Indexes}
-use Rattle.complex.specs.declared.triangle.TriEdgeIndices.the-variants.{Indices, Refused as NoTriangle}
+use Rattle.triangles.specs.declared.TriEdgeIndices.{TriEdgeIndices as Indexes}
+use Rattle.triangles.specs.declared.TriEdgeIndices.the-variants.{Indices, Refused as NoTriangle}
 use Rattle.sheet.specs.declared.Reading.{Reading}
 use Rattle.sheet.specs.declared.Reading.the-variants.{Accepted, Refused}
 use Rattle.pentachora.specs.declared.FromPentachorons.{FromPentachorons}
 use Rattle.pentachora.specs.declared.FromPentachorons.the-variants.{Counts, Refused as NoComplex}
-use Rattle.gauss_law.specs.Gauss.{lawful}
-use Rattle.gauss_law.specs.Listing.{tree-edges, free-edges, Complete}
+use Rattle.gauss_law.specs.Gauss.{lawful, uncharged}
+use Rattle.gauss_law.specs.Listing.{tree-edges, free-edges, Complete, states}
 use Rattle.gauss_law.specs.Spanning.{tree-refusal}
 use Rattle.gauss_law.specs.Law.{law-refusal}
 use Rattle.gauss_law.specs.Shifts.{shifted}
-use Rattle.walker.specs.Enumeration.{states, basis-first, enumerated-refusal}
+use Rattle.enumeration.specs.Enumeration.{basis-first, enumerated-refusal}
 use Rattle.hilbert.specs.Basis.{place, At}
 use Rattle.hilbert.specs.Index.{index-refusal}
 use Rattle.hilbert.specs.Shift.{shift-refusal}
 use Rattle.matrices.specs.declared.coupling.KSParams.{KSParams}
 use Rattle.matrices.specs.Coupling.{coupling-refusal}
 use Rattle.matrices.specs.Weights.{weight}
-use Rattle.hamiltonian.specs.Dense.{dense, dense-refusal}
-use Rattle.hamiltonian.specs.Triangle.{shifted-state, triangle-refusal}
-use Rattle.su2_quantum.specs.EvenSets.{su2-states, EvenComplete}
-use Rattle.su2_quantum.specs.Basis.{su2-refusal}
+use Rattle.hamiltonian.specs.Dense.{u1-dense, u1-dense-refusal}
+use Rattle.plaquettes.specs.Triangle.{shifted-state, triangle-refusal}
+use Rattle.even_sets.specs.EvenSets.{su2-states, EvenComplete}
+use Rattle.masks.specs.Basis.{su2-basis-refusal}
 use Rattle.su2_quantum.specs.Dense.{su2-dense, su2-dense-refusal}
 use Rattle.zibrotka.specs.declared.Told.{Told}
 use Rattle.zibrotka.specs.declared.Opened.{Opened}
 use Rattle.zibrotka.specs.declared.Edges.{Edges}
 use Rattle.zibrotka.specs.declared.Numbers.{Numbers}
 use Rattle.complex.specs.Complex.{Complex, complexOf}
-use Rattle.complex.specs.Sides.{sides, sides-refusal}
-use Rattle.pentachora.specs.Pentachora.{faces, refusal-from}
+use Rattle.complex.specs.Sides.{sides}
+use Rattle.triangles.specs.Indices.{sides-refusal}
+use Rattle.pentachora.specs.Pentachora.{faces, pentachora-refusal}
 use Rattle.sheet.specs.Sheet.{sheetIn, reading-refusal, sheetBytes}
 use Rattle.sheet.specs.Making.{flatComplex, making-refusal}
 
@@ -47,6 +48,105 @@ unfoldable pub signed : Outcome ℕ → ℤ
 signed (value n) = pos n
 signed (refused n) = negℤ (pos n)
 
+-- yes is 1, no is 0
+unfoldable pub yesOf : Outcome Bool → Outcome ℕ
+yesOf (value b) = value (cond b 1 0)
+yesOf (refused n) = refused n
+
+-- zibrotka_make_sheet
+pub record ExportedMake (n : ℕ) (edges triangles : List ℕ) (lambda : ℕ) (before : List ℕ) (r : ℤ) (after : List ℕ) : Type 0 where
+  pub answer : r ≡ signed (outcome (making-refusal n edges triangles lambda (length before)) (length (sheetBytes (flatComplex n edges triangles) lambda)))
+  pub bytes : after ≡ written (making-refusal n edges triangles lambda (length before)) (front (sheetBytes (flatComplex n edges triangles) lambda) before) before
+
+-- zibrotka_read_sheet: the numbers and lists hold the sheet's, or on a refusal what they held
+pub record ExportedRead (b : List ℕ) (v e t l : ℕ) (edges triangles : List ℕ) (r : ℤ) (v′ e′ t′ l′ : ℕ) (edges′ triangles′ : List ℕ) : Type 0 where
+  pub answer : r ≡ signed (outcome (reading-refusal b) 0)
+  pub vertices : v′ ≡ written (reading-refusal b) (sheetIn b .complex .«n_vertices») v
+  pub edge-count : e′ ≡ written (reading-refusal b) (sheetIn b .complex .«n_edges») e
+  pub triangle-count : t′ ≡ written (reading-refusal b) (sheetIn b .complex .«n_triangles») t
+  pub truncation : l′ ≡ written (reading-refusal b) (sheetIn b .lambda) l
+  pub edge-list : edges′ ≡ written (reading-refusal b) (sheetIn b .complex .edges) edges
+  pub triangle-list : triangles′ ≡ written (reading-refusal b) (sheetIn b .complex .triangles) triangles
+
+-- the complex that a sheet's bytes hold
+abbrev pub complexIn : List ℕ → Complex
+complexIn b = complexOf (sheetIn b .complex)
+
+-- the refusal of a sheet, or where it has none that of the call on what the sheet holds
+unfoldable pub after-sheet : List ℕ → ℕ → ℕ
+after-sheet b own = cond (eqb (reading-refusal b) 0) own (reading-refusal b)
+
+-- zibrotka_tri_edge_indices
+pub record ExportedIndices (b : List ℕ) (t : ℕ) (before : List ℕ) (r : ℤ) (after : List ℕ) : Type 0 where
+  pub answer : r ≡ signed (outcome (after-sheet b (sides-refusal (complexIn b) t)) 0)
+  pub indices : after ≡ written (after-sheet b (sides-refusal (complexIn b) t)) (sides (complexIn b) t) before
+
+-- zibrotka_from_pentachorons
+pub record ExportedFaces (n : ℕ) (l edges triangles : List ℕ) (t : ℕ) (r : ℤ) (edges′ triangles′ : List ℕ) (t′ : ℕ) : Type 0 where
+  pub answer : r ≡ signed (outcome (pentachora-refusal n l (length edges) (length triangles)) (length (faces 2 l)))
+  pub edge-list : edges′ ≡ written (pentachora-refusal n l (length edges) (length triangles)) (front (flatten (faces 2 l)) edges) edges
+  pub triangle-list : triangles′ ≡ written (pentachora-refusal n l (length edges) (length triangles)) (front (flatten (faces 3 l)) triangles) triangles
+  pub triangle-count : t′ ≡ written (pentachora-refusal n l (length edges) (length triangles)) (length (faces 3 l)) t
+
+-- zibrotka_spanning_tree
+pub record ExportedTree (b tree free : List ℕ) (r : ℤ) (tree′ free′ : List ℕ) : Type 0 where
+  pub answer : r ≡ signed (outcome (after-sheet b (tree-refusal (complexIn b) (length tree) (length free))) (length (free-edges (complexIn b))))
+  pub tree-list : tree′ ≡ written (after-sheet b (tree-refusal (complexIn b) (length tree) (length free))) (front (tree-edges (complexIn b)) tree) tree
+  pub free-list : free′ ≡ written (after-sheet b (tree-refusal (complexIn b) (length tree) (length free))) (front (free-edges (complexIn b)) free) free
+
+-- zibrotka_check_gauss_law
+pub record ExportedCheck (b : List ℕ) (s : List ℤ) (r : ℤ) : Type 0 where
+  pub answer : r ≡ signed (yesOf (outcome (after-sheet b (law-refusal (complexIn b) (length s))) (lawful (complexIn b) uncharged s)))
+
+-- zibrotka_enumerate_gauge_invariant: the list begins with all states, state after state
+pub record ExportedStates (b : List ℕ) (old : List ℤ) (r : ℤ) (new : List ℤ) : Type 0 where
+  pub answer : r ≡ signed (outcome (after-sheet b (enumerated-refusal (complexIn b) (sheetIn b .lambda) (length old))) (length (states (complexIn b) (sheetIn b .lambda))))
+  pub list : new ≡ written (after-sheet b (enumerated-refusal (complexIn b) (sheetIn b .lambda) (length old))) (basis-first (complexIn b) (sheetIn b .lambda) old) old
+  pub complete : after-sheet b (enumerated-refusal (complexIn b) (sheetIn b .lambda) (length old)) ≡ 0 → Complete (complexIn b) uncharged (sheetIn b .lambda) (states (complexIn b) (sheetIn b .lambda))
+
+-- zibrotka_config_to_index: the place of the configuration, and the list begins with all states
+pub record ExportedPlace (b : List ℕ) (s old : List ℤ) (r : ℤ) (new : List ℤ) : Type 0 where
+  pub answer : r ≡ signed (outcome (after-sheet b (index-refusal (complexIn b) (sheetIn b .lambda) s (length old))) (place (complexIn b) (sheetIn b .lambda) s))
+  pub list : new ≡ written (after-sheet b (index-refusal (complexIn b) (sheetIn b .lambda) s (length old))) (basis-first (complexIn b) (sheetIn b .lambda) old) old
+  pub found : after-sheet b (index-refusal (complexIn b) (sheetIn b .lambda) s (length old)) ≡ 0 → At (complexIn b) (sheetIn b .lambda) s (place (complexIn b) (sheetIn b .lambda) s)
+
+-- zibrotka_apply_shift: the place of the shifted configuration, and the lists begin with all states and with the shifted configuration
+pub record ExportedShift (b : List ℕ) (s : List ℤ) (e : ℕ) (delta : ℤ) (work result : List ℤ) (r : ℤ) (work′ result′ : List ℤ) : Type 0 where
+  pub answer : r ≡ signed (outcome (after-sheet b (shift-refusal (complexIn b) (sheetIn b .lambda) s e delta (length work) (length result))) (place (complexIn b) (sheetIn b .lambda) (shifted s e delta)))
+  pub work-list : work′ ≡ written (after-sheet b (shift-refusal (complexIn b) (sheetIn b .lambda) s e delta (length work) (length result))) (basis-first (complexIn b) (sheetIn b .lambda) work) work
+  pub result-list : result′ ≡ written (after-sheet b (shift-refusal (complexIn b) (sheetIn b .lambda) s e delta (length work) (length result))) (front (shifted s e delta) result) result
+  pub found : after-sheet b (shift-refusal (complexIn b) (sheetIn b .lambda) s e delta (length work) (length result)) ≡ 0 → At (complexIn b) (sheetIn b .lambda) (shifted s e delta) (place (complexIn b) (sheetIn b .lambda) (shifted s e delta))
+
+-- zibrotka_apply_triangle_shift: the place of the shifted state, and the list begins with all states
+pub record ExportedTriangleShift (b : List ℕ) (t k : ℕ) (old : List ℤ) (r : ℤ) (new : List ℤ) : Type 0 where
+  pub answer : r ≡ signed (outcome (after-sheet b (triangle-refusal (complexIn b) (sheetIn b .lambda) t k (length old))) (place (complexIn b) (sheetIn b .lambda) (shifted-state (complexIn b) (sheetIn b .lambda) t k)))
+  pub list : new ≡ written (after-sheet b (triangle-refusal (complexIn b) (sheetIn b .lambda) t k (length old))) (basis-first (complexIn b) (sheetIn b .lambda) old) old
+  pub found : after-sheet b (triangle-refusal (complexIn b) (sheetIn b .lambda) t k (length old)) ≡ 0 → At (complexIn b) (sheetIn b .lambda) (shifted-state (complexIn b) (sheetIn b .lambda) t k) (place (complexIn b) (sheetIn b .lambda) (shifted-state (complexIn b) (sheetIn b .lambda) t k))
+
+-- zibrotka_su2_basis: the list begins with all masks, ascending
+pub record ExportedMasks (b old : List ℕ) (r : ℤ) (new : List ℕ) : Type 0 where
+  pub answer : r ≡ signed (outcome (after-sheet b (su2-basis-refusal (complexIn b) (length old))) (length (su2-states (complexIn b))))
+  pub list : new ≡ written (after-sheet b (su2-basis-refusal (complexIn b) (length old))) (front (su2-states (complexIn b)) old) old
+  pub complete : after-sheet b (su2-basis-refusal (complexIn b) (length old)) ≡ 0 → EvenComplete (complexIn b) (su2-states (complexIn b))
+
+-- zibrotka_u1_params and zibrotka_su2_params: g², the electric and the magnetic factor
+pub record ExportedParams (g² : Float) (own : KSParams) (before : List Float) (r : ℤ) (after : List Float) : Type 0 where
+  pub answer : r ≡ signed (outcome (coupling-refusal g²) 0)
+  pub three : after ≡ written (coupling-refusal g²) (own .«g_squared» ∷ own .electric ∷ own .magnetic ∷ []) before
+
+-- zibrotka_build_hamiltonian: the number of states, and the lists begin with all states and with the matrix
+pub record ExportedMatrix (b : List ℕ) (p : KSParams) (given : Bool) (weights : List Float) (work : List ℤ) (result : List Float) (r : ℤ) (work′ : List ℤ) (result′ : List Float) : Type 0 where
+  pub answer : r ≡ signed (outcome (after-sheet b (u1-dense-refusal (complexIn b) (sheetIn b .lambda) p given weights (length work) (length result))) (length (states (complexIn b) (sheetIn b .lambda))))
+  pub work-list : work′ ≡ written (after-sheet b (u1-dense-refusal (complexIn b) (sheetIn b .lambda) p given weights (length work) (length result))) (basis-first (complexIn b) (sheetIn b .lambda) work) work
+  pub result-list : result′ ≡ written (after-sheet b (u1-dense-refusal (complexIn b) (sheetIn b .lambda) p given weights (length work) (length result))) (front (u1-dense (complexIn b) (sheetIn b .lambda) p (weight given weights)) result) result
+
+-- zibrotka_build_su2_hamiltonian: the number of states, and the lists begin with all masks and with the matrix
+pub record ExportedSu2Matrix (b : List ℕ) (p : KSParams) (given : Bool) (weights : List Float) (work : List ℕ) (result : List Float) (r : ℤ) (work′ : List ℕ) (result′ : List Float) : Type 0 where
+  pub answer : r ≡ signed (outcome (after-sheet b (su2-dense-refusal (complexIn b) p given weights (length work) (length result))) (length (su2-states (complexIn b))))
+  pub work-list : work′ ≡ written (after-sheet b (su2-dense-refusal (complexIn b) p given weights (length work) (length result))) (front (su2-states (complexIn b)) work) work
+  pub result-list : result′ ≡ written (after-sheet b (su2-dense-refusal (complexIn b) p given weights (length work) (length result))) (front (su2-dense (complexIn b) p (weight given weights)) result) result
+
+-- ---- as the code keeps it
 -- a value with no refusal, or a refusal and 0
 unfoldable pub toldOf : Outcome ℕ → Told
 toldOf (value n) = record { refusal = 0; value = n }
@@ -54,11 +154,6 @@ toldOf (refused n) = record { refusal = n; value = 0 }
 
 unfoldable pub signedOf : Told → ℤ
 signedOf t = cond (eqb (t .refusal) 0) (pos (t .value)) (negℤ (pos (t .refusal)))
-
--- yes is 1, no is 0
-unfoldable pub yesOf : Outcome Bool → Outcome ℕ
-yesOf (value b) = value (cond b 1 0)
-yesOf (refused n) = refused n
 
 -- the refusal of a reading, or 0
 unfoldable pub readingNumber : Reading → ℕ
@@ -80,82 +175,6 @@ unfoldable pub numbersOf : FromPentachorons → Numbers
 numbersOf (Counts e t) = record { refusal = 0; edges = e; triangles = t }
 numbersOf (NoComplex n) = record { refusal = n; edges = 0; triangles = 0 }
 
--- zibrotka_make_sheet
-pub record MakeSheet (n : ℕ) (edges triangles : List ℕ) (lambda : ℕ) (before : List ℕ) (r : ℤ) (after : List ℕ) : Type 0 where
-  pub answer : r ≡ signed (outcome (making-refusal n edges triangles lambda (length before)) (length (sheetBytes (flatComplex n edges triangles) lambda)))
-  pub bytes : after ≡ written (making-refusal n edges triangles lambda (length before)) (front (sheetBytes (flatComplex n edges triangles) lambda) before) before
-
--- zibrotka_read_sheet: the numbers and lists hold the sheet's, or on a refusal what they held
-pub record ReadSheet (b : List ℕ) (v e t l : ℕ) (edges triangles : List ℕ) (r : ℤ) (v′ e′ t′ l′ : ℕ) (edges′ triangles′ : List ℕ) : Type 0 where
-  pub answer : r ≡ signed (outcome (reading-refusal b) 0)
-  pub vertices : v′ ≡ written (reading-refusal b) (sheetIn b .complex .«n_vertices») v
-  pub edge-count : e′ ≡ written (reading-refusal b) (sheetIn b .complex .«n_edges») e
-  pub triangle-count : t′ ≡ written (reading-refusal b) (sheetIn b .complex .«n_triangles») t
-  pub truncation : l′ ≡ written (reading-refusal b) (sheetIn b .lambda) l
-  pub edge-list : edges′ ≡ written (reading-refusal b) (sheetIn b .complex .edges) edges
-  pub triangle-list : triangles′ ≡ written (reading-refusal b) (sheetIn b .complex .triangles) triangles
-
--- the complex that a sheet's bytes hold
-abbrev pub complexIn : List ℕ → Complex
-complexIn b = complexOf (sheetIn b .complex)
-
--- the refusal of a sheet, or where it has none that of the call on what the sheet holds
-unfoldable pub after-sheet : List ℕ → ℕ → ℕ
-after-sheet b own = cond (eqb (reading-refusal b) 0) own (reading-refusal b)
-
--- zibrotka_tri_edge_indices
-pub record EdgeIndices (b : List ℕ) (t : ℕ) (before : List ℕ) (r : ℤ) (after : List ℕ) : Type 0 where
-  pub answer : r ≡ signed (outcome (after-sheet b (sides-refusal (complexIn b) t)) 0)
-  pub indices : after ≡ written (after-sheet b (sides-refusal (complexIn b) t)) (sides (complexIn b) t) before
-
--- zibrotka_from_pentachorons
-pub record Pentachora (n : ℕ) (l edges triangles : List ℕ) (t : ℕ) (r : ℤ) (edges′ triangles′ : List ℕ) (t′ : ℕ) : Type 0 where
-  pub answer : r ≡ signed (outcome (refusal-from n l (length edges) (length triangles)) (length (faces 2 l)))
-  pub edge-list : edges′ ≡ written (refusal-from n l (length edges) (length triangles)) (flatten (faces 2 l) ++ drop (2 * length (faces 2 l)) edges) edges
-  pub triangle-list : triangles′ ≡ written (refusal-from n l (length edges) (length triangles)) (flatten (faces 3 l) ++ drop (3 * length (faces 3 l)) triangles) triangles
-  pub triangle-count : t′ ≡ written (refusal-from n l (length edges) (length triangles)) (length (faces 3 l)) t
-
--- zibrotka_spanning_tree
-pub record SpanningTree (b tree free : List ℕ) (r : ℤ) (tree′ free′ : List ℕ) : Type 0 where
-  pub answer : r ≡ signed (outcome (after-sheet b (tree-refusal (complexIn b) (length tree) (length free))) (length (free-edges (complexIn b))))
-  pub tree-list : tree′ ≡ written (after-sheet b (tree-refusal (complexIn b) (length tree) (length free))) (front (tree-edges (complexIn b)) tree) tree
-  pub free-list : free′ ≡ written (after-sheet b (tree-refusal (complexIn b) (length tree) (length free))) (front (free-edges (complexIn b)) free) free
-
--- zibrotka_check_gauss_law
-pub record GaussLaw (b : List ℕ) (s : List ℤ) (r : ℤ) : Type 0 where
-  pub answer : r ≡ signed (yesOf (outcome (after-sheet b (law-refusal (complexIn b) (length s))) (lawful (complexIn b) (λ v. pos 0) s)))
-
--- zibrotka_enumerate_gauge_invariant: the list begins with all states, state after state
-pub record States (b : List ℕ) (old : List ℤ) (r : ℤ) (new : List ℤ) : Type 0 where
-  pub answer : r ≡ signed (outcome (after-sheet b (enumerated-refusal (complexIn b) (sheetIn b .lambda) (length old))) (length (states (complexIn b) (sheetIn b .lambda))))
-  pub list : new ≡ written (after-sheet b (enumerated-refusal (complexIn b) (sheetIn b .lambda) (length old))) (basis-first (complexIn b) (sheetIn b .lambda) old) old
-  pub complete : after-sheet b (enumerated-refusal (complexIn b) (sheetIn b .lambda) (length old)) ≡ 0 → Complete (complexIn b) (λ v. pos 0) (sheetIn b .lambda) (states (complexIn b) (sheetIn b .lambda))
-
--- zibrotka_config_to_index: the place of the configuration, and the list begins with all states
-pub record Places (b : List ℕ) (s old : List ℤ) (r : ℤ) (new : List ℤ) : Type 0 where
-  pub answer : r ≡ signed (outcome (after-sheet b (index-refusal (complexIn b) (sheetIn b .lambda) s (length old))) (place (complexIn b) (sheetIn b .lambda) s))
-  pub list : new ≡ written (after-sheet b (index-refusal (complexIn b) (sheetIn b .lambda) s (length old))) (basis-first (complexIn b) (sheetIn b .lambda) old) old
-  pub found : after-sheet b (index-refusal (complexIn b) (sheetIn b .lambda) s (length old)) ≡ 0 → At (complexIn b) (sheetIn b .lambda) s (place (complexIn b) (sheetIn b .lambda) s)
-
--- zibrotka_apply_shift: the place of the shifted configuration, and the lists begin with all states and with the shifted configuration
-pub record ShiftedPlaces (b : List ℕ) (s : List ℤ) (e : ℕ) (delta : ℤ) (work result : List ℤ) (r : ℤ) (work′ result′ : List ℤ) : Type 0 where
-  pub answer : r ≡ signed (outcome (after-sheet b (shift-refusal (complexIn b) (sheetIn b .lambda) s e delta (length work) (length result))) (place (complexIn b) (sheetIn b .lambda) (shifted s e delta)))
-  pub work-list : work′ ≡ written (after-sheet b (shift-refusal (complexIn b) (sheetIn b .lambda) s e delta (length work) (length result))) (basis-first (complexIn b) (sheetIn b .lambda) work) work
-  pub result-list : result′ ≡ written (after-sheet b (shift-refusal (complexIn b) (sheetIn b .lambda) s e delta (length work) (length result))) (shifted s e delta ++ drop (length (complexIn b .edges)) result) result
-  pub found : after-sheet b (shift-refusal (complexIn b) (sheetIn b .lambda) s e delta (length work) (length result)) ≡ 0 → At (complexIn b) (sheetIn b .lambda) (shifted s e delta) (place (complexIn b) (sheetIn b .lambda) (shifted s e delta))
-
--- zibrotka_apply_triangle_shift: the place of the shifted state, and the list begins with all states
-pub record TrianglePlaces (b : List ℕ) (t k : ℕ) (old : List ℤ) (r : ℤ) (new : List ℤ) : Type 0 where
-  pub answer : r ≡ signed (outcome (after-sheet b (triangle-refusal (complexIn b) (sheetIn b .lambda) t k (length old))) (place (complexIn b) (sheetIn b .lambda) (shifted-state (complexIn b) (sheetIn b .lambda) t k)))
-  pub list : new ≡ written (after-sheet b (triangle-refusal (complexIn b) (sheetIn b .lambda) t k (length old))) (basis-first (complexIn b) (sheetIn b .lambda) old) old
-  pub found : after-sheet b (triangle-refusal (complexIn b) (sheetIn b .lambda) t k (length old)) ≡ 0 → At (complexIn b) (sheetIn b .lambda) (shifted-state (complexIn b) (sheetIn b .lambda) t k) (place (complexIn b) (sheetIn b .lambda) (shifted-state (complexIn b) (sheetIn b .lambda) t k))
-
--- zibrotka_su2_basis: the list begins with all masks, ascending
-pub record Masks (b old : List ℕ) (r : ℤ) (new : List ℕ) : Type 0 where
-  pub answer : r ≡ signed (outcome (after-sheet b (su2-refusal (complexIn b) (length old))) (length (su2-states (complexIn b))))
-  pub list : new ≡ written (after-sheet b (su2-refusal (complexIn b) (length old))) (front (su2-states (complexIn b)) old) old
-  pub complete : after-sheet b (su2-refusal (complexIn b) (length old)) ≡ 0 → EvenComplete (complexIn b) (su2-states (complexIn b))
-
 -- 0 for a record
 unfoldable pub zeroOf : Outcome KSParams → Outcome ℕ
 zeroOf (value p) = value 0
@@ -169,20 +188,3 @@ threeOf (refused n) before = before
 pub record Stored (a : Outcome KSParams) (before : List Float) (r : ℤ) (after : List Float) : Type 0 where
   pub answer : r ≡ signed (zeroOf a)
   pub three : after ≡ threeOf a before
-
--- zibrotka_u1_params and zibrotka_su2_params: g², the electric and the magnetic factor
-pub record Params (g² : Float) (own : KSParams) (before : List Float) (r : ℤ) (after : List Float) : Type 0 where
-  pub answer : r ≡ signed (outcome (coupling-refusal g²) 0)
-  pub three : after ≡ written (coupling-refusal g²) (own .«g_squared» ∷ own .electric ∷ own .magnetic ∷ []) before
-
--- zibrotka_build_hamiltonian: the number of states, and the lists begin with all states and with the matrix
-pub record Matrices (b : List ℕ) (p : KSParams) (given : Bool) (weights : List Float) (work : List ℤ) (result : List Float) (r : ℤ) (work′ : List ℤ) (result′ : List Float) : Type 0 where
-  pub answer : r ≡ signed (outcome (after-sheet b (dense-refusal (complexIn b) (sheetIn b .lambda) p given weights (length work) (length result))) (length (states (complexIn b) (sheetIn b .lambda))))
-  pub work-list : work′ ≡ written (after-sheet b (dense-refusal (complexIn b) (sheetIn b .lambda) p given weights (length work) (length result))) (basis-first (complexIn b) (sheetIn b .lambda) work) work
-  pub result-list : result′ ≡ written (after-sheet b (dense-refusal (complexIn b) (sheetIn b .lambda) p given weights (length work) (length result))) (front (dense (complexIn b) (sheetIn b .lambda) p (weight given weights)) result) result
-
--- zibrotka_build_su2_hamiltonian: the number of states, and the lists begin with all masks and with the matrix
-pub record Su2Matrices (b : List ℕ) (p : KSParams) (given : Bool) (weights : List Float) (work : List ℕ) (result : List Float) (r : ℤ) (work′ : List ℕ) (result′ : List Float) : Type 0 where
-  pub answer : r ≡ signed (outcome (after-sheet b (su2-dense-refusal (complexIn b) p given weights (length work) (length result))) (length (su2-states (complexIn b))))
-  pub work-list : work′ ≡ written (after-sheet b (su2-dense-refusal (complexIn b) p given weights (length work) (length result))) (front (su2-states (complexIn b)) work) work
-  pub result-list : result′ ≡ written (after-sheet b (su2-dense-refusal (complexIn b) p given weights (length work) (length result))) (front (su2-dense (complexIn b) p (weight given weights)) result) result

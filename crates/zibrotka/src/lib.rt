@@ -1,40 +1,40 @@
 // The calls for C and other languages: numbers and slices in, one signed number out, the value or minus the refusal.
-use complex::triangle::TriEdgeIndices;
-use complex::triangle::tri_edge_indices;
+use enumeration::enumerate_gauge_invariant;
+use gauss_law::answer::Enumerated;
 use gauss_law::law::GaussCheck;
 use gauss_law::law::check_gauss_law;
 use gauss_law::spanning::SpanningTreeAnswer;
 use gauss_law::spanning::spanning_tree;
 use hamiltonian::dense::build_hamiltonian;
-use hamiltonian::triangle::TriangleShift;
-use hamiltonian::triangle::apply_triangle_shift;
 use hilbert::index::Index;
 use hilbert::index::config_to_index;
 use hilbert::shift::apply_shift;
+use masks::su2_basis;
 use matrices::coupling::Coupling;
 use matrices::coupling::KSParams;
 use pentachora::FromPentachorons;
 use pentachora::from_pentachorons;
+use plaquettes::triangle::TriangleShift;
+use plaquettes::triangle::apply_triangle_shift;
 use sheet::Reading;
 use sheet::Sheet;
 use sheet::Written;
 use sheet::make_sheet;
 use sheet::read_sheet;
-use su2_quantum::basis::su2_basis;
 use su2_quantum::dense::build_su2_hamiltonian;
-use walker::enumerate::Enumerated;
-use walker::enumerate::enumerate_gauge_invariant;
+use triangles::TriEdgeIndices;
+use triangles::tri_edge_indices;
 ghost use mathlib.Core.Path.{_≡_};
-ghost use Prim.Native.Nat.{ℕ, _<_, _≤_, _^_};
-ghost use lib.IntN.{ℤ, pos, negℤ};
+ghost use Prim.Native.Nat.{_<_, _^_};
+ghost use lib.IntN.{pos, negℤ};
 ghost use Rattle.sheet.specs.Sheet.{writtenAnswer};
 ghost use Rattle.gauss_law.specs.Spanning.{treeAnswer};
 ghost use Rattle.gauss_law.specs.Law.{lawAnswer};
-ghost use Rattle.walker.specs.Enumeration.{enumeratedAnswer};
+ghost use Rattle.gauss_law.specs.Answer.{enumeratedAnswer};
 ghost use Rattle.hilbert.specs.Index.{indexAnswer};
 ghost use Rattle.matrices.specs.Coupling.{couplingAnswer, u1-params, su2-params};
-ghost use Rattle.hamiltonian.specs.Triangle.{triangleAnswer};
-ghost use Rattle.zibrotka.specs.Exports.{toldOf, signedOf, readingNumber, yesOf, OpenedOf, edgesOf, numbersOf, MakeSheet, ReadSheet, EdgeIndices, Pentachora, SpanningTree, GaussLaw, States, Places, ShiftedPlaces, TrianglePlaces, Masks, Stored, Params, Matrices, Su2Matrices};
+ghost use Rattle.plaquettes.specs.Triangle.{triangleAnswer};
+ghost use Rattle.zibrotka.specs.Exports.{toldOf, signedOf, readingNumber, yesOf, OpenedOf, edgesOf, numbersOf, ExportedMake, ExportedRead, ExportedIndices, ExportedFaces, ExportedTree, ExportedCheck, ExportedStates, ExportedPlace, ExportedShift, ExportedTriangleShift, ExportedMasks, Stored, ExportedParams, ExportedMatrix, ExportedSu2Matrix};
 
 // A value, or the refusal, which is not 0.
 pub struct Told {
@@ -199,7 +199,7 @@ pub extern "C" fn zibrotka_make_sheet(
     lambda: u64,
     sheet: &mut [u8],
 ) -> i64
-    ensures { λ r. ⌜ MakeSheet «n_vertices» (now (edges .entry)) (now (triangles .entry)) lambda (now (sheet .entry)) r (now (sheet .exit)) ⌝ }
+    ensures { λ r. ⌜ ExportedMake «n_vertices» (now (edges .entry)) (now (triangles .entry)) lambda (now (sheet .entry)) r (now (sheet .exit)) ⌝ }
 {
     let made = make_sheet(
         n_vertices as usize,
@@ -222,7 +222,7 @@ pub extern "C" fn zibrotka_read_sheet(
     edges: &mut [u8; 126],
     triangles: &mut [u8; 768],
 ) -> i64
-    ensures { λ r. ⌜ ReadSheet (now (sheet .entry)) (now («n_vertices» .entry)) (now («n_edges» .entry)) (now («n_triangles» .entry)) (now (lambda .entry)) (now (edges .entry)) (now (triangles .entry)) r (now («n_vertices» .exit)) (now («n_edges» .exit)) (now («n_triangles» .exit)) (now (lambda .exit)) (now (edges .exit)) (now (triangles .exit)) ⌝ }
+    ensures { λ r. ⌜ ExportedRead (now (sheet .entry)) (now («n_vertices» .entry)) (now («n_edges» .entry)) (now («n_triangles» .entry)) (now (lambda .entry)) (now (edges .entry)) (now (triangles .entry)) r (now («n_vertices» .exit)) (now («n_edges» .exit)) (now («n_triangles» .exit)) (now (lambda .exit)) (now (edges .exit)) (now (triangles .exit)) ⌝ }
 {
     let opened = open(sheet);
     let number = opened.refusal;
@@ -276,7 +276,7 @@ pub extern "C" fn zibrotka_tri_edge_indices(
     triangle: u64,
     indices: &mut [u64; 3],
 ) -> i64
-    ensures { λ r. ⌜ EdgeIndices (now (sheet .entry)) triangle (now (indices .entry)) r (now (indices .exit)) ⌝ }
+    ensures { λ r. ⌜ ExportedIndices (now (sheet .entry)) triangle (now (indices .entry)) r (now (indices .exit)) ⌝ }
 {
     let opened = open(sheet);
     let number = opened.refusal;
@@ -329,7 +329,7 @@ pub extern "C" fn zibrotka_from_pentachorons(
     triangles: &mut [u8],
     n_triangles: &mut u64,
 ) -> i64
-    ensures { λ r. ⌜ Pentachora «n_vertices» (now (pentachora .entry)) (now (edges .entry)) (now (triangles .entry)) (now («n_triangles» .entry)) r (now (edges .exit)) (now (triangles .exit)) (now («n_triangles» .exit)) ⌝ }
+    ensures { λ r. ⌜ ExportedFaces «n_vertices» (now (pentachora .entry)) (now (edges .entry)) (now (triangles .entry)) (now («n_triangles» .entry)) r (now (edges .exit)) (now (triangles .exit)) (now («n_triangles» .exit)) ⌝ }
 {
     let found = numbers_of(from_pentachorons(n_vertices as usize, pentachora, edges, triangles));
     let number = found.refusal;
@@ -343,7 +343,7 @@ pub extern "C" fn zibrotka_from_pentachorons(
 // The tree edges and the free edges of a sheet's complex: the number of free edges.
 #[no_mangle]
 pub extern "C" fn zibrotka_spanning_tree(sheet: &[u8], tree: &mut [u32], free: &mut [u32]) -> i64
-    ensures { λ r. ⌜ SpanningTree (now (sheet .entry)) (now (tree .entry)) (now (free .entry)) r (now (tree .exit)) (now (free .exit)) ⌝ }
+    ensures { λ r. ⌜ ExportedTree (now (sheet .entry)) (now (tree .entry)) (now (free .entry)) r (now (tree .exit)) (now (free .exit)) ⌝ }
 {
     let opened = open(sheet);
     let number = opened.refusal;
@@ -357,7 +357,7 @@ pub extern "C" fn zibrotka_spanning_tree(sheet: &[u8], tree: &mut [u32], free: &
 // Whether a configuration obeys Gauss's law on a sheet's complex: 1 or 0.
 #[no_mangle]
 pub extern "C" fn zibrotka_check_gauss_law(sheet: &[u8], configuration: &[i32]) -> i64
-    ensures { λ r. ⌜ GaussLaw (now (sheet .entry)) (now (configuration .entry)) r ⌝ }
+    ensures { λ r. ⌜ ExportedCheck (now (sheet .entry)) (now (configuration .entry)) r ⌝ }
 {
     let opened = open(sheet);
     let number = opened.refusal;
@@ -371,7 +371,7 @@ pub extern "C" fn zibrotka_check_gauss_law(sheet: &[u8], configuration: &[i32]) 
 // All states of a sheet: their number.
 #[no_mangle]
 pub extern "C" fn zibrotka_enumerate_gauge_invariant(sheet: &[u8], states: &mut [i32]) -> i64
-    ensures { λ r. ⌜ States (now (sheet .entry)) (now (states .entry)) r (now (states .exit)) ⌝ }
+    ensures { λ r. ⌜ ExportedStates (now (sheet .entry)) (now (states .entry)) r (now (states .exit)) ⌝ }
 {
     let opened = open(sheet);
     let number = opened.refusal;
@@ -389,7 +389,7 @@ pub extern "C" fn zibrotka_config_to_index(
     configuration: &[i32],
     states: &mut [i32],
 ) -> i64
-    ensures { λ r. ⌜ Places (now (sheet .entry)) (now (configuration .entry)) (now (states .entry)) r (now (states .exit)) ⌝ }
+    ensures { λ r. ⌜ ExportedPlace (now (sheet .entry)) (now (configuration .entry)) (now (states .entry)) r (now (states .exit)) ⌝ }
 {
     let opened = open(sheet);
     let number = opened.refusal;
@@ -410,7 +410,7 @@ pub extern "C" fn zibrotka_apply_shift(
     states: &mut [i32],
     result: &mut [i32],
 ) -> i64
-    ensures { λ r. ⌜ ShiftedPlaces (now (sheet .entry)) (now (configuration .entry)) edge delta (now (states .entry)) (now (result .entry)) r (now (states .exit)) (now (result .exit)) ⌝ }
+    ensures { λ r. ⌜ ExportedShift (now (sheet .entry)) (now (configuration .entry)) edge delta (now (states .entry)) (now (result .entry)) r (now (states .exit)) (now (result .exit)) ⌝ }
 {
     let opened = open(sheet);
     let number = opened.refusal;
@@ -438,7 +438,7 @@ pub extern "C" fn zibrotka_apply_triangle_shift(
     state: u64,
     states: &mut [i32],
 ) -> i64
-    ensures { λ r. ⌜ TrianglePlaces (now (sheet .entry)) triangle state (now (states .entry)) r (now (states .exit)) ⌝ }
+    ensures { λ r. ⌜ ExportedTriangleShift (now (sheet .entry)) triangle state (now (states .entry)) r (now (states .exit)) ⌝ }
 {
     let opened = open(sheet);
     let number = opened.refusal;
@@ -459,7 +459,7 @@ pub extern "C" fn zibrotka_apply_triangle_shift(
 // All even edge sets of a sheet: their number.
 #[no_mangle]
 pub extern "C" fn zibrotka_su2_basis(sheet: &[u8], states: &mut [u64]) -> i64
-    ensures { λ r. ⌜ Masks (now (sheet .entry)) (now (states .entry)) r (now (states .exit)) ⌝ }
+    ensures { λ r. ⌜ ExportedMasks (now (sheet .entry)) (now (states .entry)) r (now (states .exit)) ⌝ }
 {
     let opened = open(sheet);
     let number = opened.refusal;
@@ -486,7 +486,7 @@ fn store(answer: Coupling, params: &mut [f64; 3]) -> i64
 // g² and the factors of U(1): 0.
 #[no_mangle]
 pub extern "C" fn zibrotka_u1_params(g_squared: f64, params: &mut [f64; 3]) -> i64
-    ensures { λ r. ⌜ Params «g_squared» (u1-params «g_squared») (now (params .entry)) r (now (params .exit)) ⌝ }
+    ensures { λ r. ⌜ ExportedParams «g_squared» (u1-params «g_squared») (now (params .entry)) r (now (params .exit)) ⌝ }
 {
     store(KSParams::u1(g_squared), params)
 }
@@ -494,7 +494,7 @@ pub extern "C" fn zibrotka_u1_params(g_squared: f64, params: &mut [f64; 3]) -> i
 // g² and the factors of the two-valued mode: 0.
 #[no_mangle]
 pub extern "C" fn zibrotka_su2_params(g_squared: f64, params: &mut [f64; 3]) -> i64
-    ensures { λ r. ⌜ Params «g_squared» (su2-params «g_squared») (now (params .entry)) r (now (params .exit)) ⌝ }
+    ensures { λ r. ⌜ ExportedParams «g_squared» (su2-params «g_squared») (now (params .entry)) r (now (params .exit)) ⌝ }
 {
     store(KSParams::su2(g_squared), params)
 }
@@ -511,7 +511,7 @@ pub extern "C" fn zibrotka_build_hamiltonian(
     states: &mut [i32],
     result: &mut [f64],
 ) -> i64
-    ensures { λ r. ⌜ Matrices (now (sheet .entry)) (record { «g_squared» = «g_squared»; electric = electric; magnetic = magnetic }) given (now (weights .entry)) (now (states .entry)) (now (result .entry)) r (now (states .exit)) (now (result .exit)) ⌝ }
+    ensures { λ r. ⌜ ExportedMatrix (now (sheet .entry)) (record { «g_squared» = «g_squared»; electric = electric; magnetic = magnetic }) given (now (weights .entry)) (now (states .entry)) (now (result .entry)) r (now (states .exit)) (now (result .exit)) ⌝ }
 {
     let opened = open(sheet);
     let number = opened.refusal;
@@ -540,7 +540,7 @@ pub extern "C" fn zibrotka_build_su2_hamiltonian(
     states: &mut [u64],
     result: &mut [f64],
 ) -> i64
-    ensures { λ r. ⌜ Su2Matrices (now (sheet .entry)) (record { «g_squared» = «g_squared»; electric = electric; magnetic = magnetic }) given (now (weights .entry)) (now (states .entry)) (now (result .entry)) r (now (states .exit)) (now (result .exit)) ⌝ }
+    ensures { λ r. ⌜ ExportedSu2Matrix (now (sheet .entry)) (record { «g_squared» = «g_squared»; electric = electric; magnetic = magnetic }) given (now (weights .entry)) (now (states .entry)) (now (result .entry)) r (now (states .exit)) (now (result .exit)) ⌝ }
 {
     let opened = open(sheet);
     let number = opened.refusal;

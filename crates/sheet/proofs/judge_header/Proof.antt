@@ -1,7 +1,7 @@
-use Prim.Native.Nat.{ℕ, _<_, _≤_}
+use Prim.Native.Nat.{ℕ, _≤_}
 use mathlib.Core.List.{List, [], _∷_}
-use mathlib.Core.Path.{_≡_, refl, sym, _∙_}
-use mathlib.Core.Bool.{true, false, _&&_}
+use mathlib.Core.Path.{_≡_, sym, _∙_}
+use mathlib.Core.Bool.{true, false}
 use native.Mathlib.Omega.{arith}
 use borrow.Author.Tests.{lt-ltb, le-ltb, eq-eqb, ne-eqb, not-true, not-false}
 use lib.ListN.{getD, length, take}
@@ -17,8 +17,8 @@ use Rattle.sheet.proofs.judge_header.Statement.{statement}
 use Rattle.sheet.proofs.judge_header.Tie as tie
 use Rattle.sheet.proofs.judge_header.Reads as reads
 use Rattle.sheet.proofs.judge_header.Lts as lts
-use Rattle.complex.proofs.judge.byte.Reads as byte-reads
-use Rattle.complex.proofs.judge.counts_right.Reads as counts-right-reads
+use Rattle.complex.proofs.numbering.byte.Reads as byte-reads
+use Rattle.acceptance.proofs.counts_right.Reads as counts-right-reads
 use Rattle.sheet.proofs.word.Reads as word-reads
 
 -- the bytes that are judged

@@ -1,4 +1,4 @@
-use mathlib.Core.Path.{_≡_, refl, sym, _∙_}
+use mathlib.Core.Path.{_≡_, sym, _∙_}
 use mathlib.Core.Bool.{true}
 use borrow.Author.Tests.{lt-ltb, le-ltb, not-true, not-false}
 use lib.ListN.{length}
@@ -11,7 +11,7 @@ use Rattle.sheet.proofs.judge_sizes.Statement.{statement}
 use Rattle.sheet.proofs.judge_sizes.Tie as tie
 use Rattle.sheet.proofs.judge_sizes.Reads as reads
 use Rattle.sheet.proofs.judge_sizes.Lts as lts
-use Rattle.complex.proofs.judge.counts_right.Reads as counts-right-reads
+use Rattle.acceptance.proofs.counts_right.Reads as counts-right-reads
 
 -- src/lib.rt:218:9
 counts-right-requires : tie.Need-counts-right-requires

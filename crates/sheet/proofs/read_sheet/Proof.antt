@@ -1,4 +1,4 @@
-use mathlib.Core.Path.{_≡_, refl, sym, _∙_, ap}
+use mathlib.Core.Path.{_≡_, sym, _∙_, ap}
 use Rattle.mathematics.specs.Refusals.{first}
 use Rattle.complex.specs.Complex.{complexOf}
 use Rattle.complex.specs.Judge.{refusal}
@@ -9,7 +9,7 @@ use Rattle.sheet.proofs.read_sheet.Statement.{statement}
 use Rattle.sheet.proofs.read_sheet.Tie as tie
 use Rattle.sheet.proofs.read_sheet.Reads as reads
 use Rattle.sheet.proofs.read_sheet.Lts as lts
-use Rattle.complex.proofs.judge.judge.Reads as judge-reads
+use Rattle.acceptance.proofs.judge.Reads as judge-reads
 use Rattle.sheet.proofs.judge_header.Reads as judge-header-reads
 use Rattle.sheet.proofs.refused.Reads as refused-reads
 use Rattle.sheet.proofs.sheet_in.Reads as sheet-in-reads

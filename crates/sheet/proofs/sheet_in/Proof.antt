@@ -1,5 +1,5 @@
 use Prim.Native.Nat.{_+_, _*_, _≤_}
-use mathlib.Core.Path.{_≡_, refl, sym, _∙_}
+use mathlib.Core.Path.{_≡_}
 use native.Mathlib.Omega.{arith}
 use lib.ListN.{length}
 use Rattle.complex.proofs.Accepting.{counts}
@@ -10,7 +10,7 @@ use Rattle.sheet.proofs.sheet_in.Statement.{statement}
 use Rattle.sheet.proofs.sheet_in.Tie as tie
 use Rattle.sheet.proofs.sheet_in.Reads as reads
 use Rattle.sheet.proofs.sheet_in.Lts as lts
-use Rattle.complex.proofs.judge.byte.Reads as byte-reads
+use Rattle.complex.proofs.numbering.byte.Reads as byte-reads
 use Rattle.sheet.proofs.edges_in.Reads as edges-in-reads
 use Rattle.sheet.proofs.triangles_in.Reads as triangles-in-reads
 use Rattle.sheet.proofs.word.Reads as word-reads

@@ -1,5 +1,4 @@
 use Prim.Native.Nat.{_<_, _+_}
-use mathlib.Core.Path.{_≡_, refl}
 use native.Mathlib.Omega.{arith}
 use Rattle.sheet.specs.Sheet.{word}
 use borrow.Author.Needs.{needs}
@@ -7,7 +6,7 @@ use Rattle.sheet.proofs.word.Statement.{statement}
 use Rattle.sheet.proofs.word.Tie as tie
 use Rattle.sheet.proofs.word.Reads as reads
 use Rattle.sheet.proofs.word.Lts as lts
-use Rattle.complex.proofs.judge.byte.Reads as byte-reads
+use Rattle.complex.proofs.numbering.byte.Reads as byte-reads
 
 -- src/lib.rt:43:10
 shared-slice-read-byte : tie.Need-shared-slice-read-byte

@@ -1,21 +1,20 @@
-use Prim.Native.Nat.{_+_, _*_, _≤_}
-use mathlib.Core.Path.{refl, sym, _∙_}
+use Prim.Native.Nat.{_+_, _*_}
+use mathlib.Core.Path.{sym, _∙_, _≡_}
 use native.Mathlib.Omega.{arith}
 use Rattle.mathematics.specs.Refusals.{first}
 use Rattle.complex.specs.Complex.{complexOf}
 use Rattle.complex.specs.Judge.{truncated-tests}
 use Rattle.complex.proofs.Accepting.{Counts, counts-own}
 use Rattle.complex.proofs.Judging.{truncated-passed}
-use Rattle.sheet.specs.Sheet.{sheetBytes, Writable}
+use Rattle.sheet.specs.Sheet.{sheetBytes}
 use Rattle.sheet.proofs.Sheets.{bytes-long, writing-refused, room-refused, written-whole}
-use mathlib.Core.Path.{_≡_}
 use lib.ListN.{length}
 use borrow.Author.Needs.{needs}
 use Rattle.sheet.proofs.write_sheet.Statement.{statement}
 use Rattle.sheet.proofs.write_sheet.Tie as tie
 use Rattle.sheet.proofs.write_sheet.Reads as reads
 use Rattle.sheet.proofs.write_sheet.Lts as lts
-use Rattle.complex.proofs.judge.judge_truncated.Reads as judge-truncated-reads
+use Rattle.acceptance.proofs.judge_truncated.Reads as judge-truncated-reads
 use Rattle.sheet.proofs.write_bytes.Reads as write-bytes-reads
 
 -- src/lib.rt:184:9

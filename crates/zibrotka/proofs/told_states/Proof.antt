@@ -1,5 +1,5 @@
 use mathlib.Core.Path.{sym, ap}
-use Rattle.walker.specs.Enumeration.{enumeratedAnswer}
+use Rattle.gauss_law.specs.Answer.{enumeratedAnswer}
 use Rattle.zibrotka.specs.Exports.{toldOf}
 use borrow.Author.Needs.{needs}
 use Rattle.zibrotka.proofs.told_states.Statement.{statement}

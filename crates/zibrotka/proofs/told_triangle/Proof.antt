@@ -1,5 +1,5 @@
 use mathlib.Core.Path.{sym, ap}
-use Rattle.hamiltonian.specs.Triangle.{triangleAnswer}
+use Rattle.plaquettes.specs.Triangle.{triangleAnswer}
 use Rattle.zibrotka.specs.Exports.{toldOf}
 use borrow.Author.Needs.{needs}
 use Rattle.zibrotka.proofs.told_triangle.Statement.{statement}

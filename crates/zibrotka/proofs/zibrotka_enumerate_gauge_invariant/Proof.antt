@@ -6,7 +6,7 @@ use Rattle.zibrotka.proofs.zibrotka_enumerate_gauge_invariant.Statement
 use Rattle.zibrotka.proofs.zibrotka_enumerate_gauge_invariant.Tie as tie
 use Rattle.zibrotka.proofs.zibrotka_enumerate_gauge_invariant.Reads as reads
 use Rattle.zibrotka.proofs.zibrotka_enumerate_gauge_invariant.Lts as lts
-use Rattle.walker.proofs.enumerate.enumerate_gauge_invariant.Reads as enumerate-gauge-invariant-reads
+use Rattle.enumeration.proofs.enumerate_gauge_invariant.Reads as enumerate-gauge-invariant-reads
 use Rattle.zibrotka.proofs.open.Reads as open-reads
 use Rattle.zibrotka.proofs.refused.Reads as refused-reads
 use Rattle.zibrotka.proofs.signed.Reads as signed-reads

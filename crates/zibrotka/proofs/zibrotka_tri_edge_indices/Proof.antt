@@ -6,7 +6,7 @@ use Rattle.zibrotka.proofs.zibrotka_tri_edge_indices.Statement.{stateme
 use Rattle.zibrotka.proofs.zibrotka_tri_edge_indices.Tie as tie
 use Rattle.zibrotka.proofs.zibrotka_tri_edge_indices.Reads as reads
 use Rattle.zibrotka.proofs.zibrotka_tri_edge_indices.Lts as lts
-use Rattle.complex.proofs.triangle.tri_edge_indices.Reads as tri-edge-indices-reads
+use Rattle.triangles.proofs.tri_edge_indices.Reads as tri-edge-indices-reads
 use Rattle.zibrotka.proofs.edges_of.Reads as edges-of-reads
 use Rattle.zibrotka.proofs.open.Reads as open-reads
 use Rattle.zibrotka.proofs.refused.Reads as refused-reads

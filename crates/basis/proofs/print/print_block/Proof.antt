@@ -1,15 +1,13 @@
-use Prim.Native.Nat.{ℕ, _≤_, _<_, _+_, _-_}
-use mathlib.Core.List.{List}
-use mathlib.Core.Path.{_≡_, refl, sym, ap, _∙_}
+use Prim.Native.Nat.{_≤_, _+_, _-_}
+use mathlib.Core.Path.{_≡_, refl, ap, _∙_}
 use native.Mathlib.Omega.{arith}
 use native.Mathlib.Nat.{sub-zero}
-use lib.IntN.{ℤ, pos}
+use lib.IntN.{pos}
 use lib.ListN.{length}
 use lib.Seq.{length-take-le}
 use Rattle.lines.specs.Lines.{stateLines}
-use Rattle.walker.specs.Cycles.{added}
-use Rattle.walker.specs.Walker.{rows}
-use Rattle.walker.proofs.Adding.{added-length}
+use Rattle.walker.specs.Walker.{block-rows}
+use Rattle.cycles.proofs.Adding.{added-length}
 use Rattle.walker.proofs.BlockRows.{rows-none, rows-same}
 use Rattle.basis.specs.Printing.{Printed}
 use Rattle.basis.proofs.BlockLines.{lines-none, row-more}
@@ -20,7 +18,7 @@ use Rattle.basis.proofs.print.print_block.Tie as tie
 abbrev Inv-loop : tie.InvT-loop
 Inv-loop out₀ at place config cycle span m row₀ next₀ number₀ d₀ out row next number d =
     (span .from ≤ d) × (d - span .from ≤ span .to - span .from) × (length row ≡ length config) × (length out ≡ length out₀) × (number ≡ place + (d - span .from))
-    × Printed (stateLines place (rows config cycle (span .from) d)) out₀ at out next
+    × Printed (stateLines place (block-rows config cycle (span .from) d)) out₀ at out next
 
 abbrev μ-loop : tie.MeasureT-loop
 μ-loop out₀ at place config cycle span m row₀ next₀ number₀ d₀ out row next number d = span .to - d

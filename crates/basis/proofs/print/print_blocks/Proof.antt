@@ -1,16 +1,14 @@
-use Prim.Native.Nat.{ℕ, _≤_, _<_, _+_, _*_, _-_, _^_}
-use mathlib.Core.List.{List}
+use Prim.Native.Nat.{_≤_, _<_, _*_, _-_, _^_}
 use mathlib.Core.Path.{_≡_, refl, sym, ap, _∙_}
 use native.Mathlib.Omega.{arith}
 use native.Mathlib.Nat.{zero-add}
-use lib.IntN.{ℤ}
 use lib.ListN.{length, take}
 use Rattle.lines.specs.Lines.{stateLines}
-use Rattle.walker.specs.Cycles.{row}
+use Rattle.cycles.specs.Cycles.{row}
 use Rattle.walker.specs.Walker.{width, walked, walked-states}
 use Rattle.walker.specs.Steps.{Small}
 use Rattle.walker.proofs.BlockStates.{walked-none, states-none, states-next, interval-ready, step-ready, step-made, span-few, span-counts, span-block}
-use Rattle.basis.specs.Printing.{Printed, Roomy, Printable}
+use Rattle.basis.specs.Printing.{Printed}
 use Rattle.basis.proofs.BlockLines.{lines-none, lines-more, printable}
 use borrow.Author.Needs.{needs}
 use Rattle.basis.proofs.print.print_blocks.Statement.{statement}

@@ -4,7 +4,7 @@ use lib.ListN.{getD}
 use mir.Syntax.{w64}
 use mir.Val.{toZ, ofZ}
 use Rattle.mathematics.proofs.Signed.{back32, back64}
-use Rattle.gauss_law.specs.Law.{added}
+use Rattle.gauss_law.specs.Law.{sums-with}
 use borrow.Author.Needs.{needs}
 use Rattle.gauss_law.proofs.law.carry.Statement.{statement}
 use Rattle.gauss_law.proofs.law.carry.Tie as tie
@@ -40,7 +40,7 @@ element-set-from-more : tie.Need-element-set-from-more
 element-set-from-more c = search needs
 
 returns : tie.Need-returns
-unfolding added
+unfolding sums-with
 returns c =
     let start = c .before .before .before .before in
     let sums = start .args .sums .now in

@@ -6,19 +6,19 @@ use lib.IntN.{pos}
 use lib.ListN.{getD}
 use Rattle.mathematics.specs.Counting.{below, keep}
 use Rattle.mathematics.proofs.Signed.{back64}
-use Rattle.gauss_law.specs.Law.{firstOf, lowest}
+use Rattle.gauss_law.specs.Law.{firstOf, lowest-broken}
 use Rattle.gauss_law.proofs.Findings.{lowest-next}
 use Rattle.gauss_law.proofs.law.first_unlawful.Statement.{statement}
 use Rattle.gauss_law.proofs.law.first_unlawful.Tie as tie
 
 abbrev Inv-loop : tie.InvT-loop
-Inv-loop sums n-vertices f₀ v₀ f v = (v ≤ n-vertices) × (f ≡ lowest (λ u. getD sums u (pos 0)) (λ u. pos 0) v)
+Inv-loop sums n-vertices f₀ v₀ f v = (v ≤ n-vertices) × (f ≡ lowest-broken (λ u. getD sums u (pos 0)) (λ u. pos 0) v)
 
 abbrev μ-loop : tie.MeasureT-loop
 μ-loop sums n-vertices f₀ v₀ f v = n-vertices - v
 
 loop-holds : tie.Need-loop-holds Inv-loop μ-loop
-unfolding lowest firstOf keep below
+unfolding lowest-broken firstOf keep below
 loop-holds c = (omega arith, refl)
 
 mul-notice : tie.Need-mul-notice Inv-loop μ-loop

@@ -7,7 +7,7 @@ use lib.Ieee.{Float, binary64, mul}
 use lib.ListN.{length, length-take}
 use Rattle.hilbert.specs.Search.{row}
 use Rattle.hilbert.proofs.Searching.{row-part}
-use Rattle.matrices.specs.Coupling.{whole}
+use Rattle.matrices.specs.Coupling.{float-of}
 use Rattle.matrices.specs.Matrix.{Matrix, with-added, passed}
 use Rattle.hamiltonian.specs.Walk.{electric-term}
 use Rattle.matrices.proofs.Matrices.{matrix-same, passed-none, passed-more}
@@ -83,7 +83,7 @@ loop-again c =
     let s = at-loop .before .before in
     let i = at-loop .loop .i in
     let value : given .energy .result ≡ electric-term (s .args .factor) (s .args .m) (s .args .list .now) i =
-    given .energy .ensures ∙ ap (λ (k : ℕ). mul binary64 (s .args .factor) (whole k)) (rw (row-part (s .args .list .now) (s .args .m) i) at (given .before .squares .ensures .0)) in (
+    given .energy .ensures ∙ ap (λ (k : ℕ). mul binary64 (s .args .factor) (float-of k)) (rw (row-part (s .args .list .now) (s .args .m) i) at (given .before .squares .ensures .0)) in (
       omega arith,
       made .add-entry .kept .0 ∙ at-loop .loop .inv .1,
       λ f old m.

@@ -1,6 +1,6 @@
-use Prim.Native.Nat.{ℕ, _+_, _*_, _-_, _<_, _≤_}
+use Prim.Native.Nat.{_-_, _≤_}
 use mathlib.Core.List.{List}
-use mathlib.Core.Path.{_≡_, refl, sym, ap, _∙_}
+use mathlib.Core.Path.{_≡_, refl, ap, _∙_}
 use native.Mathlib.Omega.{arith}
 use lib.Ieee.{Float}
 use lib.ListN.{length}
@@ -8,15 +8,15 @@ use Rattle.complex.specs.Complex.{complexOf}
 use Rattle.complex.proofs.Accepting.{accepted}
 use Rattle.matrices.specs.Weights.{weight}
 use Rattle.matrices.specs.Matrix.{Matrix}
-use Rattle.hamiltonian.specs.Dense.{plaquette-term, entry}
-use Rattle.hamiltonian.specs.Walk.{SidesOf}
-use Rattle.complex.proofs.SidesFound.{triangles-long}
+use Rattle.hamiltonian.specs.Dense.{plaquette-term, u1-entry}
+use Rattle.plaquettes.specs.Targets.{SidesOf}
+use Rattle.triangles.proofs.SidesFound.{triangles-long}
 use borrow.Author.Needs.{needs}
 use Rattle.hamiltonian.proofs.dense.add_magnetic.Statement.{statement}
 use Rattle.hamiltonian.proofs.dense.add_magnetic.Tie as tie
 
 abbrev Inv-loop : tie.InvT-loop
-Inv-loop c p given weights list s free h₀ t₀ t-end h t = (t ≤ c .«n_triangles») × (t-end ≡ c .«n_triangles») × (length h ≡ length h₀) × ((old : List Float) → Matrix (entry (complexOf c) (s .lambda) p (weight given weights) 0) (s .states) old h₀ → Matrix (entry (complexOf c) (s .lambda) p (weight given weights) t) (s .states) old h)
+Inv-loop c p given weights list s free h₀ t₀ t-end h t = (t ≤ c .«n_triangles») × (t-end ≡ c .«n_triangles») × (length h ≡ length h₀) × ((old : List Float) → Matrix (u1-entry (complexOf c) (s .lambda) p (weight given weights) 0) (s .states) old h₀ → Matrix (u1-entry (complexOf c) (s .lambda) p (weight given weights) t) (s .states) old h)
 
 abbrev μ-loop : tie.MeasureT-loop
 μ-loop c p given weights list s free h₀ t₀ t-end h t = c .«n_triangles» - t

@@ -1,20 +1,19 @@
-use Prim.Native.Nat.{_*_, _<_, _≤_}
-use mathlib.Core.Bool.{true, false, _||_}
+use Prim.Native.Nat.{_*_, _≤_}
+use mathlib.Core.Bool.{_||_}
 use mathlib.Core.Path.{_≡_, refl, sym, ap, _∙_}
 use native.Mathlib.Nat.{mul-le-mul}
-use native.Mathlib.Omega.{arith}
 use borrow.Author.Tests.{ltb-false}
 use lib.Dec.{ltb}
 use lib.ListN.{length}
 use Rattle.mathematics.specs.Refusals.{first}
 use Rattle.mathematics.proofs.Tests.{or-fell}
 use Rattle.complex.specs.Complex.{complexOf}
-use Rattle.walker.specs.Tables.{Fit, states-of}
-use Rattle.walker.specs.Enumeration.{states, basis-tests, short, BasisWalks}
-use Rattle.walker.proofs.Enumerating.{short-told, basis-written}
+use Rattle.enumeration.specs.Enumeration.{basis-tests, short, BasisWalks}
+use Rattle.gauss_law.specs.Listing.{states}
+use Rattle.enumeration.proofs.Enumerating.{short-told, basis-written}
 use Rattle.matrices.specs.Coupling.{u1-right}
 use Rattle.matrices.specs.Weights.{weights-tests}
-use Rattle.complex.proofs.SidesFound.{triangles-long}
+use Rattle.triangles.proofs.SidesFound.{triangles-long}
 use Rattle.matrices.proofs.Weighing.{weights-fit}
 use Rattle.hamiltonian.proofs.DenseTelling.{basis-refused, weights-refused, room-refused, built, basis-listed}
 use borrow.Author.Needs.{needs}

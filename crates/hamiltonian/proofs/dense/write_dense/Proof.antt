@@ -1,5 +1,5 @@
 use Rattle.matrices.specs.Weights.{weight}
-use Rattle.complex.proofs.SidesFound.{triangles-long}
+use Rattle.triangles.proofs.SidesFound.{triangles-long}
 use Rattle.hamiltonian.proofs.DenseWritten.{small-rows, electric-written, dense-written}
 use borrow.Author.Needs.{needs}
 use Rattle.hamiltonian.proofs.dense.write_dense.Statement.{statement}

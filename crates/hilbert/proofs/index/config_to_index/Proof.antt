@@ -1,4 +1,4 @@
-use mathlib.Core.Bool.{true, false}
+use mathlib.Core.Bool.{false}
 use mathlib.Core.Path.{_≡_, sym, _∙_}
 use lib.ListN.{length}
 use borrow.Author.Tests.{not-true, not-false}
@@ -6,8 +6,8 @@ use Rattle.mathematics.specs.Refusals.{first}
 use Rattle.complex.specs.Complex.{complexOf}
 use Rattle.complex.proofs.Accepting.{accepted}
 use Rattle.gauss_law.proofs.Spanned.{edges-long}
-use Rattle.walker.specs.Enumeration.{basis-tests, short, BasisWalks}
-use Rattle.walker.proofs.Enumerating.{short-told}
+use Rattle.enumeration.specs.Enumeration.{basis-tests, short, BasisWalks}
+use Rattle.enumeration.proofs.Enumerating.{short-told}
 use Rattle.hilbert.proofs.Indexing.{basis-refused, length-refused, room-refused, unlisted, indexed}
 use borrow.Author.Needs.{needs}
 use Rattle.hilbert.proofs.index.config_to_index.Statement.{statement}

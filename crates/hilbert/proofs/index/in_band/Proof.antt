@@ -1,26 +1,26 @@
-use Prim.Native.Nat.{_≤_, _-_, _+_}
-use mathlib.Core.Path.{_≡_, refl, sym, ap, _∙_}
+use Prim.Native.Nat.{_≤_, _-_}
+use mathlib.Core.Path.{_≡_, refl, ap, _∙_}
 use native.Mathlib.Omega.{arith}
 use lib.IntN.{pos}
 use lib.ListN.{length, take, getD}
 use lib.Seq.{take-length}
-use Rattle.mathematics.specs.Tests.{all}
+use Rattle.mathematics.specs.Tests.{every-entry}
 use Rattle.mathematics.proofs.Tests.{all-last}
 use Rattle.mathematics.proofs.Front.{take-next}
 use Rattle.mathematics.proofs.Signed.{back32}
-use Rattle.hilbert.specs.Basis.{within}
+use Rattle.gauss_law.specs.Gauss.{within}
 use borrow.Author.Needs.{needs}
 use Rattle.hilbert.proofs.index.in_band.Statement.{statement}
 use Rattle.hilbert.proofs.index.in_band.Tie as tie
 
 abbrev Inv-loop : tie.InvT-loop
-Inv-loop configuration lambda so-far₀ e₀ e-end so-far e = (e ≤ length configuration) × (e-end ≡ length configuration) × (so-far ≡ all (within lambda) (take e configuration))
+Inv-loop configuration lambda so-far₀ e₀ e-end so-far e = (e ≤ length configuration) × (e-end ≡ length configuration) × (so-far ≡ every-entry (within lambda) (take e configuration))
 
 abbrev μ-loop : tie.MeasureT-loop
 μ-loop configuration lambda so-far₀ e₀ e-end so-far e = length configuration - e
 
 loop-holds : tie.Need-loop-holds Inv-loop μ-loop
-unfolding all
+unfolding every-entry
 loop-holds c = (omega arith, refl, refl)
 
 mul-within : tie.Need-mul-within Inv-loop μ-loop
@@ -51,7 +51,7 @@ returns : tie.Need-returns Inv-loop μ-loop
 returns c =
     let s = c .before .before .args in
     let past : c .before .loop .e ≡ length (s .configuration .now) = omega arith in
-    (rw past at (c .before .loop .inv .2)) ∙ ap (all (within (s .lambda))) (take-length (s .configuration .now))
+    (rw past at (c .before .loop .inv .2)) ∙ ap (every-entry (within (s .lambda))) (take-length (s .configuration .now))
 
 pub in-band-spec : {M : Type 1} → statement M
 in-band-spec =

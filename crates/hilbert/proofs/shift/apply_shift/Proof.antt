@@ -1,11 +1,10 @@
 use Prim.Native.Nat.{_-_, _<_, _≤_}
-use mathlib.Core.Bool.{true, false, _||_}
-use mathlib.Core.List.{_++_}
+use mathlib.Core.Bool.{false, _||_}
 use mathlib.Core.Path.{_≡_, sym, ap, _∙_}
 use native.Mathlib.Omega.{arith}
 use lib.Dec.{ltb}
 use lib.IntN.{pos, natAbs, _+ℤ_}
-use lib.ListN.{length, take, drop, getD, set}
+use lib.ListN.{length, take, getD}
 use mir.Syntax.{w32}
 use mir.Val.{toZ, ofZ}
 use borrow.Author.Tests.{not-true, not-false, leb-true, ltb-false}
@@ -17,9 +16,10 @@ use Rattle.complex.proofs.Accepting.{accepted}
 use Rattle.gauss_law.specs.Shifts.{raised, shifted}
 use Rattle.gauss_law.proofs.Shifts.{shifted-length}
 use Rattle.gauss_law.proofs.Spanned.{edges-long}
-use Rattle.walker.specs.Enumeration.{basis-tests, short, BasisWalks}
-use Rattle.walker.proofs.Enumerating.{short-told}
-use Rattle.hilbert.specs.Basis.{within, in-basis}
+use Rattle.enumeration.specs.Enumeration.{basis-tests, short, BasisWalks}
+use Rattle.enumeration.proofs.Enumerating.{short-told}
+use Rattle.hilbert.specs.Basis.{in-basis}
+use Rattle.gauss_law.specs.Gauss.{within}
 use Rattle.hilbert.proofs.Shifting.{basis-refused, length-refused, edge-refused, room-refused, band-refused, unlisted, placed, row-front}
 use borrow.Author.Needs.{needs}
 use Rattle.hilbert.proofs.shift.apply_shift.Statement.{statement}
@@ -32,7 +32,7 @@ basis : (c : tie.Else1) → BasisWalks (complexOf (c .before .before .args .c)) 
 basis c = c .before .prepare-basis .ensures .basis (c .if1 .left)
 
 edges-few : (c : tie.Else1) → c .before .before .args .c .«n_edges» ≤ 63
-edges-few c = rw (← (edges-long (c .before .before .args .c))) (basis c .walks .accepted .edges)
+edges-few c = rw (← (edges-long (c .before .before .args .c))) (basis c .walks .accepted .few-edges)
 
 sized : (c : tie.Else2) → length (c .before .before .before .args .configuration .now) ≡ length (complexOf (c .before .before .before .args .c) .edges)
 sized c = c .if2 .left ∙ sym (edges-long (c .before .before .before .args .c))

@@ -1,13 +1,12 @@
-use Prim.Native.Nat.{_≤_, _^_}
-use mathlib.Core.Path.{_≡_, sym, ap, _∙_}
+use mathlib.Core.Path.{_≡_, _∙_}
 use native.Mathlib.Omega.{arith}
-use lib.IntN.{pos, _-ℤ_, _+ℤ_, negℤ, natAbs, +ℤ-idl}
+use lib.IntN.{pos, _-ℤ_, _+ℤ_, negℤ, +ℤ-idl}
 use mir.Syntax.{w64}
 use mir.Val.{toZ, ofZ}
 use mir.Facts.{toZ-ofZ}
 use Rattle.mathematics.proofs.Signed.{size-fits, size-neg, size-within, back32, back64}
 use Rattle.walker.proofs.Narrowing.{within-test}
-use Rattle.hilbert.specs.Basis.{within}
+use Rattle.gauss_law.specs.Gauss.{within}
 use borrow.Author.Needs.{needs}
 use Rattle.hilbert.proofs.shift.sum_within.Statement.{statement}
 use Rattle.hilbert.proofs.shift.sum_within.Tie as tie

@@ -1,5 +1,5 @@
 use mathlib.Core.Path.{refl}
-use Rattle.matrices.specs.Coupling.{whole}
+use Rattle.matrices.specs.Coupling.{float-of}
 use Rattle.matrices.proofs.Squares.{whole-held}
 use Rattle.matrices.proofs.electric.energy.Statement.{statement}
 use Rattle.matrices.proofs.electric.energy.Tie as tie
@@ -8,7 +8,7 @@ int-to-float-result : tie.Need-int-to-float-result
 int-to-float-result c = whole-held _ (c .before .pre)
 
 returns : tie.Need-returns
-unfolding whole
+unfolding float-of
 returns c = refl
 
 pub energy-spec : {M : Type 1} → statement M

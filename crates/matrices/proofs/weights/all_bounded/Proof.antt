@@ -4,7 +4,7 @@ use native.Mathlib.Omega.{arith}
 use lib.Ieee.{nan}
 use lib.ListN.{length, take}
 use lib.Seq.{take-length}
-use Rattle.mathematics.specs.Tests.{all}
+use Rattle.mathematics.specs.Tests.{every-entry}
 use Rattle.mathematics.proofs.Tests.{all-last}
 use Rattle.mathematics.proofs.Front.{take-next}
 use Rattle.matrices.specs.Weights.{bounded}
@@ -13,13 +13,13 @@ use Rattle.matrices.proofs.weights.all_bounded.Statement.{statement}
 use Rattle.matrices.proofs.weights.all_bounded.Tie as tie
 
 abbrev Inv-loop : tie.InvT-loop
-Inv-loop list so-far₀ i₀ i-end so-far i = (i ≤ length list) × (i-end ≡ length list) × (so-far ≡ all bounded (take i list))
+Inv-loop list so-far₀ i₀ i-end so-far i = (i ≤ length list) × (i-end ≡ length list) × (so-far ≡ every-entry bounded (take i list))
 
 abbrev μ-loop : tie.MeasureT-loop
 μ-loop list so-far₀ i₀ i-end so-far i = length list - i
 
 loop-holds : tie.Need-loop-holds Inv-loop μ-loop
-unfolding all
+unfolding every-entry
 loop-holds c = (omega arith, refl, refl)
 
 mul-bounded : tie.Need-mul-bounded Inv-loop μ-loop
@@ -47,7 +47,7 @@ returns : tie.Need-returns Inv-loop μ-loop
 returns c =
     let list = c .before .before .before .args .list .now in
     let past : c .before .loop .i ≡ length list = omega arith in
-    (rw past at (c .before .loop .inv .2)) ∙ ap (all bounded) (take-length list)
+    (rw past at (c .before .loop .inv .2)) ∙ ap (every-entry bounded) (take-length list)
 
 pub all-bounded-spec : {M : Type 1} → statement M
 all-bounded-spec =

@@ -1,9 +1,4 @@
-use mathlib.Core.Bool.{_&&_}
-use mathlib.Core.Path.{sym, _∙_}
-use borrow.Author.Tests.{eqb-true}
-use lib.Dec.{eqb}
-use Rattle.mathematics.proofs.Tests.{and-parts}
-use Rattle.replay.specs.Cases.{complexAt}
+use Rattle.replay.proofs.Same.{complex-is, tests-agree}
 use borrow.Author.Needs.{needs}
 use Rattle.replay.proofs.compare.case_same.Statement.{statement}
 use Rattle.replay.proofs.compare.case_same.Tie as tie
@@ -30,17 +25,14 @@ made-same-requires : tie.Need-made-same-requires
 made-same-requires c κs = search needs
 
 returns : tie.Need-returns
-unfolding complexAt
-returns c same =
+returns c =
     let sided = c .before in
     let judged = sided .before in
     let tripled = judged .before in
     let paired = tripled .before .before in
-    let whole = and-parts (eqb (judged .judge .result) 0) (sided .all-sides-same .result && c .made-same .result) same in
-    record {
-      accepted = rw (← (paired .edges-in .ensures), ← (tripled .triangles-in .ensures)) (sym (judged .judge .ensures) ∙ eqb-true (judged .judge .result) 0 (whole .0));
-      sides = rw (← (paired .edges-in .ensures), ← (tripled .triangles-in .ensures)) (sym (sided .all-sides-same .ensures) ∙ and-parts (sided .all-sides-same .result) (c .made-same .result) (whole .1) .0);
-    }
+    let s = paired .before .before .before in
+    let same = complex-is (s .args .list .now) (s .args .case) (s .pre) _ _ (paired .edges-in .ensures) (tripled .triangles-in .ensures) in
+    rw (judged .judge .ensures, sided .all-sides-same .ensures, c .made-same .ensures, same) (tests-agree (s .args .list .now) (s .args .case) (s .pre))
 
 pub case-same-spec : {M : Type 1} → statement M
 case-same-spec =

@@ -1,18 +1,22 @@
 use borrow.Author.Needs.{needs}
-use Prim.Native.Nat.{_-_, _≤_}
-use mathlib.Core.Path.{_≡_}
-use lib.ListN.{length}
+use Prim.Native.Nat.{_-_, _<_, _≤_}
+use mathlib.Core.Path.{_≡_, sym, _∙_}
+use native.Mathlib.Omega.{arith}
+use lib.ListN.{length, take, drop, length-drop}
+use lib.Seq.{getD-drop}
+use Rattle.sheet.specs.Sheet.{padded}
+use Rattle.replay.proofs.Padded.{padded-none, padded-next}
 use Rattle.replay.proofs.compare.pentachora_in.Statement.{statement}
 use Rattle.replay.proofs.compare.pentachora_in.Tie as tie
 
 abbrev Inv-loop : tie.InvT-loop
-Inv-loop list start count vertices₀ i₀ vertices i = (i ≤ count) × (length vertices ≡ 1275)
+Inv-loop list start count vertices₀ i₀ vertices i = (i ≤ count) × (vertices ≡ padded 1275 (take i (drop start list)))
 
 abbrev μ-loop : tie.MeasureT-loop
 μ-loop list start count vertices₀ i₀ vertices i = count - i
 
 loop-holds : tie.Need-loop-holds Inv-loop μ-loop
-loop-holds c = search needs
+loop-holds c = (omega arith, padded-none 1275 (drop (c .before .args .start) (c .before .args .list .now)))
 
 add-wide : tie.Need-add-wide Inv-loop μ-loop
 add-wide c = search needs
@@ -36,10 +40,18 @@ loop-less : tie.Need-loop-less Inv-loop μ-loop
 loop-less c = search needs
 
 loop-again : tie.Need-loop-again Inv-loop μ-loop
-loop-again c = search needs
+loop-again c =
+    let at-loop = c .before .before .before in
+    let s = at-loop .before .before in
+    let a = s .args in
+    let i = at-loop .loop .i in
+    let here : i < length (drop (a .start) (a .list .now)) = omega (arith, s .pre .0, length-drop (a .start) (a .list .now)) in
+    (omega arith, rw (at-loop .loop .inv .1) (padded-next 1275 (drop (a .start) (a .list .now)) i _ (omega arith) here (c .wide .ensures ∙ sym (getD-drop (a .start) (a .list .now) i 0))))
 
 returns : tie.Need-returns Inv-loop μ-loop
-returns c = search needs
+returns c =
+    let past : c .before .loop .i ≡ c .before .before .before .args .count = omega arith in
+    rw past at (c .before .loop .inv .1)
 
 pub pentachora-in-spec : {M : Type 1} → statement M
 pentachora-in-spec =

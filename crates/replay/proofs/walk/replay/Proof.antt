@@ -1,38 +1,36 @@
 use borrow.Author.Needs.{needs}
-use Prim.Native.Nat.{_-_, _≤_, _<_}
-use mathlib.Core.Path.{sym, _∙_}
+use Prim.Native.Nat.{_-_, _<_, _≤_}
+use mathlib.Core.Bool.{cond}
 use mathlib.Core.Logic.{⊎-elim}
+use mathlib.Core.Path.{_≡_, sym, _∙_}
 use native.Mathlib.Omega.{arith}
-use borrow.Author.Tests.{not-false}
 use lib.ListN.{length}
-use Rattle.replay.specs.Cases.{Whole}
+use Rattle.replay.specs.declared.walk.Replayed.the-variants.{Cases, Malformed}
+use Rattle.replay.specs.Cases.{ends, replayed}
+use Rattle.replay.specs.Comparing.{Whole}
 use Rattle.replay.proofs.Inside.{inside}
+use Rattle.replay.proofs.Walking.{Walked, walked-none, walked-next, walked-all, one-more, none-more}
 use Rattle.replay.proofs.walk.replay.Statement.{statement}
 use Rattle.replay.proofs.walk.replay.Tie as tie
 
 abbrev Inv-loop : tie.InvT-loop
-Inv-loop list at₀ cases₀ differ₀ at cases differ = (at ≤ length list) × (cases ≤ at) × (differ ≤ cases)
+Inv-loop list at₀ cases₀ differ₀ at cases differ = Walked list at cases differ
 
 abbrev μ-loop : tie.MeasureT-loop
 μ-loop list at₀ cases₀ differ₀ at cases differ = length list - at
 
 loop-holds : tie.Need-loop-holds Inv-loop μ-loop
-loop-holds c = search needs
+loop-holds c = walked-none _
 
-shared-slice-read-if1 : tie.Need-shared-slice-read-if1 Inv-loop μ-loop
-shared-slice-read-if1 c = search needs
+stands-requires : tie.Need-stands-requires Inv-loop μ-loop
+stands-requires c κs = c .loop .inv .inside
 
 case-at-requires : tie.Need-case-at-requires Inv-loop μ-loop
 case-at-requires c κs = search needs
 
-is-whole-requires : tie.Need-is-whole-requires Inv-loop μ-loop
-is-whole-requires c κs = search needs
-
-returns : tie.Need-returns Inv-loop μ-loop
-returns c = search needs
-
-fits : (c : tie.Else2 Inv-loop μ-loop) → Whole (length (c .before .before .before .before .before .before .before .before .args .list .now)) (c .before .before .case-at .result) × (c .before .before .before .before .before .before .loop .at < c .before .before .case-at .result .next) × (c .before .before .case-at .result .next ≤ length (c .before .before .before .before .before .before .before .before .args .list .now))
-fits c = inside _ _ _ (c .before .before .case-at .ensures) (sym (c .before .is-whole .ensures) ∙ not-false _ (c .if2 .left))
+-- the case lies within the list
+fits : (c : tie.After-case-at Inv-loop μ-loop) → Whole (length (c .before .before .before .before .before .args .list .now)) (c .case-at .result) × (c .before .before .before .loop .at < c .case-at .result .next) × (c .case-at .result .next ≤ length (c .before .before .before .before .before .args .list .now))
+fits c = inside _ _ _ (c .case-at .ensures .0) (c .case-at .ensures .1) (sym (c .before .before .stands .ensures) ∙ c .before .if1 .taken)
 
 case-same-requires : tie.Need-case-same-requires Inv-loop μ-loop
 case-same-requires c κs = fits c .0
@@ -48,18 +46,28 @@ loop-less c = omega (arith, fits (c .before .before))
 
 loop-again : tie.Need-loop-again Inv-loop μ-loop
 loop-again c =
-    let f = fits (c .before .before) in
-    let few = c .before .before .before .before .before .before .before .before .loop .inv in
-    (f .2, omega arith, ⊎-elim (λ w. omega arith) (λ w. omega arith) (c .if3 .came))
+    let read = c .before .before in
+    let f = fits read in
+    let now = read .before .before .before .loop in
+    let same = c .before .case-same .ensures in
+    walked-next _ _ _ _ (now .inv) (sym (read .before .before .stands .ensures) ∙ read .before .if1 .taken) _ (read .case-at .ensures .0) (f .1) (f .2) _
+    (⊎-elim
+    (λ w. w .1 ∙ rw same at (one-more (c .before .case-same .result) (now .differ) (w .0 .taken)))
+    (λ w. w .1 ∙ rw same at (none-more (c .before .case-same .result) (now .differ) (w .0 .left)))
+    (c .if2 .came))
 
-add-if4 : tie.Need-add-if4 Inv-loop μ-loop
-add-if4 c = search needs
+-- no case is left
+all-walked : (c : tie.Else1 Inv-loop μ-loop) → replayed (c .before .before .before .before .args .list .now) ≡ cond (ends (c .before .before .before .before .args .list .now) (c .before .before .loop .at)) (Cases (c .before .before .loop .cases) (c .before .before .loop .differ)) (Malformed (c .before .before .loop .at))
+all-walked c = walked-all _ _ _ _ (c .before .before .loop .inv) (sym (c .before .stands .ensures) ∙ c .if1 .left)
+
+ends-requires : tie.Need-ends-requires Inv-loop μ-loop
+ends-requires c κs = c .before .before .loop .inv .inside
+
+returns : tie.Need-returns Inv-loop μ-loop
+returns c = sym (all-walked (c .before .before) ∙ rw (sym (c .before .ends .ensures) ∙ c .if3 .taken))
 
 returns-2 : tie.Need-returns-2 Inv-loop μ-loop
-returns-2 c = search needs
-
-returns-3 : tie.Need-returns-3 Inv-loop μ-loop
-returns-3 c = search needs
+returns-2 c = sym (all-walked (c .before .before) ∙ rw (sym (c .before .ends .ensures) ∙ c .if3 .left))
 
 pub replay-spec : {M : Type 1} → statement M
 replay-spec =
@@ -68,15 +76,13 @@ replay-spec =
     Inv-loop
     μ-loop
     loop-holds
-    shared-slice-read-if1
+    stands-requires
     case-at-requires
-    is-whole-requires
-    returns
     case-same-requires
     add-differ
     add-cases
     loop-less
     loop-again
-    add-if4
-    returns-2
-    returns-3)
+    ends-requires
+    returns
+    returns-2)

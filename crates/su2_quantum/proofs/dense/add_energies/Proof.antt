@@ -5,7 +5,7 @@ use native.Mathlib.Omega.{arith}
 use lib.Count.{ones}
 use lib.Ieee.{Float, binary64, mul}
 use lib.ListN.{getD, length}
-use Rattle.matrices.specs.Coupling.{whole}
+use Rattle.matrices.specs.Coupling.{float-of}
 use Rattle.matrices.specs.Matrix.{Matrix, passed}
 use Rattle.matrices.proofs.Matrices.{matrix-same, passed-none, passed-more}
 use borrow.Author.Needs.{needs}
@@ -13,7 +13,7 @@ use Rattle.su2_quantum.proofs.dense.add_energies.Statement.{statement}
 use Rattle.su2_quantum.proofs.dense.add_energies.Tie as tie
 
 abbrev Inv-loop : tie.InvT-loop
-Inv-loop h₀ n factor states i₀ h i = (i ≤ n) × (length h ≡ length h₀) × ((f : ℕ → ℕ → Float) (old : List Float) → Matrix f n old h₀ → Matrix (passed f (λ i. i) (λ i. mul binary64 factor (whole (ones (getD states i 0)))) i) n old h)
+Inv-loop h₀ n factor states i₀ h i = (i ≤ n) × (length h ≡ length h₀) × ((f : ℕ → ℕ → Float) (old : List Float) → Matrix f n old h₀ → Matrix (passed f (λ i. i) (λ i. mul binary64 factor (float-of (ones (getD states i 0)))) i) n old h)
 
 abbrev μ-loop : tie.MeasureT-loop
 μ-loop h₀ n factor states i₀ h i = n - i
@@ -54,7 +54,7 @@ loop-again c =
       λ f old m.
           let room : n * n ≤ length old = rw (← (m .long)) (start .pre .1) in
           rw (added .ensures, c .before .before .before .state-energy .ensures)
-          (passed-more f (λ j. j) (λ j. mul binary64 (start .args .factor) (whole (ones (getD (start .args .states .now) j 0)))) n old (at-loop .loop .h) i (at-loop .loop .inv .2 f old m) room (omega arith) (omega arith)),
+          (passed-more f (λ j. j) (λ j. mul binary64 (start .args .factor) (float-of (ones (getD (start .args .states .now) j 0)))) n old (at-loop .loop .h) i (at-loop .loop .inv .2 f old m) room (omega arith) (omega arith)),
     )
 
 same-length : tie.Need-same-length Inv-loop μ-loop

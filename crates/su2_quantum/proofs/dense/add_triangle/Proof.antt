@@ -1,7 +1,7 @@
 use Prim.Native.Nat.{_<_}
 use lib.ListN.{length}
 use Rattle.complex.specs.Complex.{complexOf}
-use Rattle.complex.proofs.SidesFound.{triangles-long}
+use Rattle.triangles.proofs.SidesFound.{triangles-long}
 use Rattle.su2_quantum.specs.Dense.{su2-entry}
 use Rattle.su2_quantum.proofs.DenseEntries.{rows-number, rows-few, flips-within, triangle-matrix}
 use borrow.Author.Needs.{needs}

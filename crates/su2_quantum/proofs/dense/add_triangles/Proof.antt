@@ -5,7 +5,7 @@ use native.Mathlib.Omega.{arith}
 use lib.Ieee.{Float, binary64, mul}
 use lib.ListN.{length}
 use Rattle.complex.specs.Complex.{complexOf}
-use Rattle.complex.proofs.SidesFound.{triangles-long}
+use Rattle.triangles.proofs.SidesFound.{triangles-long}
 use Rattle.matrices.specs.Weights.{weight}
 use Rattle.matrices.specs.Matrix.{Matrix}
 use Rattle.su2_quantum.specs.Dense.{su2-electric-entry, su2-entry}

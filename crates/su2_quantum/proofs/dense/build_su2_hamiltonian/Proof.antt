@@ -12,8 +12,8 @@ use Rattle.complex.specs.Complex.{complexOf}
 use Rattle.complex.specs.Judge.{refusal}
 use Rattle.matrices.specs.Coupling.{su2-right}
 use Rattle.matrices.specs.Weights.{weights-tests}
-use Rattle.su2_quantum.specs.Place.{LoopsOf}
-use Rattle.su2_quantum.proofs.Placing.{loops-of, masks-are}
+use Rattle.masks.specs.Place.{LoopsOf}
+use Rattle.masks.proofs.Placing.{loops-of, masks-are}
 use Rattle.su2_quantum.proofs.DenseTelling.{weights-many, long-enough, record-refused, limit-refused, weights-refused, room-refused, matrix-built}
 use borrow.Author.Needs.{needs}
 use Rattle.su2_quantum.proofs.dense.build_su2_hamiltonian.Statement.{statement}

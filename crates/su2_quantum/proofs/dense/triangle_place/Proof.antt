@@ -5,9 +5,8 @@ use lib.ListN.{length}
 use Rattle.mathematics.proofs.Bits.{power-shifted}
 use Rattle.complex.specs.Complex.{complexOf}
 use Rattle.complex.proofs.Accepting.{accepted}
-use Rattle.complex.proofs.SidesFound.{triangles-long}
-use Rattle.hamiltonian.proofs.TriangleRows.{sides-below}
-use Rattle.su2_quantum.proofs.Placing.{loops-readable}
+use Rattle.triangles.proofs.SidesFound.{triangles-long, sides-below}
+use Rattle.masks.proofs.Placing.{loops-readable}
 use Rattle.su2_quantum.proofs.DenseEntries.{triangle-read}
 use Rattle.su2_quantum.proofs.dense.triangle_place.Statement.{statement}
 use Rattle.su2_quantum.proofs.dense.triangle_place.Tie as tie
@@ -20,7 +19,7 @@ small c =
     let start = c .before in
     let right = start .pre .0 .accepted in
     let below = sides-below (complexOf (start .args .c)) (start .args .t) (c .triangle-sides .result) (c .triangle-sides .ensures) right (there start) in
-    (omega (arith, below .0, right .edges), omega (arith, below .1, right .edges), omega (arith, below .2, right .edges))
+    (omega (arith, below .0, right .few-edges), omega (arith, below .1, right .few-edges), omega (arith, below .2, right .few-edges))
 
 triangle-sides-requires : tie.Need-triangle-sides-requires
 triangle-sides-requires c κs = (accepted (c .args .c) .1 (c .pre .0 .accepted), c .pre .2)

@@ -3,8 +3,8 @@ use mathlib.Core.Path.{ap}
 use native.Mathlib.Omega.{arith}
 use lib.ListN.{length, length-append}
 use Rattle.complex.specs.Complex.{complexOf}
-use Rattle.matrices.specs.Coupling.{whole}
-use Rattle.su2_quantum.specs.EvenSets.{su2-states}
+use Rattle.matrices.specs.Coupling.{float-of}
+use Rattle.even_sets.specs.EvenSets.{su2-states}
 use Rattle.su2_quantum.proofs.DenseEntries.{rows-number, rows-few, electric-matrix, matrix-written}
 use borrow.Author.Needs.{needs}
 use Rattle.su2_quantum.proofs.dense.write_matrix.Statement.{statement}
@@ -35,7 +35,7 @@ returns c =
     let matrix = start .pre .0 in
     let right = matrix .loops .accepted in
     let rows = rows-number _ _ _ _ matrix in
-    let energies = c .before .before .before .before .before .before .add-energies .ensures (λ i j. whole 0) (start .args .h .now) (c .before .before .before .before .before .before .before .before .before .before .clear-matrix .ensures) in
+    let energies = c .before .before .before .before .before .before .add-energies .ensures (λ i j. float-of 0) (start .args .h .now) (c .before .before .before .before .before .before .before .before .before .before .clear-matrix .ensures) in
     let electric = electric-matrix _ right (start .args .p) _ rows _ _ _ (start .pre .2 .0) (start .pre .2 .1) energies in
     matrix-written _ right (start .args .p) _ rows _ _ _ (c .before .before .add-triangles .ensures (start .args .h .now) electric) (matrix .long)
 

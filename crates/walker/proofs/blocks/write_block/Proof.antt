@@ -5,10 +5,9 @@ use native.Mathlib.Omega.{arith}
 use lib.IntN.{pos}
 use lib.ListN.{length}
 use Rattle.mathematics.proofs.Flat.{flatten-last}
-use Rattle.walker.specs.Cycles.{added}
-use Rattle.walker.specs.Walker.{rows}
+use Rattle.cycles.specs.Cycles.{with-cycle}
+use Rattle.walker.specs.Walker.{block-rows}
 use Rattle.mathematics.specs.Writing.{put}
-use Rattle.walker.proofs.Adding.{added-length}
 use Rattle.mathematics.proofs.Puts.{put-none, put-more}
 use Rattle.walker.proofs.BlockRows.{rows-none, rows-same, rows-more, rows-long, row-room, row-after}
 use borrow.Author.Needs.{needs}
@@ -18,7 +17,7 @@ use Rattle.walker.proofs.blocks.write_block.Tie as tie
 abbrev Inv-loop : tie.InvT-loop
 Inv-loop states₀ at config cycle span m place₀ d₀ states place d =
     (m ≡ length config) × (span .from ≤ d) × (d - span .from ≤ span .to - span .from) × (place ≡ at + (d - span .from) * length config) × (length states ≡ length states₀)
-    × (states ≡ put states₀ at (flatten (rows config cycle (span .from) d)))
+    × (states ≡ put states₀ at (flatten (block-rows config cycle (span .from) d)))
 
 abbrev μ-loop : tie.MeasureT-loop
 μ-loop states₀ at config cycle span m place₀ d₀ states place d = span .to - d
@@ -74,17 +73,17 @@ loop-again c =
     let room = start .pre .2 in
     let place = at-loop .loop .inv .3 in
     let more = one-more at-loop (omega arith) in
-    let long : length (flatten (rows s z from d)) ≡ (d - from) * length s = rows-long s z from d in
-    let here : at-loop .loop .place ≡ start .args .at + length (flatten (rows s z from d)) = omega arith in
-    let made : c .before .write-row .last .0 ≡ put (put (start .args .states .now) (start .args .at) (flatten (rows s z from d))) (start .args .at + length (flatten (rows s z from d))) (added s (pos d) z) = rw (at-loop .loop .inv .5, here) at (c .before .write-row .ensures) in (
+    let long : length (flatten (block-rows s z from d)) ≡ (d - from) * length s = rows-long s z from d in
+    let here : at-loop .loop .place ≡ start .args .at + length (flatten (block-rows s z from d)) = omega arith in
+    let made : c .before .write-row .last .0 ≡ put (put (start .args .states .now) (start .args .at) (flatten (block-rows s z from d))) (start .args .at + length (flatten (block-rows s z from d))) (with-cycle s (pos d) z) = rw (at-loop .loop .inv .5, here) at (c .before .write-row .ensures) in (
       refl,
       omega arith,
       omega arith,
       omega (arith, row-after from d (length s) (at-loop .loop .inv .1)),
       c .before .write-row .kept .0 ∙ at-loop .loop .inv .4,
       made
-          ∙ put-more (start .args .states .now) (start .args .at) (flatten (rows s z from d)) (added s (pos d) z) (omega arith)
-          ∙ ap (put (start .args .states .now) (start .args .at)) (sym (flatten-last (rows s z from d) (added s (pos d) z)) ∙ ap flatten (sym (rows-more s z from d (at-loop .loop .inv .1)))),
+          ∙ put-more (start .args .states .now) (start .args .at) (flatten (block-rows s z from d)) (with-cycle s (pos d) z) (omega arith)
+          ∙ ap (put (start .args .states .now) (start .args .at)) (sym (flatten-last (block-rows s z from d) (with-cycle s (pos d) z)) ∙ ap flatten (sym (rows-more s z from d (at-loop .loop .inv .1)))),
     )
 
 same-length : tie.Need-same-length Inv-loop μ-loop

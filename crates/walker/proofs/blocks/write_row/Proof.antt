@@ -8,15 +8,15 @@ use lib.Seq.{paste, paste-zero, paste-suc}
 use mir.Syntax.{w8, w32}
 use mir.Val.{toZ, ofZ}
 use Rattle.mathematics.proofs.Signed.{back32, back8}
-use Rattle.walker.specs.Cycles.{added}
-use Rattle.walker.proofs.Adding.{added-length, added-at}
+use Rattle.cycles.specs.Cycles.{with-cycle}
+use Rattle.cycles.proofs.Adding.{added-length, added-at}
 use Rattle.mathematics.proofs.Puts.{paste-put}
 use borrow.Author.Needs.{needs}
 use Rattle.walker.proofs.blocks.write_row.Statement.{statement}
 use Rattle.walker.proofs.blocks.write_row.Tie as tie
 
 abbrev Inv-loop : tie.InvT-loop
-Inv-loop states₀ at config cycle times t e₀ e-end states e = (e ≤ length config) × (e-end ≡ length config) × (toZ w32 t ≡ pos times) × (length states ≡ length states₀) × (states ≡ paste states₀ at (added config (pos times) cycle) e)
+Inv-loop states₀ at config cycle times t e₀ e-end states e = (e ≤ length config) × (e-end ≡ length config) × (toZ w32 t ≡ pos times) × (length states ≡ length states₀) × (states ≡ paste states₀ at (with-cycle config (pos times) cycle) e)
 
 abbrev μ-loop : tie.MeasureT-loop
 μ-loop states₀ at config cycle times t e₀ e-end states e = length config - e
@@ -39,7 +39,7 @@ signed-requires c κs = omega (arith, c .pre .1)
 loop-holds : tie.Need-loop-holds Inv-loop μ-loop
 loop-holds c =
     let s = c .before in
-    (omega arith, refl, back32 (c .signed .result) (c .signed .ok) ∙ c .signed .ensures, refl, paste-zero (s .args .states .now) (s .args .at) (added (s .args .config .now) (pos (s .args .times)) (s .args .cycle .now)))
+    (omega arith, refl, back32 (c .signed .result) (c .signed .ok) ∙ c .signed .ensures, refl, paste-zero (s .args .states .now) (s .args .at) (with-cycle (s .args .config .now) (pos (s .args .times)) (s .args .cycle .now)))
 
 mul-plus : tie.Need-mul-plus Inv-loop μ-loop
 mul-plus c = search needs
@@ -75,7 +75,7 @@ loop-again : tie.Need-loop-again Inv-loop μ-loop
 loop-again c =
     let at-loop = c .before .before .before .before in
     let s = at-loop .before .before in
-    let row = added (s .args .config .now) (pos (s .args .times)) (s .args .cycle .now) in
+    let row = with-cycle (s .args .config .now) (pos (s .args .times)) (s .args .cycle .now) in
     let e = at-loop .loop .e in
     let room = s .pre .2 in
     let v : toZ w32 (ofZ w32 (c .plus .result)) ≡ getD row e (pos 0) =
@@ -95,7 +95,7 @@ same-length c = c .before .loop .inv .3
 returns : tie.Need-returns Inv-loop μ-loop
 returns c =
     let s = c .before .before .before in
-    let row = added (s .args .config .now) (pos (s .args .times)) (s .args .cycle .now) in
+    let row = with-cycle (s .args .config .now) (pos (s .args .times)) (s .args .cycle .now) in
     let past : c .before .loop .e ≡ length row = omega (arith, added-length (s .args .config .now) (pos (s .args .times)) (s .args .cycle .now)) in
     (rw past at (c .before .loop .inv .4)) ∙ paste-put (s .args .states .now) (s .args .at) row
 

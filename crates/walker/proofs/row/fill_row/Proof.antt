@@ -1,24 +1,24 @@
-use Prim.Native.Nat.{ℕ, _+_, _*_, _-_}
-use mathlib.Core.List.{List, _++_, flatten, append-nil}
+use Prim.Native.Nat.{ℕ, _+_, _-_}
+use mathlib.Core.List.{List, flatten, append-nil}
 use mathlib.Core.Path.{_≡_, ap, _∙_}
 use native.Mathlib.Omega.{arith}
 use lib.IntN.{ℤ, pos}
-use lib.ListN.{length, drop, drop-of-length-le}
-use Rattle.walker.specs.Cycles.{added}
-use Rattle.walker.specs.Walker.{rows}
+use lib.ListN.{length, drop-of-length-le}
+use Rattle.cycles.specs.Cycles.{with-cycle}
+use Rattle.walker.specs.Walker.{block-rows}
 use Rattle.mathematics.specs.Writing.{put}
-use Rattle.walker.proofs.Adding.{added-length}
+use Rattle.cycles.proofs.Adding.{added-length}
 use Rattle.mathematics.proofs.Puts.{put-front}
 use Rattle.walker.proofs.BlockRows.{rows-none, rows-more}
 use borrow.Author.Needs.{needs}
 use Rattle.walker.proofs.row.fill_row.Statement.{statement}
 use Rattle.walker.proofs.row.fill_row.Tie as tie
 
-one-row : (s z : List ℤ) (d : ℕ) → flatten (rows s z d (d + 1)) ≡ added s (pos d) z
+one-row : (s z : List ℤ) (d : ℕ) → flatten (block-rows s z d (d + 1)) ≡ with-cycle s (pos d) z
 unfolding flatten
 one-row s z d =
     let none : d - d ≡ 0 = omega arith in
-    rw (rows-more s z d d (omega arith), rows-none s z d d none) (append-nil (added s (pos d) z))
+    rw (rows-more s z d d (omega arith), rows-none s z d d none) (append-nil (with-cycle s (pos d) z))
 
 -- a list as long as the one that it is written over
 put-all : (old new : List ℤ) → length old ≡ length new → put old 0 new ≡ new
@@ -44,7 +44,7 @@ returns c =
     let d = start .args .times in
     c .before .write-block .ensures
     ∙ ap (put (start .args .row .now) 0) (one-row s z d)
-    ∙ put-all (start .args .row .now) (added s (pos d) z) (omega (arith, start .pre .2, added-length s (pos d) z))
+    ∙ put-all (start .args .row .now) (with-cycle s (pos d) z) (omega (arith, start .pre .2, added-length s (pos d) z))
 
 pub fill-row-spec : {M : Type 1} → statement M
 fill-row-spec = tie.close (tie.spec add-t6 write-block-requires same-length returns)

@@ -2,7 +2,7 @@ use Prim.Native.Nat.{_≤_, _*_, _-_}
 use mathlib.Core.Path.{_≡_, refl, sym, ap, _∙_}
 use native.Mathlib.Omega.{arith}
 use lib.ListN.{length}
-use Rattle.walker.specs.Cycles.{row}
+use Rattle.cycles.specs.Cycles.{row}
 use Rattle.walker.specs.Walker.{width, walked, walked-states}
 use Rattle.walker.proofs.BlockStates.{walked-none, states-none, interval-ready, step-ready, step-made, span-few, span-counts}
 use borrow.Author.Needs.{needs}

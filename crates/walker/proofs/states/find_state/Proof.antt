@@ -6,7 +6,7 @@ use lib.ListN.{length, take}
 use mir.Syntax.{w32}
 use mir.Val.{toZ, ofZ}
 use Rattle.mathematics.proofs.Signed.{back32}
-use Rattle.walker.specs.Cycles.{row}
+use Rattle.cycles.specs.Cycles.{row}
 use Rattle.walker.specs.Walker.{width, walked, walked-states}
 use Rattle.walker.specs.Steps.{Addable}
 use Rattle.walker.proofs.BlockStates.{walked-none, states-none, interval-ready, step-ready, step-made, span-counts, add-ready, state-found}

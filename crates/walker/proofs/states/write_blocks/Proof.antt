@@ -4,7 +4,7 @@ use mathlib.Core.Path.{_≡_, refl, sym, ap, _∙_}
 use native.Mathlib.Omega.{arith}
 use lib.IntN.{pos}
 use lib.ListN.{length, take}
-use Rattle.walker.specs.Cycles.{row}
+use Rattle.cycles.specs.Cycles.{row}
 use Rattle.walker.specs.Walker.{width, walked, walked-states}
 use Rattle.walker.specs.Steps.{Addable}
 use Rattle.mathematics.specs.Writing.{put}

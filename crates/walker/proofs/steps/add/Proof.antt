@@ -7,15 +7,15 @@ use lib.ListN.{length, getD, take, drop, length-set}
 use mir.Syntax.{w8, w32}
 use mir.Val.{toZ, ofZ}
 use Rattle.mathematics.proofs.Signed.{back32, back8}
-use Rattle.walker.specs.Cycles.{added}
-use Rattle.walker.proofs.Adding.{added-length, added-at}
+use Rattle.cycles.specs.Cycles.{with-cycle}
+use Rattle.cycles.proofs.Adding.{added-length, added-at}
 use Rattle.mathematics.proofs.Front.{front-read, front-more, front-end}
 use borrow.Author.Needs.{needs}
 use Rattle.walker.proofs.steps.add.Statement.{statement}
 use Rattle.walker.proofs.steps.add.Tie as tie
 
 abbrev Inv-loop : tie.InvT-loop
-Inv-loop config₀ cycle times e₀ e-end config e = (e ≤ length config₀) × (e-end ≡ length config₀) × (length config ≡ length config₀) × (config ≡ take e (added config₀ (toZ w32 times) cycle) ++ drop e config₀)
+Inv-loop config₀ cycle times e₀ e-end config e = (e ≤ length config₀) × (e-end ≡ length config₀) × (length config ≡ length config₀) × (config ≡ take e (with-cycle config₀ (toZ w32 times) cycle) ++ drop e config₀)
 
 abbrev μ-loop : tie.MeasureT-loop
 μ-loop config₀ cycle times e₀ e-end config e = length config₀ - e
@@ -72,7 +72,7 @@ loop-again : tie.Need-loop-again Inv-loop μ-loop
 loop-again c =
     let at-loop = c .before .before .before .before in
     let s = at-loop .before in
-    let new = added (s .args .config .now) (toZ w32 (ofZ w32 (s .args .times))) (s .args .cycle .now) in (
+    let new = with-cycle (s .args .config .now) (toZ w32 (ofZ w32 (s .args .times))) (s .args .cycle .now) in (
       omega arith,
       refl,
       simp length-set (at-loop .loop .inv .2),
@@ -87,7 +87,7 @@ returns : tie.Need-returns Inv-loop μ-loop
 returns c =
     let s = c .before .before in
     rw (← (times-back s))
-    (front-end (s .args .config .now) (added (s .args .config .now) _ (s .args .cycle .now)) (c .before .loop .config) (c .before .loop .e) (pos 0) (added-length (s .args .config .now) _ (s .args .cycle .now)) (c .before .loop .inv .3) (omega arith))
+    (front-end (s .args .config .now) (with-cycle (s .args .config .now) _ (s .args .cycle .now)) (c .before .loop .config) (c .before .loop .e) (pos 0) (added-length (s .args .config .now) _ (s .args .cycle .now)) (c .before .loop .inv .3) (omega arith))
 
 pub add-spec : {M : Type 1} → statement M
 add-spec =

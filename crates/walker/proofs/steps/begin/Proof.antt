@@ -6,16 +6,16 @@ use lib.ListN.{length, getD}
 use mir.Syntax.{w32}
 use mir.Val.{toZ, ofZ}
 use Rattle.mathematics.proofs.Signed.{size-neg, back32}
-use Rattle.walker.specs.Cycles.{row, added}
-use Rattle.walker.specs.Walker.{combined, lowest}
-use Rattle.walker.proofs.Combined.{zeros-at}
+use Rattle.cycles.specs.Cycles.{row, with-cycle}
+use Rattle.walker.specs.Walker.{sum-of-cycles, lowest-candidate}
+use Rattle.cycles.proofs.Adding.{zeros-at}
 use Rattle.walker.proofs.Stepping.{cycle-long, cycle-signs, cycle-addable, added-small, combined-next}
 use borrow.Author.Needs.{needs}
 use Rattle.walker.proofs.steps.begin.Statement.{statement}
 use Rattle.walker.proofs.steps.begin.Tie as tie
 
 abbrev Inv-loop : tie.InvT-loop
-Inv-loop config₀ cycles n-free lambda m low j₀ config j = (j ≤ n-free) × (m ≡ length config₀) × (toZ w32 low ≡ negℤ (pos lambda)) × (length config ≡ length config₀) × (config ≡ combined (row (length config₀) cycles) (λ i. negℤ (pos lambda)) config₀ j) × ((e : ℕ) → natAbs (getD config e (pos 0)) ≤ j * 1000)
+Inv-loop config₀ cycles n-free lambda m low j₀ config j = (j ≤ n-free) × (m ≡ length config₀) × (toZ w32 low ≡ negℤ (pos lambda)) × (length config ≡ length config₀) × (config ≡ sum-of-cycles (row (length config₀) cycles) (λ i. negℤ (pos lambda)) config₀ j) × ((e : ℕ) → natAbs (getD config e (pos 0)) ≤ j * 1000)
 
 abbrev μ-loop : tie.MeasureT-loop
 μ-loop config₀ cycles n-free lambda m low j₀ config j = n-free - j
@@ -27,7 +27,7 @@ minus-requires : tie.Need-minus-requires Inv-loop μ-loop
 minus-requires c κs = omega (arith, c .pre .1 .truncation)
 
 loop-holds : tie.Need-loop-holds Inv-loop μ-loop
-unfolding combined
+unfolding sum-of-cycles
 loop-holds c =
     let start = c .before in
     let s = start .args .config .now in (
@@ -86,12 +86,12 @@ loop-again c =
     let cycles = start .args .cycles .now in
     let inside : j < 63 = omega (arith, fit .free-few) in
     let e : 63 * j + m - 63 * j ≡ m = omega arith in
-    let made : c .before .add .last .0 ≡ added (at-loop .loop .config) (negℤ (pos (start .args .lambda))) (row m cycles j) = rw (e, at-loop .loop .inv .2) at (c .before .add .ensures) in (
+    let made : c .before .add .last .0 ≡ with-cycle (at-loop .loop .config) (negℤ (pos (start .args .lambda))) (row m cycles j) = rw (e, at-loop .loop .inv .2) at (c .before .add .ensures) in (
       omega arith,
       refl,
       at-loop .loop .inv .2,
       c .before .add .kept .0 ∙ at-loop .loop .inv .3,
-      made ∙ ap (λ s. added s (negℤ (pos (start .args .lambda))) (row m cycles j)) (at-loop .loop .inv .4) ∙ sym (combined-next (row m cycles) (λ i. negℤ (pos (start .args .lambda))) (start .args .config .now) j),
+      made ∙ ap (λ s. with-cycle s (negℤ (pos (start .args .lambda))) (row m cycles j)) (at-loop .loop .inv .4) ∙ sym (combined-next (row m cycles) (λ i. negℤ (pos (start .args .lambda))) (start .args .config .now) j),
       λ i.
           rw made
           (omega (
@@ -105,12 +105,12 @@ same-length : tie.Need-same-length Inv-loop μ-loop
 same-length c = search needs
 
 returns : tie.Need-returns Inv-loop μ-loop
-unfolding lowest
+unfolding lowest-candidate
 returns c =
     let start = c .before .before .before in
     let past : c .before .loop .j ≡ start .args .n-free = omega arith in
     let made = rw past at (c .before .loop .inv .4) in
-    made ∙ ap (λ s. combined (row (length (start .args .config .now)) (start .args .cycles .now)) (λ i. negℤ (pos (start .args .lambda))) s (start .args .n-free)) (start .pre .0)
+    made ∙ ap (λ s. sum-of-cycles (row (length (start .args .config .now)) (start .args .cycles .now)) (λ i. negℤ (pos (start .args .lambda))) s (start .args .n-free)) (start .pre .0)
 
 pub begin-spec : {M : Type 1} → statement M
 begin-spec =

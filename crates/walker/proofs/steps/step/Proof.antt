@@ -8,7 +8,7 @@ use lib.ListN.{length, getD}
 use mir.Syntax.{w32}
 use mir.Val.{toZ, ofZ}
 use Rattle.mathematics.proofs.Signed.{size-neg, back32}
-use Rattle.walker.specs.Cycles.{row, added}
+use Rattle.cycles.specs.Cycles.{row, with-cycle}
 use Rattle.walker.specs.Walker.{stepped}
 use Rattle.walker.specs.Steps.{Addable}
 use Rattle.walker.proofs.Stepping.{cycle-long, cycle-signs, cycle-addable, added-small, step-here, step-on, step-end}
@@ -126,7 +126,7 @@ returns c =
     let at-loop = c .before .before .before .before .before .before .before .before .before in
     let s = start at-loop in
     let m = length (s .args .config .now) in
-    let made : c .before .add .last .0 ≡ added (at-loop .loop .config) (pos 1) (row m (s .args .cycles .now) (at-loop .loop .j)) = rw (part (at-loop .loop .j) m) at (c .before .add .ensures) in
+    let made : c .before .add .last .0 ≡ with-cycle (at-loop .loop .config) (pos 1) (row m (s .args .cycles .now) (at-loop .loop .j)) = rw (part (at-loop .loop .j) m) at (c .before .add .ensures) in
     made
     ∙ sym (step-here (s .args .free .now) (row m (s .args .cycles .now)) (s .args .lambda) (s .args .n-free) (at-loop .loop .j) (at-loop .loop .config) (omega arith)
     (test (c .before .before .before .before .before) true (c .before .before .before .before .if1 .taken)))
@@ -172,7 +172,7 @@ loop-again c =
     let L = s .args .lambda in
     let z = row m (s .args .cycles .now) in
     let inside : j < 63 = omega (arith, fit .free-few) in
-    let made : c .before .add2 .last .0 ≡ added (at-loop .loop .config) (negℤ (pos (2 * L))) (z j) = rw (part j m, at-loop .loop .inv .2) at (c .before .add2 .ensures) in (
+    let made : c .before .add2 .last .0 ≡ with-cycle (at-loop .loop .config) (negℤ (pos (2 * L))) (z j) = rw (part j m, at-loop .loop .inv .2) at (c .before .add2 .ensures) in (
       refl,
       at-loop .loop .inv .1,
       at-loop .loop .inv .2,

@@ -1,0 +1,3 @@
+pub mod EvenSets
+pub mod Loops
+pub mod Forest

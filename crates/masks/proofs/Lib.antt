@@ -1,0 +1,3 @@
+pub mod Doubling
+pub mod Placing
+pub mod Telling

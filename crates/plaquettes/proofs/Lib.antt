@@ -1,0 +1,5 @@
+pub mod TriangleRows
+pub mod TriangleTelling
+pub mod Demands
+pub mod Rising
+pub mod Targets

@@ -1,0 +1,3 @@
+pub mod Triangle
+pub mod Demand
+pub mod Targets
