@@ -12,12 +12,12 @@ use Rattle.complex.specs.Complex.{Complex}
 use Rattle.complex.specs.Judge.{complex-tests, truncated-tests, refusal}
 use Rattle.triangles.specs.Indices.{sides-tests, sides-refusal}
 use Rattle.sheet.specs.Sheet.{header-tests, reading-tests, reading-refusal, writing-tests, writing-refusal}
-use Rattle.sheet.specs.Making.{size-tests, making-tests, making-refusal}
+use Rattle.making.specs.Making.{size-tests, making-tests, making-refusal}
 use Rattle.gauss_law.specs.Law.{law-tests, law-refusal}
 use Rattle.gauss_law.specs.Spanning.{tree-tests, tree-refusal}
 use Rattle.enumeration.specs.Enumeration.{enumerated-tests, enumerated-refusal}
 use Rattle.hilbert.specs.Index.{index-tests, index-refusal}
-use Rattle.hilbert.specs.Shift.{shift-tests, shift-refusal}
+use Rattle.shifts.specs.Shift.{shift-tests, shift-refusal}
 use Rattle.plaquettes.specs.Triangle.{triangle-tests, triangle-refusal}
 use Rattle.matrices.specs.declared.coupling.KSParams.{KSParams}
 use Rattle.matrices.specs.Weights.{weights-tests}

@@ -33,6 +33,14 @@ fn minus(sum: i64, x: i32) -> i64
     sum - wide(x)
 }
 
+// A small sum of two values.
+pub fn sum(x: i32, delta: i32) -> i32
+    requires { ⌜ natAbs (x +ℤ delta) ≤ 2 ^ 20 ⌝ }
+    ensures { λ r. ⌜ r ≡ x +ℤ delta ⌝ }
+{
+    x + delta
+}
+
 // The value x is taken off the sum at a and added to the sum at b.
 fn carry(sums: &mut [i64; 64], a: usize, b: usize, x: i32)
     requires { ⌜ EdgeAddable (now sums) (a ∷ b ∷ []) ⌝ }

@@ -1,30 +1,23 @@
 -- The entries of the dense matrix while one triangle is under way: what one state more changes.
 use Prim.Native.Nat.{ℕ, _+_, _<_}
-use mathlib.Core.List.{[]}
 use mathlib.Core.Bool.{Bool, true, false, _&&_, _||_}
-use mathlib.Core.Path.{_≡_, refl, sym, ap, ap₂, _∙_}
-use mathlib.Core.Logic.{_≢_}
+use mathlib.Core.Path.{_≡_, refl, ap, ap₂, _∙_}
 use native.Mathlib.Omega.{arith}
 use native.Mathlib.Numerals.{add-one}
 use native.Mathlib.Decide.{ℕ-discrete}
-use borrow.Author.Tests.{eqb-true, lt-ltb, le-ltb}
-use lib.Dec.{eqb, ltb}
+use borrow.Author.Tests.{lt-ltb, le-ltb}
+use lib.Dec.{ltb}
 use lib.Ieee.{Float}
-use lib.ListN.{getD, length}
-use Rattle.mathematics.proofs.Tests.{and-parts, and-true}
+use lib.ListN.{length}
+use Rattle.mathematics.proofs.Tests.{and-true}
 use Rattle.complex.specs.Complex.{Complex}
 use Rattle.complex.specs.Judge.{Accepted}
-use Rattle.gauss_law.proofs.Shifts.{triangle-long}
 use Rattle.gauss_law.specs.Listing.{states}
-use Rattle.hilbert.specs.Basis.{place, At}
-use Rattle.hilbert.proofs.Order.{in-basis-at}
 use Rattle.matrices.specs.declared.coupling.KSParams.{KSParams}
-use Rattle.plaquettes.specs.Triangle.{shifted-state, sides-within, hits}
+use Rattle.plaquettes.specs.Triangle.{hits}
 use Rattle.hamiltonian.specs.Dense.{u1-entry}
 use Rattle.hamiltonian.specs.Walk.{under-way, part-entry}
-use Rattle.plaquettes.proofs.TriangleRows.{shifted-state-in-basis}
-use Rattle.plaquettes.proofs.TriangleTelling.{state-there}
-use Rattle.plaquettes.proofs.Rising.{never-itself, never-back}
+use Rattle.plaquettes.proofs.Hits.{no-hit, no-return}
 use Rattle.matrices.proofs.Matrices.{one-higher}
 
 -- ---- tests
@@ -33,40 +26,6 @@ and-none true = refl
 and-none false = refl
 
 module _ (c : Complex) (accepted : Accepted c) (L t : ℕ) (number : t < length (c .triangles)) where
-  -- a hit stands at its place
-  pub hits-at : (i j : ℕ) → i < length (states c L) → hits c L t i j ≡ true → At c L (shifted-state c L t i) j
-  unfolding hits shifted-state
-  hits-at i j h k =
-      let r = and-parts (sides-within c L t (shifted-state c L t i)) (eqb (place c L (shifted-state c L t i)) j) k in
-      let is = state-there c accepted L i h in
-      rw (← (eqb-true (place c L (shifted-state c L t i)) j (r .1)))
-      (in-basis-at c accepted L (shifted-state c L t i) (triangle-long c t (getD (states c L) i []) ∙ is .sized) (shifted-state-in-basis c accepted L t number (getD (states c L) i []) is (r .0)))
-
-  -- of a state there is one hit at most
-  one-hit : (i j q : ℕ) → hits c L t i j ≡ true → hits c L t i q ≡ true → j ≡ q
-  unfolding hits
-  one-hit i j q h k =
-      sym (eqb-true (place c L (shifted-state c L t i)) j (and-parts (sides-within c L t (shifted-state c L t i)) (eqb (place c L (shifted-state c L t i)) j) h .1))
-      ∙ eqb-true (place c L (shifted-state c L t i)) q (and-parts (sides-within c L t (shifted-state c L t i)) (eqb (place c L (shifted-state c L t i)) q) k .1)
-
-  no-hit : (i j q : ℕ) → j ≢ q → hits c L t i q ≡ true → hits c L t i j ≡ false
-  no-hit i j q d h = go (hits c L t i j) refl
-    where
-      go : (b : Bool) → hits c L t i j ≡ b → b ≡ false
-      go true e = absurd (d (one-hit i j q e h))
-      go false e = refl
-
-  no-return : (i j : ℕ) → i < length (states c L) → j < length (states c L) → hits c L t i j ≡ true → hits c L t j i ≡ false
-  no-return i j h k e = go (hits c L t j i) refl
-    where
-      go : (b : Bool) → hits c L t j i ≡ b → b ≡ false
-      go true f = absurd (never-back c accepted t number L i j h k (hits-at i j h e) (hits-at j i k f))
-      go false f = refl
-
-  -- the two entries of a hit are different ones
-  pub elsewhere : (i q : ℕ) → i < length (states c L) → hits c L t i q ≡ true → i ≢ q
-  elsewhere i q h e d = never-itself c accepted t number L i h (hits-at i i h (rw (← d) at e))
-
   -- ---- one state more
   module _ (k : ℕ) (below : k < length (states c L)) where
     -- without a hit nothing changes
@@ -86,15 +45,15 @@ module _ (c : Complex) (accepted : Accepted c) (L t : ℕ) (number : t < length 
       pub way-there : (under-way c L t k k q ≡ false) × (under-way c L t (k + 1) k q ≡ true)
       unfolding under-way
       way-there = (
-        rw (hit, le-ltb k k (omega arith), no-return k q below there hit),
+        rw (hit, le-ltb k k (omega arith), no-return c accepted L t number k q below there hit),
         rw (hit, lt-ltb k (k + 1) (omega arith)),
       )
 
       pub way-back : (under-way c L t k q k ≡ false) × (under-way c L t (k + 1) q k ≡ true)
       unfolding under-way
       way-back = (
-        rw (no-return k q below there hit, hit, le-ltb k k (omega arith)),
-        rw (no-return k q below there hit, hit, lt-ltb k (k + 1) (omega arith)),
+        rw (no-return c accepted L t number k q below there hit, hit, le-ltb k k (omega arith)),
+        rw (no-return c accepted L t number k q below there hit, hit, lt-ltb k (k + 1) (omega arith)),
       )
 
       -- everywhere else nothing changes
@@ -107,7 +66,7 @@ module _ (c : Complex) (accepted : Accepted c) (L t : ℕ) (number : t < length 
             where
               go : Dec (i ≡ k) → (hits c L t i j && ltb i (k + 1)) ≡ (hits c L t i j && ltb i k)
               go (yes e) =
-                  let z : hits c L t i j ≡ false = ap (λ m. hits c L t m j) e ∙ no-hit k j q (λ f. a (e, f)) hit in
+                  let z : hits c L t i j ≡ false = ap (λ m. hits c L t m j) e ∙ no-hit c accepted L t number k j q (λ f. a (e, f)) hit in
                   rw z
               go (no e) = ap (λ b. hits c L t i j && b) (one-higher i k e)
 

@@ -24,7 +24,8 @@ use Rattle.hamiltonian.specs.Walk.{part-entry, HitAdded, PlaquetteAdded}
 use Rattle.plaquettes.specs.Targets.{BasisList, SidesOf, target}
 use Rattle.matrices.proofs.Matrices.{matrix-add, matrix-same}
 use Rattle.plaquettes.proofs.Rising.{targets-rise}
-use Rattle.hamiltonian.proofs.PartWay.{elsewhere, way-none, way-there, way-back, way-elsewhere, part-none, part-all}
+use Rattle.plaquettes.proofs.Hits.{elsewhere}
+use Rattle.hamiltonian.proofs.PartWay.{way-none, way-there, way-back, way-elsewhere, part-none, part-all}
 use Rattle.plaquettes.proofs.Targets.{there, target-none, target-at}
 
 -- while triangle t is under way: no later target is before a place, and the entries are those of the states below i

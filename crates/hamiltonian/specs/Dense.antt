@@ -30,7 +30,7 @@ unfoldable pub u1-electric-entry : Complex → ℕ → KSParams → ℕ → ℕ 
 u1-electric-entry c L p i j = cond (eqb i j) (add binary64 (float-of 0) (energy (p .electric) (squares (getD (states c L) i [])))) (float-of 0)
 
 -- Then each of the first n triangles, rising, adds to (i, j) and to (j, i) where it takes state i to j. It adds once, since no triangle takes
--- a state to itself, or to another and back (proofs/Rising: never-itself, never-back).
+-- a state to itself, or to another and back (plaquettes/proofs/Hits: elsewhere, no-return).
 unfoldable pub u1-entry : Complex → ℕ → KSParams → (ℕ → Float) → ℕ → ℕ → ℕ → Float
 u1-entry c L p w zero i j = u1-electric-entry c L p i j
 u1-entry c L p w (suc t) i j = cond (hits c L t i j || hits c L t j i) (add binary64 (u1-entry c L p w t i j) (plaquette-term p (w t))) (u1-entry c L p w t i j)

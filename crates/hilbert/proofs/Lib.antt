@@ -2,4 +2,3 @@ pub mod Searching
 pub mod Order
 pub mod Found
 pub mod Indexing
-pub mod Shifting

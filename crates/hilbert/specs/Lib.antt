@@ -1,4 +1,3 @@
 pub mod Basis
 pub mod Search
 pub mod Index
-pub mod Shift

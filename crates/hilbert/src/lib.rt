@@ -1,5 +1,4 @@
-// The basis as a list: the place of a configuration, and shifts of one edge.
+// The basis as a list: the place of a configuration.
 
 pub mod index;
 pub mod search;
-pub mod shift;

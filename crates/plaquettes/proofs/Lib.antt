@@ -3,3 +3,4 @@ pub mod TriangleTelling
 pub mod Demands
 pub mod Rising
 pub mod Targets
+pub mod Hits

@@ -1,8 +1,8 @@
 // The shift of a triangle: 1, -1 and 1 are added on its three edges.
 use complex::SimplicialComplex;
 use enumeration::prepare_basis;
+use gauss_law::law::sum;
 use hilbert::index::list_and_find;
-use hilbert::shift::sum;
 use triangles::Sides;
 use triangles::triangle_sides;
 use walker::blocks::within;

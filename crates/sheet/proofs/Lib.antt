@@ -1,4 +1,3 @@
 pub mod Headers
 pub mod Sheets
 pub mod RoundTrips
-pub mod Makings

@@ -1,3 +1,2 @@
 pub mod Sheet
-pub mod Making
 pub mod RoundTrips

@@ -1,6 +1,6 @@
 -- The tables of an accepted record fit, and walk over all its states.
 use Prim.Native.Nat.{ℕ, _+_, _-_, _*_, _^_, _≤_}
-use mathlib.Core.List.{List, flatten}
+use mathlib.Core.List.{List}
 use mathlib.Core.Path.{_≡_, sym, _∙_, ap}
 use native.Mathlib.Omega.{arith}
 use native.Mathlib.Nat.{sub-zero, mul-le-mul}
@@ -25,7 +25,6 @@ use Rattle.cycles.proofs.Rows.{zero-row}
 use Rattle.walker.proofs.Stepping.{cycle-long, cycle-signs}
 use Rattle.walker.proofs.Combined.{lowest-chosen}
 use Rattle.walker.proofs.Uncharged.{uncharged-states, uncharged-long, uncharged-small}
-use Rattle.walker.proofs.BlockStates.{states-long}
 use Rattle.cycles.proofs.CycleTables.{free-listed}
 use Rattle.gauss_law.specs.Gauss.{uncharged}
 
@@ -125,10 +124,3 @@ module _ (c : Complex) (w : Walker) (walks : Walks c w) where
     pub walks-states : states-of w L ((2 * L + 1) ^ (w .«n_free» - 1)) ≡ listing c uncharged L
     unfolding states-of
     walks-states = rw (begin-is, walks .edges, walks .count) (sym (uncharged-states c (walks .accepted) (w .free) cycle walks-tables L))
-
--- every state that is walked has all edges
-pub states-of-long : (w : Walker) (L k : ℕ) → Fit w L k → length (flatten (states-of w L k)) ≡ length (states-of w L k) * w .«n_edges»
-unfolding states-of
-states-of-long w L k fit =
-    states-long (w .free) (row (w .«n_edges») (w .cycles)) L (w .«n_free») (begin-of w L) (λ i. (rw (fit .sized) at (fit .walkable .sized i)) ∙ sym (fit .sized)) k
-    ∙ ap (λ m. length (states-of w L k) * m) (fit .sized)

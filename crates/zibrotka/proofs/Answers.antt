@@ -16,9 +16,9 @@ use Rattle.complex.proofs.Accepting.{counts, passed}
 use Rattle.sheet.specs.declared.Sheet.{Sheet}
 use Rattle.sheet.specs.Sheet.{sheetIn, reading-refusal, sheetBytes, writtenAnswer}
 use Rattle.sheet.specs.declared.Written.{Written}
-use Rattle.sheet.specs.Making.{flatComplex, making-refusal, Made}
+use Rattle.making.specs.Making.{flatComplex, making-refusal, Made}
 use Rattle.gauss_law.proofs.Accepted.{free-count}
-use Rattle.sheet.proofs.Makings.{made-small}
+use Rattle.making.proofs.Makings.{made-small}
 use Rattle.pentachora.specs.declared.FromPentachorons.{FromPentachorons}
 use Rattle.pentachora.specs.declared.FromPentachorons.the-variants.{Counts, Refused as NoComplex}
 use Rattle.pentachora.specs.Pentachora.{faces, complexFrom, pentachora-refusal, facesAnswer, FacesTold}

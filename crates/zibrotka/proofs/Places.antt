@@ -11,7 +11,7 @@ use Rattle.gauss_law.specs.Listing.{states}
 use Rattle.hilbert.specs.declared.index.Index.{Index}
 use Rattle.hilbert.specs.Basis.{At}
 use Rattle.hilbert.specs.Index.{indexAnswer, Indexed}
-use Rattle.hilbert.specs.Shift.{EdgeShiftTold}
+use Rattle.shifts.specs.Shift.{EdgeShiftTold}
 use Rattle.plaquettes.specs.declared.triangle.TriangleShift.{TriangleShift}
 use Rattle.plaquettes.specs.Triangle.{triangleAnswer, triangleOutcome, TriangleShiftTold}
 use Rattle.zibrotka.specs.declared.Told.{Told}

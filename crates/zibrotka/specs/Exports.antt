@@ -23,7 +23,7 @@ use Rattle.gauss_law.specs.Shifts.{shifted}
 use Rattle.enumeration.specs.Enumeration.{basis-first, enumerated-refusal}
 use Rattle.hilbert.specs.Basis.{place, At}
 use Rattle.hilbert.specs.Index.{index-refusal}
-use Rattle.hilbert.specs.Shift.{shift-refusal}
+use Rattle.shifts.specs.Shift.{shift-refusal}
 use Rattle.matrices.specs.declared.coupling.KSParams.{KSParams}
 use Rattle.matrices.specs.Coupling.{coupling-refusal}
 use Rattle.matrices.specs.Weights.{weight}
@@ -41,7 +41,7 @@ use Rattle.complex.specs.Sides.{sides}
 use Rattle.triangles.specs.Indices.{sides-refusal}
 use Rattle.pentachora.specs.Pentachora.{faces, pentachora-refusal}
 use Rattle.sheet.specs.Sheet.{sheetIn, reading-refusal, sheetBytes}
-use Rattle.sheet.specs.Making.{flatComplex, making-refusal}
+use Rattle.making.specs.Making.{flatComplex, making-refusal}
 
 -- the value, or minus the refusal
 unfoldable pub signed : Outcome ℕ → ℤ

@@ -10,7 +10,7 @@ use Rattle.zibrotka.proofs.zibrotka_make_sheet.Statement.{statement}
 use Rattle.zibrotka.proofs.zibrotka_make_sheet.Tie as tie
 use Rattle.zibrotka.proofs.zibrotka_make_sheet.Reads as reads
 use Rattle.zibrotka.proofs.zibrotka_make_sheet.Lts as lts
-use Rattle.sheet.proofs.make_sheet.Reads as make-sheet-reads
+use Rattle.making.proofs.make_sheet.Reads as make-sheet-reads
 use Rattle.zibrotka.proofs.signed.Reads as signed-reads
 use Rattle.zibrotka.proofs.told_written.Reads as told-written-reads
 

@@ -1,0 +1,99 @@
+-- A sheet from flat lists.
+use Prim.Native.Nat.{ℕ, zero, suc, _+_, _-_, _*_, _/_, _%_, _<_, _≤_}
+use mathlib.Core.List.{List, [], _∷_, _++_}
+use mathlib.Core.Path.{_≡_, refl, sym, ap, _∙_}
+use mathlib.Core.Bool.{Bool, true, false, not, _&&_, cond}
+use native.Mathlib.Omega.{arith}
+use borrow.Author.Tests.{eqb-true, ltb-false, le-ltb}
+use lib.ListN.{getD, length, take, drop, replicate}
+use lib.Seq.{take-length}
+use lib.Dec.{eqb, ltb}
+use Rattle.mathematics.specs.Refusals.{first, outcome, written}
+use Rattle.mathematics.proofs.Tests.{and-parts}
+use Rattle.mathematics.proofs.Refusals.{first-stops}
+use Rattle.complex.specs.declared.SimplicialComplex.{SimplicialComplex}
+use Rattle.complex.specs.Complex.{Complex, simplices, complexOf}
+use Rattle.complex.specs.Judge.{counts-right, shape-tests}
+use Rattle.complex.proofs.Simplices.{simplices-length}
+use Rattle.complex.proofs.Accepting.{Counts, counts, simplices-sized}
+use Rattle.complex.proofs.Flattened.{simplices-front}
+use Rattle.sheet.specs.declared.Sheet.{Sheet}
+use Rattle.sheet.specs.declared.Written.{Written}
+use Rattle.sheet.specs.declared.Written.the-variants.{Bytes, Refused as NotWritten}
+use Rattle.sheet.specs.Sheet.{padded, sheetBytes, writing-refusal, writtenAnswer, WrittenOf}
+use Rattle.sheet.proofs.RoundTrips.{sheet-length}
+use Rattle.making.specs.Making.{flatComplex, size-tests, making-refusal, Made}
+
+three-pass : (p q r : Bool) → _≡_ {A = ℕ} (cond (not p) 4 (cond q 5 (cond (not r) 6 0))) 0 → (p ≡ true) × (q ≡ false) × (r ≡ true)
+three-pass false q r h = absurd (omega arith)
+three-pass true true r h = absurd (omega arith)
+three-pass true false false h = absurd (omega arith)
+three-pass true false true h = (refl, refl, refl)
+
+-- sizes that passed their tests
+pub record Sizes (n : ℕ) (edges triangles : List ℕ) (lambda : ℕ) : Type 0 where
+  pub counts-pass : counts-right n (length edges / 2) (length triangles / 3) ≡ true
+  pub truncation : ltb 1000 lambda ≡ false
+  pub multiples : (eqb (length edges % 2) 0 && eqb (length triangles % 3) 0) ≡ true
+  pub pairs : length edges ≡ 2 * (length edges / 2)
+  pub triples : length triangles ≡ 3 * (length triangles / 3)
+
+pub sizes-of : (n : ℕ) (edges triangles : List ℕ) (lambda : ℕ) → first (size-tests n edges triangles lambda) ≡ 0 → Sizes n edges triangles lambda
+unfolding first size-tests
+sizes-of n edges triangles lambda h =
+    let p = three-pass (counts-right n (length edges / 2) (length triangles / 3)) (ltb 1000 lambda) (eqb (length edges % 2) 0 && eqb (length triangles % 3) 0) h in
+    let q = and-parts (eqb (length edges % 2) 0) (eqb (length triangles % 3) 0) (p .2) in
+    let even = eqb-true (length edges % 2) 0 (q .0) in
+    let third = eqb-true (length triangles % 3) 0 (q .1) in
+    record { counts-pass = p .0; truncation = p .1; multiples = p .2; pairs = omega arith; triples = omega arith }
+
+-- the simplices of a whole list, with zeros behind it
+pub whole-list : (k m : ℕ) (l : List ℕ) (n : ℕ) → length l ≡ k * n → simplices k (padded m (take (length l) (drop 0 l))) n ≡ simplices k l n
+unfolding padded
+whole-list k m l n long = rw (take-length l) (simplices-front k l (replicate (m - length l) 0) n (omega arith))
+
+module _ (n : ℕ) (edges triangles : List ℕ) (lambda : ℕ) (before : List ℕ) where
+  pub sizes-refused : (k : ℕ) → k ≡ first (size-tests n edges triangles lambda) → (k ≡ 0 → ⊥) → Made n edges triangles lambda before (NotWritten k) before
+  unfolding making-refusal writtenAnswer outcome written
+  sizes-refused zero e some = absurd (some refl)
+  sizes-refused (suc k) e some =
+      let c = flatComplex n edges triangles in
+      let more : List (ℕ × Bool) = shape-tests c ++ ((15, ltb (length before) (length (sheetBytes c lambda))) ∷ []) in
+      let stop : first (size-tests n edges triangles lambda ++ more) ≡ suc k =
+      first-stops (size-tests n edges triangles lambda) more (λ (z : first (size-tests n edges triangles lambda) ≡ 0). some (e ∙ z)) ∙ sym e in
+      record { answer = rw stop; bytes = rw stop }
+
+  same-refusal : first (size-tests n edges triangles lambda) ≡ 0 → writing-refusal (flatComplex n edges triangles) lambda (length before) ≡ making-refusal n edges triangles lambda (length before)
+  unfolding writing-refusal making-refusal first size-tests flatComplex
+  same-refusal h =
+      let s = sizes-of n edges triangles lambda h in
+      rw (simplices-length 2 edges (length edges / 2), simplices-length 3 triangles (length triangles / 3), s .counts-pass, s .truncation, s .multiples)
+
+  pub made-by : first (size-tests n edges triangles lambda) ≡ 0 → (s : Sheet) → complexOf (s .complex) ≡ flatComplex n edges triangles → s .lambda ≡ lambda → (r : Written) (after : List ℕ) → WrittenOf s before r after → Made n edges triangles lambda before r after
+  made-by h s e f r after w =
+      let answer = rw (e, f, same-refusal h) at (w .answer) in
+      let bytes = rw (e, f, same-refusal h) at (w .bytes) in
+      record { answer = answer; bytes = bytes }
+
+  sizes-none : making-refusal n edges triangles lambda (length before) ≡ 0 → first (size-tests n edges triangles lambda) ≡ 0
+  unfolding making-refusal
+  sizes-none h = go (first (size-tests n edges triangles lambda)) refl
+    where
+      go : (k : ℕ) → first (size-tests n edges triangles lambda) ≡ k → k ≡ 0
+      go zero e = refl
+      go (suc k) e =
+          let c = flatComplex n edges triangles in
+          let more : List (ℕ × Bool) = shape-tests c ++ ((15, ltb (length before) (length (sheetBytes c lambda))) ∷ []) in
+          let stop : first (size-tests n edges triangles lambda ++ more) ≡ suc k =
+          first-stops (size-tests n edges triangles lambda) more (λ (z : first (size-tests n edges triangles lambda) ≡ 0). let y : suc k ≡ 0 = sym e ∙ z in omega arith) ∙ e in
+          absurd (let y : suc k ≡ 0 = sym stop ∙ h in omega arith)
+
+  -- a sheet has at most 905 bytes
+  pub made-small : making-refusal n edges triangles lambda (length before) ≡ 0 → length (sheetBytes (flatComplex n edges triangles) lambda) ≤ 905
+  unfolding flatComplex
+  made-small h =
+      let s = sizes-of n edges triangles lambda (sizes-none h) in
+      let k = counts n (length edges / 2) (length triangles / 3) (s .counts-pass) in
+      let e = k .edges in
+      let t = k .triangles in
+      omega (arith, sheet-length (flatComplex n edges triangles) lambda (simplices-sized 2 edges (length edges / 2)) (simplices-sized 3 triangles (length triangles / 3)), simplices-length 2 edges (length edges / 2), simplices-length 3 triangles (length triangles / 3))

@@ -1,0 +1,44 @@
+-- A sheet's bytes from flat lists.
+use Prim.Native.Nat.{ℕ, _/_, _%_}
+use mathlib.Core.List.{List, [], _∷_, _++_}
+use mathlib.Core.Bool.{Bool, not, _&&_}
+use mathlib.Core.Path.{_≡_}
+use lib.ListN.{length}
+use lib.Dec.{eqb, ltb}
+use Rattle.mathematics.specs.Writing.{front}
+use Rattle.mathematics.specs.Refusals.{first, outcome, written}
+use Rattle.complex.specs.Complex.{Complex, simplices}
+use Rattle.complex.specs.Judge.{counts-right, truncation-test, shape-tests}
+use Rattle.sheet.specs.declared.Written.{Written}
+use Rattle.sheet.specs.Sheet.{sheetBytes, writtenAnswer}
+
+-- the complex of flat pairs and flat triples
+unfoldable pub flatComplex : ℕ → List ℕ → List ℕ → Complex
+flatComplex n edges triangles =
+    record {
+      vertices = n;
+      edges = simplices 2 edges (length edges / 2);
+      triangles = simplices 3 triangles (length triangles / 3);
+    }
+
+-- the lines of the table of refusals that the numbers and the lengths decide: 6 is for a length that is no multiple of two, or of three
+unfoldable pub size-tests : ℕ → List ℕ → List ℕ → ℕ → List (ℕ × Bool)
+size-tests n edges triangles lambda =
+    (4, not (counts-right n (length edges / 2) (length triangles / 3)))
+    ∷ truncation-test lambda
+    ∷ (6, not (eqb (length edges % 2) 0 && eqb (length triangles % 3) 0))
+    ∷ []
+
+-- the refusals of making in their order, or 0, for a lent list of a given length
+abbrev pub making-tests : ℕ → List ℕ → List ℕ → ℕ → ℕ → List (ℕ × Bool)
+making-tests n edges triangles lambda room =
+    size-tests n edges triangles lambda
+    ++ (shape-tests (flatComplex n edges triangles) ++ ((15, ltb room (length (sheetBytes (flatComplex n edges triangles) lambda))) ∷ []))
+
+unfoldable pub making-refusal : ℕ → List ℕ → List ℕ → ℕ → ℕ → ℕ
+making-refusal n edges triangles lambda room = first (making-tests n edges triangles lambda room)
+
+-- what making a sheet answers, and what it leaves in the lent list
+pub record Made (n : ℕ) (edges triangles : List ℕ) (lambda : ℕ) (before : List ℕ) (r : Written) (after : List ℕ) : Type 0 where
+  pub answer : writtenAnswer r ≡ outcome (making-refusal n edges triangles lambda (length before)) (length (sheetBytes (flatComplex n edges triangles) lambda))
+  pub bytes : after ≡ written (making-refusal n edges triangles lambda (length before)) (front (sheetBytes (flatComplex n edges triangles) lambda) before) before
