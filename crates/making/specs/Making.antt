@@ -7,10 +7,11 @@ use lib.ListN.{length}
 use lib.Dec.{eqb, ltb}
 use Rattle.mathematics.specs.Writing.{front}
 use Rattle.mathematics.specs.Refusals.{first, outcome, written}
-use Rattle.complex.specs.Complex.{Complex, simplices}
+use Rattle.complex.specs.Complex.{Complex, simplices, complexOf}
 use Rattle.complex.specs.Judge.{counts-right, truncation-test, shape-tests}
+use Rattle.sheet.specs.declared.Reading.the-variants.{Accepted}
 use Rattle.sheet.specs.declared.Written.{Written}
-use Rattle.sheet.specs.Sheet.{sheetBytes, writtenAnswer}
+use Rattle.sheet.specs.Sheet.{readOf, sheetBytes, writtenAnswer}
 
 -- the complex of flat pairs and flat triples
 unfoldable pub flatComplex : ℕ → List ℕ → List ℕ → Complex
@@ -42,3 +43,15 @@ making-refusal n edges triangles lambda room = first (making-tests n edges trian
 pub record Made (n : ℕ) (edges triangles : List ℕ) (lambda : ℕ) (before : List ℕ) (r : Written) (after : List ℕ) : Type 0 where
   pub answer : writtenAnswer r ≡ outcome (making-refusal n edges triangles lambda (length before)) (length (sheetBytes (flatComplex n edges triangles) lambda))
   pub bytes : after ≡ written (making-refusal n edges triangles lambda (length before)) (front (sheetBytes (flatComplex n edges triangles) lambda) before) before
+
+-- what reading gives of the bytes that are made of flat lists
+pub record MadeBack (n : ℕ) (edges triangles : List ℕ) (lambda : ℕ) (b : List ℕ) : Type 0 where
+  pub answer : readOf b .answer ≡ Accepted
+  pub complex : complexOf (readOf b .sheet .complex) ≡ flatComplex n edges triangles
+  pub truncation : readOf b .sheet .lambda ≡ lambda
+
+-- they are read back as those lists
+abbrev pub MadeThenRead : Type 0
+MadeThenRead =
+    (n : ℕ) (edges triangles : List ℕ) (lambda : ℕ) (before : List ℕ) → making-refusal n edges triangles lambda (length before) ≡ 0
+    → MadeBack n edges triangles lambda (sheetBytes (flatComplex n edges triangles) lambda)

@@ -11,7 +11,7 @@ use lib.Dec.{eqb, ltb}
 use Rattle.mathematics.specs.Lists.{same}
 use Rattle.mathematics.specs.Refusals.{first, written}
 use Rattle.mathematics.proofs.Lists.{lists-equal}
-use Rattle.mathematics.proofs.Refusals.{first-stops}
+use Rattle.mathematics.proofs.Refusals.{first-none}
 use Rattle.mathematics.proofs.Flat.{flatten-length}
 use Rattle.complex.specs.declared.SimplicialComplex.{SimplicialComplex}
 use Rattle.complex.specs.Complex.{Simplex, Complex, simplices, complexOf}
@@ -127,7 +127,7 @@ read-written s h =
     }
 
 -- ---- the other way
-accepted-none : (b : List ℕ) → readOf b .answer ≡ Accepted → reading-refusal b ≡ 0
+pub accepted-none : (b : List ℕ) → readOf b .answer ≡ Accepted → reading-refusal b ≡ 0
 unfolding readOf readAnswer
 accepted-none b h = go (reading-refusal b) h
   where
@@ -137,14 +137,7 @@ accepted-none b h = go (reading-refusal b) h
 
 pub header-none : (b : List ℕ) → reading-refusal b ≡ 0 → first (header-tests b) ≡ 0
 unfolding reading-refusal
-header-none b h = go (first (header-tests b)) refl
-  where
-    go : (n : ℕ) → first (header-tests b) ≡ n → n ≡ 0
-    go zero e = refl
-    go (suc n) e =
-        let stop : first (header-tests b ++ shape-tests (complexOf (sheetIn b .complex))) ≡ suc n =
-        first-stops (header-tests b) (shape-tests (complexOf (sheetIn b .complex))) (λ (z : first (header-tests b) ≡ 0). let y : suc n ≡ 0 = sym e ∙ z in omega arith) ∙ e in
-        absurd (let y : suc n ≡ 0 = sym stop ∙ h in omega arith)
+header-none b h = first-none (header-tests b) (shape-tests (complexOf (sheetIn b .complex))) h
 
 -- eleven bytes and the rest
 eleven : (b : List ℕ) → 11 ≤ length b → b ≡ getD b 0 0 ∷ getD b 1 0 ∷ getD b 2 0 ∷ getD b 3 0 ∷ getD b 4 0 ∷ getD b 5 0 ∷ getD b 6 0 ∷ getD b 7 0 ∷ getD b 8 0 ∷ getD b 9 0 ∷ getD b 10 0 ∷ drop 11 b

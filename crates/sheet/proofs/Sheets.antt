@@ -22,7 +22,7 @@ use Rattle.sheet.specs.declared.Sheet.{Sheet}
 use Rattle.sheet.specs.declared.SheetRead.{SheetRead}
 use Rattle.sheet.specs.declared.Reading.the-variants.{Accepted, Refused}
 use Rattle.sheet.specs.declared.Written.the-variants.{Bytes, Refused as NotWritten}
-use Rattle.sheet.specs.Sheet.{word, padded, sheetIn, blank, header-tests, reading-refusal, readAnswer, readOf, refusedOf, headerOf, sheetBytes, writing-refusal, writtenAnswer, WrittenOf, Writable}
+use Rattle.sheet.specs.Sheet.{word, padded, sheetIn, blank, header-tests, reading-refusal, readAnswer, readOf, readingAnswer, ReadTold, refusedOf, headerOf, sheetBytes, writing-refusal, writtenAnswer, WrittenOf, Writable}
 
 -- ---- the header
 pub record Header (b : List ℕ) : Type 0 where
@@ -90,6 +90,16 @@ module _ (b : List ℕ) where
   read-accepted h e = let none : reading-refusal b ≡ 0 = shape-decides h ∙ e in rw none
 
 -- ---- lists that are copied
+-- what the answer says
+read-says : (k : ℕ) (s : Sheet) → readingAnswer (readAnswer k) (written k s blank) ≡ outcome k s
+unfolding readingAnswer readAnswer written outcome
+read-says zero s = refl
+read-says (suc k) s = refl
+
+pub read-told : (b : List ℕ) (r : SheetRead) → r ≡ readOf b → ReadTold b r
+unfolding readOf
+read-told b r is = record { answer = rw is (read-says (reading-refusal b) (sheetIn b)); is = is }
+
 drop-zeros : (n k : ℕ) → k ≤ n → _≡_ {A = List ℕ} (drop k (replicate n 0)) (replicate (n - k) 0)
 drop-zeros n zero h = let e : n - 0 ≡ n = omega arith in rw e
 drop-zeros zero (suc k) h = absurd (omega arith)

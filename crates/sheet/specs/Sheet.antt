@@ -75,6 +75,16 @@ readAnswer (suc n) = Refused (suc n)
 unfoldable pub readOf : List ℕ → SheetRead
 readOf b = record { answer = readAnswer (reading-refusal b); sheet = written (reading-refusal b) (sheetIn b) blank }
 
+-- what an answer says, with the sheet beside it
+unfoldable pub readingAnswer : Reading → Sheet → Outcome Sheet
+readingAnswer Accepted s = value s
+readingAnswer (Refused n) s = refused n
+
+-- that is told: the sheet, or the refusal
+pub record ReadTold (b : List ℕ) (r : SheetRead) : Type 0 where
+  pub answer : readingAnswer (r .answer) (r .sheet) ≡ outcome (reading-refusal b) (sheetIn b)
+  pub is : r ≡ readOf b
+
 -- the first eleven bytes
 unfoldable pub headerOf : ℕ → ℕ → ℕ → ℕ → List ℕ
 headerOf v e t lambda = 71 ∷ 76 ∷ 83 ∷ 1 ∷ 0 ∷ v ∷ e ∷ t % 256 ∷ t / 256 ∷ lambda % 256 ∷ lambda / 256 ∷ []

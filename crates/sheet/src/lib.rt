@@ -11,7 +11,7 @@ ghost use lib.ListN.{length, take, drop};
 ghost use lib.Seq.{paste};
 ghost use Rattle.mathematics.specs.Refusals.{first};
 ghost use Rattle.complex.specs.Complex.{complexOf};
-ghost use Rattle.sheet.specs.Sheet.{word, padded, sheetIn, header-tests, readOf, refusedOf, headerOf, sheetBytes, Writable, WrittenOf};
+ghost use Rattle.sheet.specs.Sheet.{word, padded, sheetIn, header-tests, ReadTold, refusedOf, headerOf, sheetBytes, Writable, WrittenOf};
 
 // A complex and its truncation.
 pub struct Sheet {
@@ -141,7 +141,7 @@ fn refused(number: u8) -> SheetRead
 
 // Reads a sheet: the first of 1 to 9 that holds, or the sheet.
 pub fn read_sheet(b: &[u8]) -> SheetRead
-    ensures { λ r. ⌜ r ≡ readOf (now (b .entry)) ⌝ }
+    ensures { λ r. ⌜ ReadTold (now (b .entry)) r ⌝ }
 {
     let header = judge_header(b);
     if header != 0 {

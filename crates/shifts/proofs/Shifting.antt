@@ -19,7 +19,7 @@ use Rattle.gauss_law.proofs.Shifts.{shifted-length}
 use Rattle.complex.specs.Judge.{length-test}
 use Rattle.walker.specs.declared.tables.Walker.{Walker}
 use Rattle.enumeration.specs.Enumeration.{basis-tests, short, BasisWalks}
-use Rattle.enumeration.proofs.Enumerating.{basis-stops, basis-goes-on, basis-at-most}
+use Rattle.enumeration.proofs.Enumerating.{basis-stops, basis-goes-on, basis-not-17}
 use Rattle.hilbert.specs.declared.index.Index.{Index}
 use Rattle.hilbert.specs.declared.index.Index.the-variants.{Place, NotInBasis, Refused}
 use Rattle.hilbert.specs.Basis.{in-basis}
@@ -58,7 +58,7 @@ module _ (c : Complex) (L : ℕ) (s : List ℤ) (e : ℕ) (delta : ℤ) (work re
 
   pub basis-refused : (k : ℕ) → k ≡ first (basis-tests c L) → (k ≡ 0 → ⊥) → EdgeShiftTold c L s e delta work result (Refused k) work result
   unfolding number shift-refusal indexAnswer rest told-number
-  basis-refused k h some = refused-shifted k (basis-stops c L rest k h some) some (Refused k) refl (λ z. omega (arith, h, basis-at-most c L))
+  basis-refused k h some = refused-shifted k (basis-stops c L rest k h some) some (Refused k) refl (λ z. basis-not-17 c L (sym h ∙ z))
 
   module _ (none : first (basis-tests c L) ≡ 0) where
     by-tests : number

@@ -3,7 +3,7 @@ use Rattle.mathematics.specs.Refusals.{first}
 use Rattle.complex.specs.Complex.{complexOf}
 use Rattle.complex.specs.Judge.{refusal}
 use Rattle.sheet.specs.Sheet.{sheetIn, header-tests}
-use Rattle.sheet.proofs.Sheets.{header-refused, shape-refused, read-accepted}
+use Rattle.sheet.proofs.Sheets.{header-refused, shape-refused, read-accepted, read-told}
 use borrow.Author.Needs.{needs}
 use Rattle.sheet.proofs.read_sheet.Statement.{statement}
 use Rattle.sheet.proofs.read_sheet.Tie as tie
@@ -32,7 +32,7 @@ judged c = c .judge .ensures ∙ ap (λ s. refusal (complexOf (s .complex))) (c 
 
 -- src/lib.rt:131:9
 returns : tie.Need-returns
-returns c = c .refused .ensures ∙ header-refused _ _ (c .before .before .judge-header .ensures) (c .before .if1 .taken)
+returns c = read-told _ _ (c .refused .ensures ∙ header-refused _ _ (c .before .before .judge-header .ensures) (c .before .if1 .taken))
 
 -- src/lib.rt:133:9
 sheet-in-requires : tie.Need-sheet-in-requires
@@ -48,13 +48,14 @@ refused-requires-2 c κs = search needs
 
 -- src/lib.rt:137:9
 returns-2 : tie.Need-returns-2
-returns-2 c = c .refused2 .ensures ∙ shape-refused _ (none (c .before .before .before .before .before)) _ (judged (c .before .before)) (c .before .if2 .taken)
+returns-2 c =
+    read-told _ _ (c .refused2 .ensures ∙ shape-refused _ (none (c .before .before .before .before .before)) _ (judged (c .before .before)) (c .before .if2 .taken))
 
 -- src/lib.rt:126:1
 returns-3 : tie.Need-returns-3
 returns-3 c =
     let e = c .before .before .before in
-    rw (e .sheet-in .ensures) (read-accepted _ (none (e .before)) (sym (judged (c .before)) ∙ c .if2 .left))
+    read-told _ _ (rw (e .sheet-in .ensures) (read-accepted _ (none (e .before)) (sym (judged (c .before)) ∙ c .if2 .left)))
 
 pub read-sheet-spec : {M : Type 1} → statement M
 read-sheet-spec =

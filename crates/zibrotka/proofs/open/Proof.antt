@@ -17,7 +17,7 @@ refusal-requires c κs = search needs
 
 -- src/lib.rt:97:1
 returns : tie.Need-returns
-returns c = opened _ _ _ (c .before .before .read-sheet .ensures) (c .before .refusal .ensures)
+returns c = opened _ _ _ (c .before .before .read-sheet .ensures .is) (c .before .refusal .ensures)
 
 pub open-spec : {M : Type 1} → statement M
 open-spec = tie.close (tie.spec read-sheet-requires refusal-requires returns)

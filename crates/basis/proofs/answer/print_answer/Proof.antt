@@ -21,7 +21,7 @@ print-sheet-requires : tie.Need-print-sheet-requires
 print-sheet-requires c κs =
     let read = c .before .before .before .read-sheet in
     let start = c .before .before .before .before .before .before in
-    let ready = accepted-ready _ (read .result) (read .ensures) (c .before .enum-told .given .1) in
+    let ready = accepted-ready _ (read .result) (read .ensures .is) (c .before .enum-told .given .1) in
     (start .pre, ready .0, ready .1)
 
 enum-known-answer : tie.Need-enum-known-answer
@@ -43,7 +43,7 @@ same-length c = search needs
 returns : tie.Need-returns
 returns c =
     let read = c .before .before .before .before .before .before .read-sheet in
-    rw (← (accepted-told _ (read .result) (read .ensures) (c .before .before .before .before .enum-told .given .1))) (c .before .before .print-sheet .ensures)
+    rw (← (accepted-told _ (read .result) (read .ensures .is) (c .before .before .before .before .enum-told .given .1))) (c .before .before .print-sheet .ensures)
 
 same-length-2 : tie.Need-same-length-2
 same-length-2 c = search needs
@@ -52,7 +52,7 @@ returns-2 : tie.Need-returns-2
 returns-2 c =
     let made = c .before .before .before in
     let read = made .before .before .before .before .before .read-sheet in
-    let e : refusedLine (made .byte .result) ≡ basisText (made .before .before .before .before .before .before .before .before .args .bytes .now) = ap refusedLine (made .byte .ensures) ∙ refused-told _ (read .result) (read .ensures) _ (made .before .before .before .answer .given .1) in
+    let e : refusedLine (made .byte .result) ≡ basisText (made .before .before .before .before .before .before .before .before .args .bytes .now) = ap refusedLine (made .byte .ensures) ∙ refused-told _ (read .result) (read .ensures .is) _ (made .before .before .before .answer .given .1) in
     rw (← e) (printed-put (refusedLine (made .byte .result)) _ _ _ _ (short made) (c .before .before .write-refused-line .ensures))
 
 pub print-answer-spec : {M : Type 1} → statement M
