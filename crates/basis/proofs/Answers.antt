@@ -91,7 +91,7 @@ module _ (b : List ℕ) where
   unfolding told
   told-refused n some c L = refused-kept n (printed c L) (refusedLine n) some
 
-  refusal-told : (n : ℕ) → reading-refusal b ≡ n → (n ≡ 0 → ⊥) → refusedLine n ≡ basisText b
+  pub refusal-told : (n : ℕ) → reading-refusal b ≡ n → (n ≡ 0 → ⊥) → refusedLine n ≡ basisText b
   unfolding basisText reading-refusal
   refusal-told n e some =
       let c = complexOf (sheetIn b .complex) in

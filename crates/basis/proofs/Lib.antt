@@ -1,3 +1,4 @@
 mod Prints
 mod BlockLines
 mod Answers
+mod Cut
