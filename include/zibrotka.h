@@ -2,8 +2,7 @@
  * Gauge-invariant states on a triangle complex: the calls of libzibrotka.a.
  *
  * Every call answers one signed number: its value, or minus one of the refusals below. A call that refuses leaves every lent list and
- * number as it was; one that succeeds changes no entry of a list beyond its result, and fills an array of a fixed size whole. Each call
- * judges its whole input itself.
+ * number as it was; one that succeeds changes no entry of a list beyond its result. Each call judges its whole input itself.
  *
  * A list is a pointer and a length. An empty one may be NULL with length 0. What a call writes to must not overlap anything else that
  * it is given; what it only reads may.
@@ -23,24 +22,42 @@
 extern "C" {
 #endif
 
+/* Each with the sentence that zibrotka_refusal_text tells. */
 enum zibrotka_refusal {
-    ZIBROTKA_SHEET_SHORT = 1,       /* a sheet under 11 bytes */
-    ZIBROTKA_MARK = 2,              /* its mark is not GLS */
-    ZIBROTKA_VERSION = 3,           /* its version is not 1 */
-    ZIBROTKA_COUNTS = 4,            /* V, E or T outside its range */
-    ZIBROTKA_LAMBDA = 5,            /* L over 1000 */
-    ZIBROTKA_SHEET_LENGTH = 6,      /* a length that the counts do not give; a flat list that is no multiple of two, or of three */
-    ZIBROTKA_EDGE = 7,              /* an edge not a < b < V, or listed twice */
-    ZIBROTKA_TRIANGLE = 8,          /* a triangle not a < b < c < V, listed twice, or with an edge not listed */
-    ZIBROTKA_UNREACHED = 9,         /* some vertex not reachable from vertex 0 */
-    ZIBROTKA_CANDIDATES = 10,       /* candidates over the limit */
-    ZIBROTKA_PENTACHORON = 11,      /* a vertex not below V or one twice, or a list of them no multiple of five long */
-    ZIBROTKA_LENGTH = 12,           /* weights, a configuration, a state, a vector or directions of the wrong length */
-    ZIBROTKA_NUMBER = 13,           /* an edge, triangle or state number outside its range, or a direction not 1 or -1 */
-    ZIBROTKA_FLOAT = 14,            /* a float outside its range, or a coupling whose factors are not its own */
-    ZIBROTKA_ROOM = 15,             /* a result list or work list too short */
-    ZIBROTKA_BAND = 16,             /* a shifted edge leaves -L to L */
-    ZIBROTKA_NOT_LISTED = 17        /* a configuration not in the basis */
+    /* the sheet has fewer than 11 bytes */
+    ZIBROTKA_SHEET_SHORT = 1,
+    /* the sheet does not begin with the mark GLS */
+    ZIBROTKA_MARK = 2,
+    /* the sheet's version is not 1 */
+    ZIBROTKA_VERSION = 3,
+    /* the number of vertices is not 1 to 64, or there are more than 63 edges or more than 256 triangles */
+    ZIBROTKA_COUNTS = 4,
+    /* the truncation L is over 1000 */
+    ZIBROTKA_LAMBDA = 5,
+    /* the length does not fit the counts: a sheet has 11 + 2E + 3T bytes, a flat list two entries an edge and three a triangle */
+    ZIBROTKA_SHEET_LENGTH = 6,
+    /* an edge is not a < b < V, or is listed twice */
+    ZIBROTKA_EDGE = 7,
+    /* a triangle is not a < b < c < V, is listed twice, or has an edge that is not listed */
+    ZIBROTKA_TRIANGLE = 8,
+    /* some vertex cannot be reached from vertex 0 over the listed edges */
+    ZIBROTKA_UNREACHED = 9,
+    /* there are more than 1048576 candidates: too many free edges, or for U(1) too large a truncation for them */
+    ZIBROTKA_CANDIDATES = 10,
+    /* a pentachoron has a vertex that is not below V or one vertex twice, or their flat list is no multiple of five long */
+    ZIBROTKA_PENTACHORON = 11,
+    /* a list does not have the length that it must have */
+    ZIBROTKA_LENGTH = 12,
+    /* a number is outside its range: no such edge, triangle or state, or a direction that is not 1 or -1 */
+    ZIBROTKA_NUMBER = 13,
+    /* a float is outside its range, or a coupling record's factors are not those of its coupling */
+    ZIBROTKA_FLOAT = 14,
+    /* a list for the result, or a work list, is too short */
+    ZIBROTKA_ROOM = 15,
+    /* a shifted edge leaves -L to L */
+    ZIBROTKA_BAND = 16,
+    /* the configuration is not in the basis */
+    ZIBROTKA_NOT_LISTED = 17
 };
 
 /* The longest flat lists that a sheet can hold. */
@@ -48,6 +65,8 @@ enum zibrotka_refusal {
 #define ZIBROTKA_TRIANGLE_BYTES 768
 /* 11 and the two above: no longer sheet is accepted. */
 #define ZIBROTKA_SHEET_BYTES 905
+/* No sentence of a refusal is longer. */
+#define ZIBROTKA_TEXT_BYTES 200
 
 /*
  * Writes the sheet of flat edges (pairs) and triangles (triples) to the front of `sheet`. Answers the number of bytes written, or minus
@@ -60,7 +79,8 @@ int64_t zibrotka_make_sheet(uint64_t n_vertices,
                             uint8_t *sheet, size_t sheet_len);
 
 /*
- * Reads a sheet. Answers 0 and fills everything, the entries of both arrays beyond the counts with zeros, or minus one of 1 to 9.
+ * Reads a sheet: the four numbers, 2E bytes at the front of `edges` and 3T at the front of `triangles`; the entries behind them stay as
+ * they were. Answers 0, or minus one of 1 to 9.
  */
 int64_t zibrotka_read_sheet(const uint8_t *sheet, size_t sheet_len,
                             uint64_t *n_vertices, uint64_t *n_edges, uint64_t *n_triangles, uint64_t *lambda,
@@ -181,6 +201,12 @@ int64_t zibrotka_build_su2_hamiltonian(const uint8_t *sheet, size_t sheet_len,
                                        bool given, const double *weights, size_t weights_len,
                                        uint64_t *states, size_t states_len,
                                        double *result, size_t result_len);
+
+/*
+ * The sentence of a refusal, given as a positive number: plain ASCII to the front of `text`, without a line feed and without a zero at its
+ * end. Answers the number of bytes written, 1 to 200, or minus 13 (no refusal has the number) or 15 (fewer bytes than the sentence).
+ */
+int64_t zibrotka_refusal_text(uint64_t number, uint8_t *text, size_t text_len);
 
 #ifdef __cplusplus
 }

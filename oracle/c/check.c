@@ -85,8 +85,8 @@ static int reading(void)
 
     CHECK(zibrotka_read_sheet(triangle_sheet, 20, &numbers[0], &numbers[1], &numbers[2], &numbers[3], edges, triangles) == 0);
     CHECK(numbers[0] == 3 && numbers[1] == 3 && numbers[2] == 1 && numbers[3] == 1);
-    CHECK(memcmp(edges, triangle_sheet + 11, 6) == 0 && all_are(edges + 6, sizeof edges - 6, 0));
-    CHECK(memcmp(triangles, triangle_sheet + 17, 3) == 0 && all_are(triangles + 3, sizeof triangles - 3, 0));
+    CHECK(memcmp(edges, triangle_sheet + 11, 6) == 0 && all_are(edges + 6, sizeof edges - 6, 0xEE));
+    CHECK(memcmp(triangles, triangle_sheet + 17, 3) == 0 && all_are(triangles + 3, sizeof triangles - 3, 0xEE));
     return 0;
 }
 
@@ -435,10 +435,47 @@ static int su2_dense(void)
     return 0;
 }
 
+/* every byte of a list is plain ASCII, and none is a line feed */
+static int all_plain(const uint8_t *list, size_t len)
+{
+    for (size_t i = 0; i < len; i++)
+        if (list[i] < 32 || list[i] > 126)
+            return 0;
+    return 1;
+}
+
+static int texts(void)
+{
+    const char *leaves = "a shifted edge leaves -L to L";
+    uint8_t text[ZIBROTKA_TEXT_BYTES + 8];
+
+    memset(text, 0xEE, sizeof text);
+    CHECK(zibrotka_refusal_text(0, text, sizeof text) == -ZIBROTKA_NUMBER);
+    CHECK(zibrotka_refusal_text(18, text, sizeof text) == -ZIBROTKA_NUMBER);
+    CHECK(zibrotka_refusal_text(UINT64_C(4294967297), text, sizeof text) == -ZIBROTKA_NUMBER);
+    CHECK(zibrotka_refusal_text(UINT64_MAX, NULL, 0) == -ZIBROTKA_NUMBER);
+    CHECK(zibrotka_refusal_text(1, NULL, 0) == -ZIBROTKA_ROOM);
+    CHECK(all_are(text, sizeof text, 0xEE));
+
+    for (uint64_t number = 1; number <= ZIBROTKA_NOT_LISTED; number++) {
+        memset(text, 0xEE, sizeof text);
+        int64_t size = zibrotka_refusal_text(number, text, ZIBROTKA_TEXT_BYTES);
+        CHECK(0 < size && size <= ZIBROTKA_TEXT_BYTES);
+        CHECK(all_plain(text, (size_t)size) && all_are(text + size, sizeof text - (size_t)size, 0xEE));
+        memset(text, 0xEE, sizeof text);
+        CHECK(zibrotka_refusal_text(number, text, (size_t)size - 1) == -ZIBROTKA_ROOM);
+        CHECK(all_are(text, sizeof text, 0xEE));
+        CHECK(zibrotka_refusal_text(number, text, (size_t)size) == size);
+    }
+    CHECK(zibrotka_refusal_text(ZIBROTKA_BAND, text, sizeof text) == (int64_t)strlen(leaves));
+    CHECK(memcmp(text, leaves, strlen(leaves)) == 0);
+    return 0;
+}
+
 int main(void)
 {
     if (making() || reading() || triangle_edges() || pentachora() || trees() || laws() || listings() || places() || shifts() ||
-        triangle_shifts() || masks() || couplings() || dense() || su2_dense())
+        triangle_shifts() || masks() || couplings() || dense() || su2_dense() || texts())
         return 1;
     printf("C: %d checks passed\n", passed);
     return 0;

@@ -1,7 +1,15 @@
 // The one judge of a record: 4, 7, 8, 9, or accepted.
 use complex::SimplicialComplex;
-use complex::numbering::byte;
 use complex::search::connected;
+use numbers::byte;
+use numbers::edge_end;
+use numbers::edge_start;
+use numbers::sizes::EDGE_ENTRIES;
+use numbers::sizes::LARGEST_TRUNCATION;
+use numbers::sizes::MOST_EDGES;
+use numbers::sizes::MOST_TRIANGLES;
+use numbers::sizes::MOST_VERTICES;
+use numbers::sizes::TRIANGLE_ENTRIES;
 ghost use mathlib.Core.Path.{_≡_};
 ghost use mathlib.Core.List.{List, [], _∷_, _++_, map};
 ghost use mathlib.Core.Bool.{_&&_};
@@ -16,16 +24,16 @@ ghost use lib.Dec.{eqb};
 ghost use Rattle.complex.specs.Numbering.{key, triangle-key, Keyed, EdgeTable, Judged};
 ghost use Rattle.acceptance.specs.Once.{EdgesIndexed, Marked};
 
-fn edge_rises(edges: &[u8; 126], n: usize, e: usize) -> bool
+fn edge_rises(edges: &[u8; EDGE_ENTRIES], n: usize, e: usize) -> bool
     requires { ⌜ e < 63 ⌝ }
     ensures { λ r. ⌜ r ≡ rising n (entries (now (edges .entry)) (2 * e) 2) ⌝ }
 {
-    let a = edges[2 * e];
-    let b = edges[2 * e + 1];
-    (a < b) & (byte(b) < n)
+    let a = edge_start(edges, e);
+    let b = edge_end(edges, e);
+    (a < b) & (b < n)
 }
 
-fn edges_rise(edges: &[u8; 126], n: usize, m: usize) -> bool
+fn edges_rise(edges: &[u8; EDGE_ENTRIES], n: usize, m: usize) -> bool
     requires { ⌜ m ≤ 63 ⌝ }
     ensures { λ r. ⌜ r ≡ every-entry (rising n) (simplices 2 (now (edges .entry)) m) ⌝ }
 {
@@ -36,17 +44,17 @@ fn edges_rise(edges: &[u8; 126], n: usize, m: usize) -> bool
     so_far
 }
 
-fn edge_key(edges: &[u8; 126], e: usize) -> usize
+fn edge_key(edges: &[u8; EDGE_ENTRIES], e: usize) -> usize
     requires { ⌜ (e < 63) × (getD (now edges) (2 * e) 0 < 64) × (getD (now edges) (2 * e + 1) 0 < 64) ⌝ }
     ensures { λ r. ⌜ (r ≡ key (entries (now (edges .entry)) (2 * e) 2)) × (r < 4096) ⌝ }
 {
-    let a = byte(edges[2 * e]);
-    let b = byte(edges[2 * e + 1]);
+    let a = edge_start(edges, e);
+    let b = edge_end(edges, e);
     64 * a + b
 }
 
 // One edge more goes into the table: whether no edge so far is listed twice. Once one is, the table says nothing.
-fn index_edge(edges: &[u8; 126], e: usize, table: &mut [u8; 4096], so_far: bool) -> bool
+fn index_edge(edges: &[u8; EDGE_ENTRIES], e: usize, table: &mut [u8; 4096], so_far: bool) -> bool
     requires { ⌜ (e < 63) × (getD (now edges) (2 * e) 0 < 64) × (getD (now edges) (2 * e + 1) 0 < 64) ⌝ }
     ensures { λ r. ⌜ (EdgesIndexed (now (table .entry)) «so_far» (simplices 2 (now (edges .entry)) e) → EdgesIndexed (now (table .exit)) r (simplices 2 (now (edges .entry)) (e + 1))) ⌝ }
 {
@@ -57,7 +65,7 @@ fn index_edge(edges: &[u8; 126], e: usize, table: &mut [u8; 4096], so_far: bool)
 }
 
 // Whether no edge is listed twice; then the table is Rust's edge_index.
-pub fn index_edges(edges: &[u8; 126], m: usize, table: &mut [u8; 4096]) -> bool
+pub fn index_edges(edges: &[u8; EDGE_ENTRIES], m: usize, table: &mut [u8; 4096]) -> bool
     requires { ⌜ (m ≤ 63) × (now table ≡ replicate 4096 0) × ((e : ℕ) → e < m → (getD (now edges) (2 * e) 0 < 64) × (getD (now edges) (2 * e + 1) 0 < 64)) ⌝ }
     ensures { λ r. ⌜ EdgesIndexed (now (table .exit)) r (simplices 2 (now (edges .entry)) m) ⌝ }
 {
@@ -77,7 +85,7 @@ pub fn edge_number(table: &[u8; 4096], a: usize, b: usize) -> usize
 }
 
 // Whether a triangle rises and its three edges are listed.
-fn triangle_fits(triangles: &[u8; 768], n: usize, table: &[u8; 4096], t: usize) -> bool
+fn triangle_fits(triangles: &[u8; TRIANGLE_ENTRIES], n: usize, table: &[u8; 4096], t: usize) -> bool
     requires { ⌜ (t < 256) × (n ≤ 64) ⌝ }
     ensures { λ r. ⌜ ((es : List Simplex) → EdgeTable (now (table .entry)) es → r ≡ (rising n (entries (now (triangles .entry)) (3 * t) 3) && sides-listed es (entries (now (triangles .entry)) (3 * t) 3))) ⌝ }
 {
@@ -97,7 +105,7 @@ fn triangle_fits(triangles: &[u8; 768], n: usize, table: &[u8; 4096], t: usize) 
         & ((edge_number(table, a, c) != 0) & (edge_number(table, b, c) != 0))
 }
 
-fn triangles_fit(triangles: &[u8; 768], n: usize, table: &[u8; 4096], t: usize) -> bool
+fn triangles_fit(triangles: &[u8; TRIANGLE_ENTRIES], n: usize, table: &[u8; 4096], t: usize) -> bool
     requires { ⌜ (t ≤ 256) × (n ≤ 64) ⌝ }
     ensures { λ r. ⌜ ((es : List Simplex) → EdgeTable (now (table .entry)) es → r ≡ every-entry (λ s. rising n s && sides-listed es s) (simplices 3 (now (triangles .entry)) t)) ⌝ }
 {
@@ -108,7 +116,7 @@ fn triangles_fit(triangles: &[u8; 768], n: usize, table: &[u8; 4096], t: usize) 
     so_far
 }
 
-fn triangle_key(triangles: &[u8; 768], table: &[u8; 4096], t: usize) -> usize
+fn triangle_key(triangles: &[u8; TRIANGLE_ENTRIES], table: &[u8; 4096], t: usize) -> usize
     requires { ⌜ (t < 256) × Keyed (now table) (entries (now triangles) (3 * t) 3) ⌝ }
     ensures { λ r. ⌜ (r ≡ triangle-key (now (table .entry)) (entries (now (triangles .entry)) (3 * t) 3)) × (r < 4096) ⌝ }
 {
@@ -131,7 +139,7 @@ fn mark(seen: &mut [u64; 64], key: usize, so_far: bool) -> bool
 }
 
 // Whether no triangle is listed twice.
-fn triangles_once(triangles: &[u8; 768], table: &[u8; 4096], t: usize) -> bool
+fn triangles_once(triangles: &[u8; TRIANGLE_ENTRIES], table: &[u8; 4096], t: usize) -> bool
     requires { ⌜ (t ≤ 256) × ((i : ℕ) → i < t → Keyed (now table) (entries (now triangles) (3 * i) 3)) ⌝ }
     ensures { λ r. ⌜ r ≡ distinct eqb (map (triangle-key (now (table .entry))) (simplices 3 (now (triangles .entry)) t)) ⌝ }
 {
@@ -146,7 +154,7 @@ fn triangles_once(triangles: &[u8; 768], table: &[u8; 4096], t: usize) -> bool
 pub fn counts_right(n: usize, m: usize, t: usize) -> bool
     ensures { λ r. ⌜ r ≡ counts-right n m t ⌝ }
 {
-    (((1 <= n) & (n <= 64)) & (m <= 63)) & (t <= 256)
+    (((1 <= n) & (n <= MOST_VERTICES)) & (m <= MOST_EDGES)) & (t <= MOST_TRIANGLES)
 }
 
 // The judge, with a table of zeros that is the index of the edges where the record is accepted.
@@ -191,7 +199,7 @@ pub fn judge_truncated(c: SimplicialComplex, lambda: usize) -> u8
     if number == 4 {
         return 4;
     }
-    if 1000 < lambda {
+    if LARGEST_TRUNCATION < lambda {
         return 5;
     }
     number

@@ -7,17 +7,18 @@ use mathlib.Core.Bool.{false}
 use mathlib.Core.Path.{_≡_}
 use lib.ListN.{length}
 use lib.Ieee.{Float, binary64, neg, div}
-use Rattle.mathematics.specs.Refusals.{Outcome, value, refused}
+use Rattle.mathematics.specs.Refusals.{Outcome, value, refused, first, outcome}
+use Rattle.hilbert.specs.Basis.{place}
 use Rattle.mathematics.specs.Entries.{Each}
-use Rattle.complex.specs.Complex.{Complex, complexOf}
+use Rattle.complex.specs.Complex.{Complex, complexOf, uncharged}
 use Rattle.sheet.specs.Sheet.{sheetIn, reading-refusal}
 use Rattle.gauss_law.specs.Listing.{tree-edges, free-edges, states}
 use Rattle.matrices.specs.Coupling.{float-of, u1-params, su2-params}
 use Rattle.matrices.specs.Weights.{weight}
-use Rattle.plaquettes.specs.Triangle.{triangleOutcome}
-use Rattle.hamiltonian.specs.Dense.{u1-dense, u1-dense-refusal}
+use Rattle.plaquettes.specs.Triangle.{shifted-state, triangle-tests}
+use Rattle.hamiltonian.specs.Dense.{u1-dense, u1-dense-tests}
 use Rattle.even_sets.specs.EvenSets.{su2-states}
-use Rattle.su2_quantum.specs.Dense.{su2-dense, su2-dense-refusal}
+use Rattle.su2_quantum.specs.Dense.{su2-dense, su2-dense-tests}
 use Rattle.lines.specs.Lines.{ascii}
 use Rattle.lines.specs.Printed.{printed}
 
@@ -40,10 +41,14 @@ pub record Matrices : Type 0 where
 
 -- what is claimed of them: with lists that are just long enough neither call is refused, and the matrices are the expected ones
 pub record MatricesHold (c : Complex) (L : ℕ) (x : Matrices) : Type 0 where
-  pub u1-accepted : u1-dense-refusal c L (u1-params (float-of (x .coupling))) false [] (length (flatten (states c L))) (length (x .u1)) ≡ 0
+  pub u1-accepted : first (u1-dense-tests c L (u1-params (float-of (x .coupling))) false [] (length (flatten (states c L))) (length (x .u1))) ≡ 0
   pub u1 : u1-dense c L (u1-params (float-of (x .coupling))) (weight false []) ≡ x .u1
-  pub su2-accepted : su2-dense-refusal c (su2-params (float-of (x .coupling))) false [] (length (su2-states c)) (length (x .su2)) ≡ 0
+  pub su2-accepted : first (su2-dense-tests c (su2-params (float-of (x .coupling))) false [] (length (su2-states c)) (length (x .su2))) ≡ 0
   pub su2 : su2-dense c (su2-params (float-of (x .coupling))) (weight false []) ≡ x .su2
+
+-- the answer of a triangle's shift is the expected one
+abbrev pub ShiftHolds : Complex → ℕ → Shift → Type 0
+ShiftHolds c L x = outcome (first (triangle-tests c L (x .triangle) (x .state) (x .room))) (place c L (shifted-state c L (x .triangle) (x .state))) ≡ x .told
 
 -- the bytes of a sheet, the complex and truncation that it holds, and the values that are expected of them
 pub record Case : Type 0 where
@@ -66,16 +71,16 @@ pub record Holds (k : Case) : Type 0 where
   pub tree : tree-edges (k .complex) ≡ k .tree
   pub free : free-edges (k .complex) ≡ k .free
   pub basis : printed (k .complex) (k .truncation) ≡ ascii (k .text)
-  pub shifts : Each (λ x. triangleOutcome (k .complex) (k .truncation) (x .triangle) (x .state) (x .room) ≡ x .told) (k .shifts)
+  pub shifts : Each (ShiftHolds (k .complex) (k .truncation)) (k .shifts)
   pub masks : su2-states (k .complex) ≡ k .masks
   pub matrices : Each (MatricesHold (k .complex) (k .truncation)) (k .matrices)
 
 unfoldable pub triangle : Complex
 triangle =
-    record { vertices = 3; edges = (0 ∷ 1 ∷ []) ∷ (0 ∷ 2 ∷ []) ∷ (1 ∷ 2 ∷ []) ∷ []; triangles = (0 ∷ 1 ∷ 2 ∷ []) ∷ [] }
+    record { vertices = 3; edges = (0 ∷ 1 ∷ []) ∷ (0 ∷ 2 ∷ []) ∷ (1 ∷ 2 ∷ []) ∷ []; triangles = (0 ∷ 1 ∷ 2 ∷ []) ∷ []; charges = uncharged }
 
 unfoldable pub one-vertex : Complex
-one-vertex = record { vertices = 1; edges = []; triangles = [] }
+one-vertex = record { vertices = 1; edges = []; triangles = []; charges = uncharged }
 
 -- vertices 0 to 3 with all six edges and all four triangles, in dictionary order
 unfoldable pub tetrahedron : Complex
@@ -84,6 +89,7 @@ tetrahedron =
       vertices = 4;
       edges = (0 ∷ 1 ∷ []) ∷ (0 ∷ 2 ∷ []) ∷ (0 ∷ 3 ∷ []) ∷ (1 ∷ 2 ∷ []) ∷ (1 ∷ 3 ∷ []) ∷ (2 ∷ 3 ∷ []) ∷ [];
       triangles = (0 ∷ 1 ∷ 2 ∷ []) ∷ (0 ∷ 1 ∷ 3 ∷ []) ∷ (0 ∷ 2 ∷ 3 ∷ []) ∷ (1 ∷ 2 ∷ 3 ∷ []) ∷ [];
+      charges = uncharged;
     }
 
 unfoldable pub table : List Case

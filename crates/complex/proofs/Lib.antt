@@ -3,6 +3,7 @@ pub mod Numberings
 pub mod Indexes
 pub mod Triangles
 pub mod Looks
+pub mod HalfEdges
 pub mod Searches
 pub mod Trees
 pub mod Accepting

@@ -1,12 +1,13 @@
 -- A turn of the search: what lies across an edge, and the cases of a look and of serving a place.
-use Prim.Native.Nat.{ℕ, _+_, _<_, _≤_}
+use Prim.Native.Nat.{ℕ, zero, suc, _+_, _<_, _≤_}
 use mathlib.Core.List.{List, [], _∷_, _++_}
-use mathlib.Core.Path.{_≡_, refl, sym, subst, _∙_}
+use mathlib.Core.Path.{_≡_, refl, sym, ap, subst, _∙_}
 use mathlib.Core.Bool.{Bool, true, false, _&&_, _||_, cond}
 use mathlib.Core.Logic.{_⊎_, inl, inr, by-cases}
-use native.Mathlib.Nat.{lt-trans}
+use native.Mathlib.Nat.{le-refl, lt-trans, lt-of-not-le}
 use native.Mathlib.Numerals.{add-one}
-use native.Mathlib.Decide.{ℕ-discrete}
+use native.Mathlib.Decide.{decLe, ℕ-discrete}
+use native.Mathlib.Omega.{arith}
 use borrow.Author.Tests.{eqb-true, eq-eqb, ne-eqb, lt-ltb, le-ltb}
 use lib.ListN.{getD, length}
 use lib.Dec.{eqb}
@@ -75,10 +76,6 @@ module _ (es : List Simplex) (v : ℕ) (s : Search) (e : ℕ) where
   unfolding look
   look-apart t = rw t
 
-  pub scan-next : scan es v s (e + 1) ≡ look es v (scan es v s e) e
-  unfolding scan
-  scan-next = rw (add-one e)
-
   -- a look either finds a new vertex or changes nothing
   pub look-cases : (P : Search → Type 0) → (touches (getD es e []) v ≡ true → listed eqb (across (getD es e []) v) (s .seen) ≡ false → P (found s (across (getD es e []) v) e)) → ((touches (getD es e []) v ≡ false) ⊎ (listed eqb (across (getD es e []) v) (s .seen) ≡ true) → P s) → P (look es v s e)
   look-cases P new old = go (touches (getD es e []) v) (listed eqb (across (getD es e []) v) (s .seen)) refl refl
@@ -96,6 +93,19 @@ module _ (es : List Simplex) (s : Search) (h : ℕ) where
   pub serve-past : length (s .seen) ≤ h → serve es s h ≡ s
   unfolding serve
   serve-past l = rw (le-ltb _ _ l)
+
+  -- where every vertex is seen, serving a place changes nothing
+  pub serve-full : (n : ℕ) → Ends n es → ((v : ℕ) → v < n → listed eqb v (s .seen) ≡ true) → serve es s h ≡ s
+  unfolding scan
+  serve-full n ends all =
+      by-cases (decLe (length (s .seen)) h)
+      (λ l. serve-past l)
+      (λ (l : length (s .seen) ≤ h → ⊥). serve-filled (lt-of-not-le l) ∙ scan-full (getD (s .seen) h 0) (length es) (le-refl (length es)))
+    where
+      scan-full : (v k : ℕ) → k ≤ length es → scan es v s k ≡ s
+      scan-full v zero l = refl
+      scan-full v (suc k) l =
+          ap (λ t. look es v t k) (scan-full v k (omega arith)) ∙ look-old es v s k (all (across (getD es k []) v) (across-below n es ends k v l))
 
   pub served-next : served es s (h + 1) ≡ serve es (served es s h) h
   unfolding served

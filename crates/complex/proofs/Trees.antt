@@ -1,25 +1,27 @@
 -- A search as the code keeps it: what its flags say, that there is room, and what each function of the code does to it.
-use Prim.Native.Nat.{ℕ, zero, suc, _+_, _*_, _<_, _≤_}
+use Prim.Native.Nat.{ℕ, zero, suc, _+_, _*_, _/_, _<_, _≤_}
 use mathlib.Core.List.{List, [], _∷_}
 use mathlib.Core.Path.{_≡_, refl, sym, ap, _∙_}
 use mathlib.Core.Bool.{Bool, true, false, cond}
 use native.Mathlib.Nat.{lt-of-lt-of-le}
 use native.Mathlib.Numerals.{add-one}
 use native.Mathlib.Omega.{arith}
-use borrow.Author.Tests.{ne-eqb, lt-ltb}
+use borrow.Author.Tests.{eq-eqb, ne-eqb, lt-ltb, ltb-true}
 use lib.ListN.{getD, set, take, length, length-set, replicate, getD-replicate}
 use lib.Seq.{length-take-le, take-suc-set, getD-take}
-use lib.Dec.{eqb}
+use lib.Dec.{eqb, ltb}
 use Rattle.mathematics.specs.Lists.{listed, distinct}
 use Rattle.mathematics.specs.Tests.{every-entry}
+use Rattle.mathematics.proofs.Tests.{all-at}
 use Rattle.mathematics.proofs.Flags.{flag-more}
-use Rattle.mathematics.proofs.Counting.{more-below, more-different, different-room}
-use Rattle.complex.specs.Complex.{entries, simplices}
-use Rattle.complex.specs.Search.{Search, touches, across, look, scan, serve, search, connected}
-use Rattle.complex.specs.Tree.{searchOf, Fits, Searchable, Searched}
+use Rattle.mathematics.proofs.Counting.{every-at, more-below, more-different, different-room, different-all}
+use Rattle.complex.specs.Complex.{simplices, Joins}
+use Rattle.complex.specs.Search.{across, look, scan, serve, search, connected}
+use Rattle.complex.specs.Tree.{opposite, searchOf, Fits, Searchable, Searched}
 use Rattle.complex.specs.declared.search.SpanningTree.{SpanningTree}
-use Rattle.complex.proofs.Simplices.{simplices-length, simplex-at}
-use Rattle.complex.proofs.Looks.{found, across-below, look-new, look-old, look-apart, serve-filled, serve-past}
+use Rattle.complex.proofs.Simplices.{simplices-length}
+use Rattle.complex.proofs.Looks.{found, joins-across, joins-touches, across-below, look-new, look-old, serve-filled, serve-past, serve-full}
+use Rattle.complex.proofs.HalfEdges.{half-joins}
 use Rattle.complex.proofs.Searches.{connected-full}
 
 -- the record with vertex w, found by edge e
@@ -36,6 +38,15 @@ module _ (n : ℕ) (t : SpanningTree) (fits : Fits n t) where
   pub seen-length : length (searchOf t .seen) ≡ t .found + 1
   unfolding searchOf
   seen-length = length-take-le (t .found + 1) (t .queue) (let a = fits .queue-long in let b = fits .room in omega arith)
+
+  seen-at : (h : ℕ) → h ≤ t .found → getD (searchOf t .seen) h 0 ≡ getD (t .queue) h 0
+  unfolding searchOf
+  seen-at h l = getD-take (t .found + 1) (t .queue) h 0 (omega arith)
+
+  pub queue-below : (h : ℕ) → h ≤ t .found → getD (t .queue) h 0 < n
+  queue-below h l =
+      let inside : h < t .found + 1 = omega arith in
+      rw (seen-at h l) at (ltb-true (getD (searchOf t .seen) h 0) n (all-at (λ v. ltb v n) 0 (searchOf t .seen) (fits .below) h (rw seen-length inside)))
 
   flag-zero : (v : ℕ) → v < 64 → getD (t .visited) v 0 ≡ 0 → listed eqb v (searchOf t .seen) ≡ false
   flag-zero v l z = go (listed eqb v (searchOf t .seen)) (sym (fits .flags v l) ∙ z)
@@ -86,28 +97,23 @@ module _ (n : ℕ) (t : SpanningTree) (fits : Fits n t) where
             stands = grown-stands;
           }
 
--- what the code's test of edge e says
-pub touches-at : (edges : List ℕ) (m e v : ℕ) (r b : Bool) → e < m → r ≡ touches (entries edges (2 * e) 2) v → r ≡ b → touches (getD (simplices 2 edges m) e []) v ≡ b
-touches-at edges m e v r b inside p q = rw (simplex-at 2 edges m e inside) (sym p ∙ q)
+-- the edge of half-edge d is looked at from the vertex of d, with w opposite
+module _ (edges : List ℕ) (n m : ℕ) (ok : Searchable edges n m) (t : SpanningTree) (fits : Fits n t) (d w : ℕ) (inside : d < 2 * m) (is : w ≡ getD edges (opposite d) 0) where
+  joins : Joins (getD (simplices 2 edges m) (d / 2) []) (getD edges d 0) w
+  joins = rw is (half-joins edges m d inside)
 
--- an edge that does not touch v is passed over
-pub look-passed : (edges : List ℕ) (n m : ℕ) (t : SpanningTree) → Fits n t → (v e : ℕ) → touches (getD (simplices 2 edges m) e []) v ≡ false → Searched n t (look (simplices 2 edges m) v (searchOf t) e)
-look-passed edges n m t fits v e apart =
-    record { fits = fits; stands = sym (look-apart (simplices 2 edges m) v (searchOf t) e apart) }
-
--- edge e is looked at from v, with w across
-module _ (edges : List ℕ) (n m : ℕ) (ok : Searchable edges n m) (t : SpanningTree) (fits : Fits n t) (v e w : ℕ) (inside : e < m) (is : w ≡ across (entries edges (2 * e) 2) v) where
-  same-across : across (getD (simplices 2 edges m) e []) v ≡ w
-  same-across = ap (λ s. across s v) (simplex-at 2 edges m e inside) ∙ sym is
+  same-across : across (getD (simplices 2 edges m) (d / 2) []) (getD edges d 0) ≡ w
+  same-across = joins-across (getD (simplices 2 edges m) (d / 2) []) (getD edges d 0) w joins
 
   pub look-inside : w < n
-  look-inside = rw same-across at (across-below n (simplices 2 edges m) (ok .ends) e v (rw (simplices-length 2 edges m) inside))
+  look-inside =
+      rw same-across at (across-below n (simplices 2 edges m) (ok .ends) (d / 2) (getD edges d 0) (rw (simplices-length 2 edges m) (omega arith)))
 
   -- w was seen before
-  pub look-kept : (getD (t .visited) w 0 ≡ 0 → ⊥) → Searched n t (look (simplices 2 edges m) v (searchOf t) e)
+  pub look-kept : (getD (t .visited) w 0 ≡ 0 → ⊥) → Searched n t (look (simplices 2 edges m) (getD edges d 0) (searchOf t) (d / 2))
   look-kept z =
       let u = flag-other n t fits w (lt-of-lt-of-le look-inside (ok .vertices-fit)) z in
-      record { fits = fits; stands = sym (look-old (simplices 2 edges m) v (searchOf t) e (rw same-across u)) }
+      record { fits = fits; stands = sym (look-old (simplices 2 edges m) (getD edges d 0) (searchOf t) (d / 2) (rw same-across u)) }
 
   module _ (unseen : getD (t .visited) w 0 ≡ 0) where
     new : listed eqb w (searchOf t .seen) ≡ false
@@ -116,21 +122,26 @@ module _ (edges : List ℕ) (n m : ℕ) (ok : Searchable edges n m) (t : Spannin
     pub look-room : t .found + 1 < n
     look-room = has-room n t fits w look-inside new
 
-    pub look-grown : touches (getD (simplices 2 edges m) e []) v ≡ true → Searched n (grown t w e) (look (simplices 2 edges m) v (searchOf t) e)
-    look-grown touch =
-        rw (look-new (simplices 2 edges m) v (searchOf t) e touch (rw same-across new), same-across)
-        (grown-searched n t fits w look-inside new e (ok .vertices-fit))
+    pub look-grown : Searched n (grown t w (d / 2)) (look (simplices 2 edges m) (getD edges d 0) (searchOf t) (d / 2))
+    look-grown =
+        let touch = joins-touches (getD (simplices 2 edges m) (d / 2) []) (getD edges d 0) w joins in
+        rw (look-new (simplices 2 edges m) (getD edges d 0) (searchOf t) (d / 2) touch (rw same-across new), same-across)
+        (grown-searched n t fits w look-inside new (d / 2) (ok .vertices-fit))
 
 module _ (edges : List ℕ) (n m : ℕ) (t : SpanningTree) (fits : Fits n t) (h : ℕ) where
   pub serve-none : t .found < h → Searched n t (serve (simplices 2 edges m) (searchOf t) h)
   serve-none l =
       record { fits = fits; stands = sym (serve-past (simplices 2 edges m) (searchOf t) h (let a = seen-length n t fits in omega arith)) }
 
+  pub serve-all : Searchable edges n m → t .found + 1 ≡ n → Searched n t (serve (simplices 2 edges m) (searchOf t) h)
+  serve-all ok full =
+      let seen = every-at (λ v. listed eqb v (searchOf t .seen)) n (different-all n (searchOf t .seen) (fits .below) (fits .different) ∙ eq-eqb _ _ (seen-length n t fits ∙ full)) in
+      record { fits = fits; stands = sym (serve-full (simplices 2 edges m) (searchOf t) h n (ok .ends) seen) }
+
   pub serve-scanned : (r : SpanningTree) → h ≤ t .found → Searched n r (scan (simplices 2 edges m) (getD (t .queue) h 0) (searchOf t) m) → Searched n r (serve (simplices 2 edges m) (searchOf t) h)
-  unfolding searchOf
   serve-scanned r l d =
       let inside : h < t .found + 1 = omega arith in
-      rw (serve-filled (simplices 2 edges m) (searchOf t) h (rw (seen-length n t fits) inside), simplices-length 2 edges m, getD-take (t .found + 1) (t .queue) h 0 inside) d
+      rw (serve-filled (simplices 2 edges m) (searchOf t) h (rw (seen-length n t fits) inside), simplices-length 2 edges m, seen-at n t fits h l) d
 
 pub start-searched : (n : ℕ) → 1 ≤ n → Searched n (record { queue = replicate 64 0; found = 0; «tree_edges» = replicate 63 0; visited = set (replicate 64 0) 0 1 }) (record { seen = 0 ∷ []; tree = [] })
 unfolding searchOf every-entry distinct listed

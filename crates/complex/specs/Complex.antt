@@ -3,16 +3,23 @@ use Prim.Native.Nat.{ℕ, zero, suc, _+_, _*_, _<_}
 use mathlib.Core.List.{List, [], _∷_, _++_}
 use mathlib.Core.Path.{_≡_}
 use mathlib.Core.Logic.{_⊎_}
+use lib.IntN.{ℤ, pos}
 use lib.ListN.{getD, length}
 use Rattle.complex.specs.declared.SimplicialComplex.{SimplicialComplex}
 
 abbrev pub Simplex : Type 0
 Simplex = List ℕ
 
+-- no charge at any vertex
+abbrev pub uncharged : ℕ → ℤ
+uncharged = λ v. pos 0
+
+-- with the charges that its vertices carry
 pub record Complex : Type 0 where
   pub vertices : ℕ
   pub edges : List Simplex
   pub triangles : List Simplex
+  pub charges : ℕ → ℤ
 
 -- k entries of a list from a place on, 0 past its end
 unfoldable pub entries : List ℕ → ℕ → ℕ → List ℕ
@@ -31,6 +38,7 @@ complexOf c =
       vertices = c .«n_vertices»;
       edges = simplices 2 (c .edges) (c .«n_edges»);
       triangles = simplices 3 (c .triangles) (c .«n_triangles»);
+      charges = uncharged;
     }
 
 -- the two vertices of an edge

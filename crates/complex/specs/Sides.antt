@@ -2,6 +2,7 @@
 use Prim.Native.Nat.{ℕ, _<_}
 use mathlib.Core.List.{List, [], _∷_, map}
 use mathlib.Core.Path.{_≡_}
+use mathlib.Core.Logic.{_⊎_}
 use lib.ListN.{getD, length}
 use Rattle.mathematics.specs.Lists.{same, position, choose}
 use Rattle.complex.specs.Complex.{Complex}
@@ -13,6 +14,10 @@ sides c t = map (λ s. position same s (c .edges)) (choose 2 (getD (c .triangles
 -- the number of an edge of triangle t: (a, b), (a, c) and (b, c) by 0, 1 and 2
 unfoldable pub side : Complex → ℕ → ℕ → ℕ
 side c t k = getD (sides c t) k 0
+
+-- e is an edge of triangle t
+abbrev pub EdgeOf : Complex → ℕ → ℕ → Type 0
+EdgeOf c t e = (e ≡ side c t 0) ⊎ ((e ≡ side c t 1) ⊎ (e ≡ side c t 2))
 
 -- triangle t is (x, y, z), its vertices rise, and its edges (x, y), (x, z) and (y, z) have the numbers i, j and k
 pub record TriangleSides (c : Complex) (t : ℕ) : Type 0 where

@@ -1,5 +1,5 @@
 -- A search as the code keeps it.
-use Prim.Native.Nat.{ℕ, _+_, _<_, _≤_}
+use Prim.Native.Nat.{ℕ, _+_, _-_, _*_, _%_, _<_, _≤_}
 use mathlib.Core.List.{List}
 use mathlib.Core.Bool.{true, cond}
 use mathlib.Core.Path.{_≡_}
@@ -40,3 +40,21 @@ pub record Searchable (edges : List ℕ) (n m : ℕ) : Type 0 where
 pub record Searched (n : ℕ) (t : SpanningTree) (s : Search) : Type 0 where
   pub fits : Fits n t
   pub stands : searchOf t ≡ s
+
+-- Half-edge d is the end of edge d / 2 that stands at place d of the flat list. The half-edge at the other end of that edge.
+abbrev pub opposite : ℕ → ℕ
+opposite d = d + 1 - 2 * (d % 2)
+
+-- d is the first half-edge at v from k on, and their number where there is none
+pub record NextAt (edges : List ℕ) (count v k d : ℕ) : Type 0 where
+  pub from : k ≤ d
+  pub within : d ≤ count
+  pub there : d < count → getD edges d 0 ≡ v
+  pub passed : (i : ℕ) → k ≤ i → i < d → getD edges i 0 ≡ v → ⊥
+
+-- the half-edges from k on are linked: the first at each vertex, and after each the next at its vertex
+pub record Linked (edges : List ℕ) (count : ℕ) (heads next : List ℕ) (k : ℕ) : Type 0 where
+  pub heads-long : length heads ≡ 64
+  pub next-long : length next ≡ 126
+  pub first : (v : ℕ) → v < 64 → NextAt edges count v k (getD heads v 0)
+  pub after : (d : ℕ) → k ≤ d → d < count → NextAt edges count (getD edges d 0) (d + 1) (getD next d 0)

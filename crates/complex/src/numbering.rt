@@ -1,6 +1,7 @@
 // Keys below 4096, numbered in order of first appearance up to a limit. table[k] is one more than the number of key k, and 0 where
 // k is new; keys holds the keys as they were numbered; a count of limit + 1 says that there were more.
-ghost use mathlib.Core.Path.{_≡_};
+use numbers::sizes::MOST_TRIANGLES;
+use numbers::u16_to_usize;
 ghost use mathlib.Core.List.{List};
 ghost use Prim.Native.Nat.{ℕ, _+_, _<_, _≤_};
 ghost use lib.ListN.{getD, length};
@@ -11,7 +12,7 @@ ghost use Rattle.complex.specs.Numbering.{Numbered};
 // One key is noted: the number of keys numbered so far.
 pub fn note(
     table: &mut [u16; 4096],
-    keys: &mut [u16; 256],
+    keys: &mut [u16; MOST_TRIANGLES],
     limit: usize,
     count: usize,
     key: usize,
@@ -36,7 +37,7 @@ pub fn note(
 // All keys of a list are noted.
 pub fn note_all(
     table: &mut [u16; 4096],
-    keys: &mut [u16; 256],
+    keys: &mut [u16; MOST_TRIANGLES],
     limit: usize,
     count: usize,
     new: &[u16],
@@ -46,20 +47,7 @@ pub fn note_all(
 {
     let mut so_far = count;
     for i in 0..new.len() {
-        so_far = note(table, keys, limit, so_far, wide(new[i]));
+        so_far = note(table, keys, limit, so_far, u16_to_usize(new[i]));
     }
     so_far
-}
-
-pub fn wide(x: u16) -> usize
-    ensures { λ r. ⌜ r ≡ x ⌝ }
-{
-    x as usize
-}
-
-// A byte as a number of a list.
-pub fn byte(x: u8) -> usize
-    ensures { λ r. ⌜ r ≡ x ⌝ }
-{
-    x as usize
 }

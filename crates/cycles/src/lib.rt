@@ -1,8 +1,13 @@
 // The paths in the spanning tree and the fundamental cycles, as tables of rows of 63 signs.
 use complex::SimplicialComplex;
-use complex::numbering::byte;
 use complex::search::SpanningTree;
 use gauss_law::spanning::FreeEdges;
+use numbers::byte;
+use numbers::edge_end;
+use numbers::edge_start;
+use numbers::sizes::EDGE_ENTRIES;
+use numbers::sizes::MOST_EDGES;
+use numbers::sizes::MOST_VERTICES;
 ghost use mathlib.Core.Path.{_≡_};
 ghost use mathlib.Core.Logic.{_≢_};
 ghost use mathlib.Core.Bool.{cond};
@@ -18,13 +23,19 @@ ghost use Rattle.gauss_law.specs.Listing.{tree-edges, free-edges};
 ghost use Rattle.gauss_law.specs.Spanning.{Spanned, FreeOf};
 ghost use Rattle.cycles.specs.Cycles.{row, with-cycle, PathTable, extended, Subtractable, cycle-row, CycleTable};
 
+// The table of paths has a row for each vertex.
+pub const PATH_ENTRIES: usize = MOST_VERTICES * MOST_EDGES;
+
+// The table of cycles has a row for each free edge.
+pub const CYCLE_ENTRIES: usize = MOST_EDGES * MOST_EDGES;
+
 // One row of a table is copied to another.
-fn copy_row(table: &mut [i8; 4032], from: usize, to: usize, n_edges: usize)
+fn copy_row(table: &mut [i8; PATH_ENTRIES], from: usize, to: usize, n_edges: usize)
     requires { ⌜ (from < 64) × (to < 64) × (from ≢ to) × («n_edges» ≤ 63) × (length (now table) ≡ 4032) ⌝ }
     ensures { λ _. ⌜ now (table .exit) ≡ paste (now (table .entry)) (63 * to) (row «n_edges» (now (table .entry)) from) «n_edges» ⌝ }
 {
     for e in 0..n_edges {
-        table[63 * to + e] = table[63 * from + e];
+        table[MOST_EDGES * to + e] = table[MOST_EDGES * from + e];
     }
 }
 
@@ -43,22 +54,28 @@ fn toward(b: usize, w: usize) -> i8
 }
 
 // The path to vertex w: that to its parent, and edge e between them.
-fn extend(paths: &mut [i8; 4032], edges: &[u8; 126], n_edges: usize, e: usize, w: usize)
+fn extend(
+    paths: &mut [i8; PATH_ENTRIES],
+    edges: &[u8; EDGE_ENTRIES],
+    n_edges: usize,
+    e: usize,
+    w: usize,
+)
     requires { ⌜ (e < «n_edges») × («n_edges» ≤ 63) × (w < 64) × (across (entries (now edges) (2 * e) 2) w < 64) × (across (entries (now edges) (2 * e) 2) w ≢ w) × (length (now paths) ≡ 4032) ⌝ }
     ensures { λ _. ⌜ now (paths .exit) ≡ extended (now (paths .entry)) «n_edges» (entries (now (edges .entry)) (2 * e) 2) e w ⌝ }
 {
-    let a = byte(edges[2 * e]);
-    let b = byte(edges[2 * e + 1]);
+    let a = edge_start(edges, e);
+    let b = edge_end(edges, e);
     copy_row(paths, across(a, b, w), w, n_edges);
-    paths[63 * w + e] = toward(b, w);
+    paths[MOST_EDGES * w + e] = toward(b, w);
 }
 
 // The paths to all vertices.
-pub fn tree_paths(c: SimplicialComplex, tree: SpanningTree) -> [i8; 4032]
+pub fn tree_paths(c: SimplicialComplex, tree: SpanningTree) -> [i8; PATH_ENTRIES]
     requires { ⌜ Spanned c tree ⌝ }
     ensures { λ r. ⌜ PathTable (complexOf c) (length (tree-edges (complexOf c))) r ⌝ }
 {
-    let mut paths = [0i8; 4032];
+    let mut paths = [0i8; PATH_ENTRIES];
     for i in 0..tree.found {
         extend(
             &mut paths,
@@ -73,9 +90,9 @@ pub fn tree_paths(c: SimplicialComplex, tree: SpanningTree) -> [i8; 4032]
 
 // The path to a less the path to b goes to row j.
 fn subtract_paths(
-    cycles: &mut [i8; 3969],
+    cycles: &mut [i8; CYCLE_ENTRIES],
     j: usize,
-    paths: &[i8; 4032],
+    paths: &[i8; PATH_ENTRIES],
     a: usize,
     b: usize,
     n_edges: usize,
@@ -84,34 +101,38 @@ fn subtract_paths(
     ensures { λ _. ⌜ now (cycles .exit) ≡ paste (now (cycles .entry)) (63 * j) (with-cycle (row «n_edges» (now (paths .entry)) a) (negsuc 0) (row «n_edges» (now (paths .entry)) b)) «n_edges» ⌝ }
 {
     for e in 0..n_edges {
-        cycles[63 * j + e] = paths[63 * a + e] - paths[63 * b + e];
+        cycles[MOST_EDGES * j + e] = paths[MOST_EDGES * a + e] - paths[MOST_EDGES * b + e];
     }
 }
 
 // The cycle of edge f goes to row j.
 fn close_cycle(
-    cycles: &mut [i8; 3969],
+    cycles: &mut [i8; CYCLE_ENTRIES],
     j: usize,
-    paths: &[i8; 4032],
-    edges: &[u8; 126],
+    paths: &[i8; PATH_ENTRIES],
+    edges: &[u8; EDGE_ENTRIES],
     n_edges: usize,
     f: usize,
 )
     requires { ⌜ (j < 63) × (f < «n_edges») × Subtractable (now paths) (getD (now edges) (2 * f) 0) (getD (now edges) (2 * f + 1) 0) «n_edges» × (length (now cycles) ≡ 3969) ⌝ }
     ensures { λ _. ⌜ now (cycles .exit) ≡ cycle-row (now (cycles .entry)) j (now (paths .entry)) «n_edges» (entries (now (edges .entry)) (2 * f) 2) f ⌝ }
 {
-    let a = byte(edges[2 * f]);
-    let b = byte(edges[2 * f + 1]);
+    let a = edge_start(edges, f);
+    let b = edge_end(edges, f);
     subtract_paths(cycles, j, paths, a, b, n_edges);
-    cycles[63 * j + f] = 1;
+    cycles[MOST_EDGES * j + f] = 1;
 }
 
 // The fundamental cycles of all free edges.
-pub fn fundamental_cycles(c: SimplicialComplex, paths: &[i8; 4032], free: FreeEdges) -> [i8; 3969]
+pub fn fundamental_cycles(
+    c: SimplicialComplex,
+    paths: &[i8; PATH_ENTRIES],
+    free: FreeEdges,
+) -> [i8; CYCLE_ENTRIES]
     requires { ⌜ (refusal (complexOf c) ≡ 0) × PathTable (complexOf c) (length (tree-edges (complexOf c))) (now paths) × FreeOf (complexOf c) free ⌝ }
     ensures { λ r. ⌜ CycleTable (complexOf c) (length (free-edges (complexOf c))) r ⌝ }
 {
-    let mut cycles = [0i8; 3969];
+    let mut cycles = [0i8; CYCLE_ENTRIES];
     for j in 0..free.count {
         close_cycle(
             &mut cycles,

@@ -2,57 +2,53 @@
 use Prim.Native.Nat.{ℕ, _+_, _-_, _*_, _^_, _≤_}
 use mathlib.Core.List.{List, [], _∷_, _++_, flatten}
 use mathlib.Core.Bool.{Bool, true, false, cond}
-use mathlib.Core.Logic.{_≢_}
 use mathlib.Core.Path.{_≡_, refl, sym, _∙_, ap}
 use native.Mathlib.Omega.{arith}
-use lib.Dec.{ltb}
+use lib.Dec.{eqb, ltb}
 use lib.IntN.{ℤ}
 use lib.ListN.{length}
-use borrow.Author.Tests.{le-ltb}
+use borrow.Author.Tests.{le-ltb, ne-eqb}
 use Rattle.mathematics.specs.Tests.{every-entry}
-use Rattle.mathematics.specs.Refusals.{first, value, outcome, written}
-use Rattle.mathematics.proofs.Refusals.{first-stops, first-goes-on, first-not, numbered, refused-outcome, refused-kept}
+use Rattle.mathematics.specs.Refusals.{first}
+use Rattle.mathematics.proofs.Refusals.{first-stops, first-goes-on, first-not, numbered}
+use Rattle.mathematics.proofs.Calls.{Tells, among, past-all}
 use Rattle.complex.specs.Complex.{Complex}
 use Rattle.complex.specs.Judge.{truncated-tests}
-use Rattle.gauss_law.specs.Listing.{Complete, states}
+use Rattle.gauss_law.specs.Listing.{states}
 use Rattle.gauss_law.proofs.Accepted.{listing-complete}
 use Rattle.walker.specs.declared.tables.Walker.{Walker}
 use Rattle.enumeration.specs.declared.Prepared.{Prepared}
-use Rattle.gauss_law.specs.declared.answer.Enumerated.the-variants.{States, Refused}
 use Rattle.walker.specs.Walker.{width}
 use Rattle.walker.specs.Tables.{Walks, states-of, Fit}
 use Rattle.mathematics.specs.Writing.{put}
 use Rattle.walker.specs.Blocks.{StatesWritten}
-use Rattle.enumeration.specs.Enumeration.{limit-test, basis-tests, short, basis-first, enumerated-refusal, Listed, BasisWalks, PreparedFor}
-use Rattle.gauss_law.specs.Answer.{enumeratedAnswer}
+use Rattle.enumeration.specs.Enumeration.{limit-test, basis-tests, short, basis-first, BasisKnown, BasisWalks, PreparedFor}
 use Rattle.mathematics.proofs.Puts.{put-front}
 use Rattle.enumeration.proofs.Limits.{power-less, states-within, all-candidates}
 use Rattle.walker.proofs.Fitting.{walks-fit, walks-states}
-use Rattle.gauss_law.specs.Gauss.{uncharged}
+
+-- ---- a basis is refused, or the rest decides
+pub basis-refuses : {c : Complex} {L : ℕ} {r : Prepared} → PreparedFor c L r → (r .refusal ≡ 0 → ⊥) → (rest : List (ℕ × Bool)) → Tells (basis-tests c L ++ rest) (r .refusal)
+basis-refuses {c} {L} h some rest = among (basis-tests c L) rest (h .refusal) some
+
+pub past-basis : {c : Complex} {L : ℕ} {r : Prepared} → PreparedFor c L r → r .refusal ≡ 0 → {rest : List (ℕ × Bool)} {k : ℕ} → Tells rest k → Tells (basis-tests c L ++ rest) k
+unfolding numbered every-entry
+past-basis {c} {L} h none t = past-all (basis-tests c L) refl (sym (h .refusal) ∙ none) t
+
+-- what a basis is refused by is at most 10
+pub basis-not-17 : {c : Complex} {L : ℕ} {r : Prepared} → PreparedFor c L r → eqb (r .refusal) 17 ≡ false
+unfolding every-entry
+basis-not-17 {c} {L} {r} h = ne-eqb (r .refusal) 17 (λ z. first-not 17 (basis-tests c L) refl (λ y. omega arith) (sym (h .refusal) ∙ z))
 
 module _ (c : Complex) (L : ℕ) where
   -- ---- what is judged before the basis is listed
-  -- a refusal is told, whatever else is judged
-  pub basis-stops : (rest : List (ℕ × Bool)) (k : ℕ) → k ≡ first (basis-tests c L) → (k ≡ 0 → ⊥) → first (basis-tests c L ++ rest) ≡ k
-  basis-stops rest k e some = first-stops (basis-tests c L) rest (λ z. some (e ∙ z)) ∙ sym e
-
-  -- without one the rest decides
-  pub basis-goes-on : (rest : List (ℕ × Bool)) → first (basis-tests c L) ≡ 0 → first (basis-tests c L ++ rest) ≡ first rest
-  unfolding numbered every-entry
-  basis-goes-on rest e = first-goes-on (basis-tests c L) rest refl e
-
-  -- what a basis is refused by is at most 10
-  pub basis-not-17 : first (basis-tests c L) ≢ 17
-  unfolding every-entry
-  basis-not-17 = first-not 17 (basis-tests c L) refl (λ z. omega arith)
-
   refused-prepared : (k : ℕ) → first (basis-tests c L) ≡ k → (k ≡ 0 → ⊥) → (r : Prepared) → r .refusal ≡ k → PreparedFor c L r
   refused-prepared k e some r h = record { refusal = h ∙ sym e; basis = λ z. absurd (some (sym h ∙ z)) }
 
   pub record-refused : (k : ℕ) → k ≡ first (truncated-tests c L) → (k ≡ 0 → ⊥) → (r : Prepared) → r .refusal ≡ k → PreparedFor c L r
   record-refused k e some = refused-prepared k (first-stops (truncated-tests c L) _ (λ z. some (e ∙ z)) ∙ sym e) some
 
-  module _ (none : first (truncated-tests c L) ≡ 0) (truncation : L ≤ 1000) (w : Walker) (walks : Walks c w) where
+  module _ (none : first (truncated-tests c L) ≡ 0) (truncation : L ≤ 1000) (w : Walker) (walks : Walks c L w) where
     -- the candidates decide
     by-candidates : first (basis-tests c L) ≡ cond (ltb 1048576 ((2 * L + 1) ^ w .«n_free»)) 10 0
     unfolding first numbered every-entry
@@ -63,11 +59,11 @@ module _ (c : Complex) (L : ℕ) where
 
     module _ (within : (2 * L + 1) ^ w .«n_free» ≤ 1048576) (blocks : ℕ) (number : blocks ≡ (2 * L + 1) ^ (w .«n_free» - 1)) where
       blocks-fit : Fit w L blocks
-      blocks-fit = walks-fit c w walks L blocks truncation (rw number (omega (arith, power-less L (w .«n_free»))))
+      blocks-fit = walks-fit c w L walks blocks truncation (rw number (omega (arith, power-less L (w .«n_free»))))
 
       states-are : states-of w L blocks ≡ states c L
       unfolding states
-      states-are = rw number (walks-states c w walks L)
+      states-are = rw number (walks-states c w L walks)
 
       few-states : length (states c L) ≤ 1048576
       few-states =
@@ -95,43 +91,6 @@ module _ (c : Complex) (L : ℕ) where
       h .list ∙ ap (λ l. put old 0 (flatten l)) (basis .listed) ∙ put-front old (flatten (states c L)),
     )
 
-  -- ---- the enumeration
-  module _ (old : List ℤ) where
-    -- a refusal leaves the list
-    refused-listed : (k : ℕ) → enumerated-refusal c L (length old) ≡ k → (k ≡ 0 → ⊥) → Listed c L old old (Refused k)
-    unfolding enumeratedAnswer
-    refused-listed k e some =
-        record {
-          answer = rw e (refused-outcome k _ some);
-          list = rw e (refused-kept k _ old some);
-          complete = λ z. absurd (some (sym e ∙ z));
-          few = λ z. absurd (some (sym e ∙ z));
-        }
-
-    pub basis-refused : (k : ℕ) → k ≡ first (basis-tests c L) → (k ≡ 0 → ⊥) → Listed c L old old (Refused k)
-    unfolding enumerated-refusal
-    basis-refused k e some = refused-listed k (basis-stops ((15, short c L (length old)) ∷ []) k e some) some
-
-    module _ (none : first (basis-tests c L) ≡ 0) (w : Walker) (blocks : ℕ) (basis : BasisWalks c L w blocks) where
-      by-room : enumerated-refusal c L (length old) ≡ cond (ltb (length old) (length (states-of w L blocks) * w .«n_edges»)) 15 0
-      unfolding enumerated-refusal first
-      by-room = basis-goes-on ((15, short c L (length old)) ∷ []) none ∙ rw (short-told w blocks basis (length old))
-
-      pub room-refused : ltb (length old) (length (states-of w L blocks) * w .«n_edges») ≡ true → Listed c L old old (Refused 15)
-      room-refused e = refused-listed 15 (by-room ∙ rw e) (λ z. omega arith)
-
-      all-listed : Complete c uncharged L (states c L)
-      unfolding states
-      all-listed = listing-complete c (basis .walks .accepted) uncharged L
-
-      pub states-listed : ltb (length old) (length (states-of w L blocks) * w .«n_edges») ≡ false → (new : List ℤ) (r : ℕ) → StatesWritten (states-of w L blocks) old new r → Listed c L old new (States r)
-      unfolding enumeratedAnswer outcome written
-      states-listed e new r h =
-          let none-left : enumerated-refusal c L (length old) ≡ 0 = by-room ∙ rw e in
-          let made = basis-written w blocks basis old new r h in
-          record {
-            answer = rw none-left (ap value (made .0));
-            list = rw none-left (made .1);
-            complete = λ z. all-listed;
-            few = λ z. basis .few;
-          }
+    pub basis-known : BasisKnown c L
+    unfolding states
+    basis-known = record { complete = listing-complete c (basis .walks .accepted) (c .charges) L; few = basis .few }

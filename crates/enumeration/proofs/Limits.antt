@@ -45,7 +45,7 @@ module _ (w : Walker) (L k : ℕ) (fit : Fit w L k) where
 
   pub states-within : length (states-of w L k) ≤ k * width L (w .«n_free»)
   unfolding states-of
-  states-within = states-few (w .free) (row (w .«n_edges») (w .cycles)) L (w .«n_free») (begin-of w L) k
+  states-within = states-few (w .free) (row (w .«n_edges») (w .cycles)) L (w .«n_free») (begin-of w) k
 
   pub states-fit : length (states-of w L k) * w .«n_edges» ≤ 2 ^ 20 * 2001 * 63
   states-fit =

@@ -1,12 +1,15 @@
 // The list of all states of a complex.
 use acceptance::judge_truncated;
+use answers::Answer;
 use complex::SimplicialComplex;
-use gauss_law::answer::Enumerated;
-use walker::states::width;
+use cursor::tables::count_states;
+use cursor::tables::write_states;
+use cycles::CYCLE_ENTRIES;
+use numbers::sizes::MOST_CANDIDATES;
+use numbers::sizes::MOST_EDGES;
+use walker::blocks::width;
 use walker::tables::Walker;
-use walker::tables::count_states;
 use walker::tables::prepare;
-use walker::tables::write_states;
 ghost use mathlib.Core.Path.{_≡_};
 ghost use mathlib.Core.Bool.{cond};
 ghost use Prim.Native.Nat.{_+_, _*_, _-_, _^_, _≤_};
@@ -14,14 +17,16 @@ ghost use lib.Dec.{ltb};
 ghost use lib.ListN.{length};
 ghost use Rattle.complex.specs.Complex.{complexOf};
 ghost use Rattle.walker.specs.Tables.{states-of, Fit};
-ghost use Rattle.enumeration.specs.Enumeration.{Limited, PreparedFor, Listed};
+ghost use Rattle.mathematics.specs.Calls.{Answered};
+ghost use Rattle.answers.specs.Answer.{numberAnswer};
+ghost use Rattle.enumeration.specs.Enumeration.{Limited, PreparedFor, enumerated-call, ListingDemand};
 
 // One factor more, as long as the product is within the limit.
-fn grow(product: usize, factor: usize) -> usize
+fn with_factor(product: usize, factor: usize) -> usize
     requires { ⌜ (product ≤ 1048576 * 2001) × (factor ≤ 2001) ⌝ }
     ensures { λ r. ⌜ r ≡ cond (ltb 1048576 product) product (product * factor) ⌝ }
 {
-    if 1048576 < product {
+    if MOST_CANDIDATES < product {
         return product;
     }
     product * factor
@@ -34,7 +39,7 @@ fn power(base: usize, exponent: usize) -> usize
 {
     let mut product = 1;
     for j in 0..exponent {
-        product = grow(product, base);
+        product = with_factor(product, base);
     }
     product
 }
@@ -44,7 +49,7 @@ pub fn too_many(n_free: usize, lambda: usize) -> bool
     requires { ⌜ lambda ≤ 1000 ⌝ }
     ensures { λ r. ⌜ r ≡ ltb 1048576 ((2 * lambda + 1) ^ «n_free») ⌝ }
 {
-    1048576 < power(2 * lambda + 1, n_free)
+    MOST_CANDIDATES < power(2 * lambda + 1, n_free)
 }
 
 // The number of blocks, where all candidates are within the limit.
@@ -84,8 +89,9 @@ fn unprepared(refusal: u8) -> Prepared
     let walker = Walker {
         n_edges: 0,
         n_free: 0,
-        free: [0; 63],
-        cycles: [0; 3969],
+        free: [0; MOST_EDGES],
+        cycles: [0; CYCLE_ENTRIES],
+        first: [0; MOST_EDGES],
     };
     Prepared {
         refusal: refusal,
@@ -102,7 +108,7 @@ pub fn prepare_basis(c: SimplicialComplex, lambda: usize) -> Prepared
     if number != 0 {
         return unprepared(number);
     }
-    let w = prepare(c);
+    let w = prepare(c, lambda);
     let n_free = w.n_free;
     if too_many(n_free, lambda) {
         return unprepared(10);
@@ -115,22 +121,19 @@ pub fn prepare_basis(c: SimplicialComplex, lambda: usize) -> Prepared
 }
 
 // All states of a record within -lambda to lambda go to the beginning of the list. The record is judged first.
-pub fn enumerate_gauge_invariant(
-    c: SimplicialComplex,
-    lambda: usize,
-    states: &mut [i32],
-) -> Enumerated
-    ensures { λ r. ⌜ Listed (complexOf c) lambda (now (states .entry)) (now (states .exit)) r ⌝ }
+pub fn enumerate_gauge_invariant(c: SimplicialComplex, lambda: usize, states: &mut [i32]) -> Answer
+    ensures { λ r. ⌜ Answered (enumerated-call (complexOf c) lambda (now (states .entry))) (numberAnswer r) (now (states .exit)) ⌝ }
+    ensures { λ r. ⌜ ListingDemand (complexOf c) lambda (now (states .entry)) (now (states .exit)) r ⌝ }
 {
     let basis = prepare_basis(c, lambda);
     let number = basis.refusal;
     if number != 0 {
-        return Enumerated::Refused(number);
+        return Answer::Refused(number);
     }
     let w = basis.walker;
     let blocks = basis.blocks;
     if too_short(w, lambda, blocks, states.len()) {
-        return Enumerated::Refused(15);
+        return Answer::Refused(15);
     }
-    Enumerated::States(write_states(w, lambda, blocks, states))
+    Answer::Number(write_states(w, lambda, blocks, states))
 }

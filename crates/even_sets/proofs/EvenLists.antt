@@ -8,12 +8,12 @@ use native.Mathlib.Omega.{arith}
 use native.Mathlib.Decide.{decLt}
 use borrow.Author.Tests.{lt-ltb, le-ltb}
 use lib.Dec.{ltb}
-use lib.Bits.{bitXor, xor-lt}
+use lib.Bits.{bitXor, xor-lt, xor-self}
 use lib.Pow.{pow-pos, pow-lt}
 use lib.ListN.{getD, length}
 use Rattle.mathematics.specs.Bits.{bit}
 use Rattle.mathematics.specs.Counting.{below, keep}
-use Rattle.mathematics.proofs.Bits.{bit-below, bit-of-zero, bit-xor, same-bits}
+use Rattle.mathematics.proofs.Bits.{bit-xor, xor-cancel}
 use Rattle.mathematics.proofs.Ordered.{Member, each-member, member-place, place-member, ordered-at, at-ordered, keep-passes, keep-each, keep-ordered, keep-member, kept-front, same-members}
 use Rattle.mathematics.proofs.Below.{below-each, below-ordered, below-member}
 use Rattle.complex.specs.Complex.{Complex}
@@ -28,13 +28,6 @@ use Rattle.even_sets.proofs.Spans.{combined-each, span-length, span-at,
 use Rattle.even_sets.proofs.Degrees.{even-xor, even-zero, even-triangle}
 use Rattle.even_sets.proofs.Forests.{all-grown, grown-rising, grown-own, grown-others, grown-top, grown-loops, grown-empty}
 use Rattle.even_sets.proofs.ClosingCount.{closing-free}
-
--- two numbers without a differing bit
-xor-none : (x y : ℕ) → bitXor x y ≡ 0 → x ≡ y
-xor-none x y h = same-bits x y (λ i. equal i (sym (bit-xor x y i) ∙ ap (λ (z : ℕ). bit z i) h))
-  where
-    equal : (i : ℕ) → (bit x i + bit y i) % 2 ≡ bit 0 i → bit x i ≡ bit y i
-    equal i e = omega (arith, e, bit-of-zero i, bit-below x i, bit-below y i)
 
 module _ (c : Complex) (accepted : Accepted c) where
   abbrev closing : List ℕ
@@ -64,9 +57,9 @@ module _ (c : Complex) (accepted : Accepted c) where
   combined-all x h =
       let y = sum-of-loops loops (closing-bits closing x n) n in
       let k = combined-listed (closing-bits closing x n) in
-      sym (xor-none x y
+      sym (xor-cancel x x y (xor-self x ∙ sym
       (grown-empty c accepted (bitXor x y) (xor-lt (length (c .edges)) x y (h .1) (k .1)) (even-xor c accepted x y (h .0) (k .0))
-      (λ j l. bit-xor x y (getD closing j 0) ∙ twice (bit x (getD closing j 0)) (bit y (getD closing j 0)) (combined-bit echelon (closing-bits closing x n) j l ∙ bits-at closing x n j l))))
+      (λ j l. bit-xor x y (getD closing j 0) ∙ twice (bit x (getD closing j 0)) (bit y (getD closing j 0)) (combined-bit echelon (closing-bits closing x n) j l ∙ bits-at closing x n j l)))))
     where
       twice : (a b : ℕ) → b ≡ a → (a + b) % 2 ≡ 0
       twice a b e = omega arith

@@ -34,6 +34,11 @@ su2-states c = keep (even c) (below (2 ^ length (c .edges)))
 unfoldable pub mask-place : Complex → ℕ → ℕ
 mask-place c x = length (keep (λ y. ltb y x) (su2-states c))
 
+-- the mask at place p is x
+pub record MaskAt (c : Complex) (x p : ℕ) : Type 0 where
+  pub below : p < length (su2-states c)
+  pub mask : getD (su2-states c) p 0 ≡ x
+
 -- every even set is in the list, nothing else is, it is ascending (so each is there once), and they are 2 to the number of free edges
 pub record EvenComplete (c : Complex) (l : List ℕ) : Type 0 where
   pub every : (x : ℕ) → x < 2 ^ length (c .edges) → even c x ≡ true → In 0 x l

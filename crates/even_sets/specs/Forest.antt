@@ -42,9 +42,9 @@ pub record Sized (f : Forest) : Type 0 where
   pub loops : length (f .loops) ≡ 63
 
 -- a table whose first n entries are now f 0, f 1, .., the others as before
-pub record Changed (f : ℕ → ℕ) (n : ℕ) (old table : List ℕ) : Type 0 where
-  pub front : Mapped f n table
-  pub rest : (v : ℕ) → n ≤ v → getD table v 0 ≡ getD old v 0
+pub record Changed (f : ℕ → ℕ) (n : ℕ) (old new : List ℕ) : Type 0 where
+  pub front : Mapped f n new
+  pub rest : (v : ℕ) → n ≤ v → getD new v 0 ≡ getD old v 0
 
 -- one part goes over into another, among the first n vertices
 pub record Joined (part path : List ℕ) (from to cycle n : ℕ) (new-part new-path : List ℕ) : Type 0 where

@@ -1,6 +1,9 @@
 // The closing edges of a complex and the loop of each.
 use complex::SimplicialComplex;
-use complex::numbering::byte;
+use numbers::edge_end;
+use numbers::edge_start;
+use numbers::sizes::MOST_EDGES;
+use numbers::sizes::MOST_VERTICES;
 ghost use mathlib.Core.Path.{_≡_};
 ghost use mathlib.Core.List.{[], _∷_};
 ghost use mathlib.Core.Bool.{cond};
@@ -15,11 +18,11 @@ ghost use Rattle.even_sets.specs.Forest.{Mapped, Keeps, forestOf, Sized,
 
 // The part of each vertex, named after one vertex of it, the edges on the way there, and the first count closing edges and loops.
 pub struct Forest {
-    pub part: [u8; 64],
-    pub path: [u64; 64],
+    pub part: [u8; MOST_VERTICES],
+    pub path: [u64; MOST_VERTICES],
     pub count: usize,
-    pub closing: [u8; 63],
-    pub loops: [u64; 63],
+    pub closing: [u8; MOST_EDGES],
+    pub loops: [u64; MOST_EDGES],
 }
 
 // The part of one vertex where one part goes over into another.
@@ -37,7 +40,14 @@ fn lengthened(path: u64, part: u8, from: u8, cycle: u64) -> u64
 }
 
 // One part goes over into another: the part and the path of each vertex.
-fn join(part: &mut [u8; 64], path: &mut [u64; 64], n_vertices: usize, from: u8, to: u8, cycle: u64)
+fn join(
+    part: &mut [u8; MOST_VERTICES],
+    path: &mut [u64; MOST_VERTICES],
+    n_vertices: usize,
+    from: u8,
+    to: u8,
+    cycle: u64,
+)
     requires { ⌜ (length (now part) ≡ 64) × (length (now path) ≡ 64) × («n_vertices» ≤ 64) ⌝ }
     ensures { λ _. ⌜ Joined (now (part .entry)) (now (path .entry)) from to cycle «n_vertices» (now (part .exit)) (now (path .exit)) ⌝ }
 {
@@ -50,10 +60,10 @@ fn join(part: &mut [u8; 64], path: &mut [u64; 64], n_vertices: usize, from: u8, 
 
 // Edge e from a to b closes a loop, or joins two parts: the number of closing edges.
 fn grow(
-    part: &mut [u8; 64],
-    path: &mut [u64; 64],
-    closing: &mut [u8; 63],
-    loops: &mut [u64; 63],
+    part: &mut [u8; MOST_VERTICES],
+    path: &mut [u64; MOST_VERTICES],
+    closing: &mut [u8; MOST_EDGES],
+    loops: &mut [u64; MOST_EDGES],
     count: usize,
     n_vertices: usize,
     a: usize,
@@ -76,11 +86,11 @@ fn grow(
 }
 
 // Each vertex is a part of its own.
-fn separate() -> [u8; 64]
+fn separate() -> [u8; MOST_VERTICES]
     ensures { λ r. ⌜ Mapped (λ v. v) 64 r ⌝ }
 {
-    let mut part = [0u8; 64];
-    for v in 0..64 {
+    let mut part = [0u8; MOST_VERTICES];
+    for v in 0..MOST_VERTICES {
         part[v] = v as u8;
     }
     part
@@ -93,13 +103,13 @@ pub fn closing_loops(c: SimplicialComplex) -> Forest
 {
     let edges = c.edges;
     let mut part = separate();
-    let mut path = [0; 64];
-    let mut closing = [0; 63];
-    let mut loops = [0; 63];
+    let mut path = [0; MOST_VERTICES];
+    let mut closing = [0; MOST_EDGES];
+    let mut loops = [0; MOST_EDGES];
     let mut count = 0;
     for e in 0..c.n_edges {
-        let a = byte(edges[2 * e]);
-        let b = byte(edges[2 * e + 1]);
+        let a = edge_start(&edges, e);
+        let b = edge_end(&edges, e);
         count = grow(
             &mut part,
             &mut path,

@@ -21,7 +21,7 @@ use Rattle.gauss_law.proofs.Tree.{Solvable, spans-solvable, spans-solve
 use Rattle.gauss_law.proofs.Listing.{edges-split, solvable-complete, complete-once}
 use Rattle.gauss_law.proofs.Roots.{one-times}
 use Rattle.gauss_law.proofs.Extension.{Root, Rooted, Extends, extends-once, extension}
-use Rattle.gauss_law.specs.Gauss.{uncharged}
+use Rattle.complex.specs.Complex.{uncharged}
 
 module _ (c : Complex) (accepted : Accepted c) where
   pub accepted-ends : Ends (c .vertices) (c .edges)

@@ -1,7 +1,6 @@
--- Trees, findings and listings computed.
+-- Trees and listings computed.
 use Prim.Native.Nat.{ℕ}
 use mathlib.Core.List.{[], _∷_, flatMap}
-use mathlib.Core.Bool.{true, false}
 use mathlib.Core.Path.{_≡_, refl}
 use lib.IntN.{ℤ, pos, negsuc}
 use lib.ListN.{getD, length}
@@ -9,14 +8,13 @@ use Rattle.mathematics.specs.Integers.{equal}
 use Rattle.mathematics.specs.Lists.{listed, position}
 use Rattle.mathematics.specs.Tests.{every}
 use Rattle.mathematics.specs.Counting.{below, keep, counted}
-use Rattle.complex.specs.Complex.{Complex}
+use Rattle.complex.specs.Complex.{Complex, uncharged}
 use Rattle.complex.specs.Search.{search, served, serve, scan, look, touches, across}
-use Rattle.gauss_law.specs.Gauss.{flow, gauss, lawful, uncharged}
-use Rattle.gauss_law.specs.Law.{firstOf, lowest-broken, finding}
+use Rattle.gauss_law.specs.Gauss.{flow, gauss, lawful}
 use Rattle.gauss_law.specs.Listing.{tree-edges, free-edges, values, placed, listing}
 
 triangle : Complex
-triangle = record { vertices = 3; edges = (0 ∷ 1 ∷ []) ∷ (0 ∷ 2 ∷ []) ∷ (1 ∷ 2 ∷ []) ∷ []; triangles = [] }
+triangle = record { vertices = 3; edges = (0 ∷ 1 ∷ []) ∷ (0 ∷ 2 ∷ []) ∷ (1 ∷ 2 ∷ []) ∷ []; triangles = []; charges = uncharged }
 
 tree : tree-edges triangle ≡ 0 ∷ 1 ∷ []
 unfolding triangle tree-edges listed search served serve scan look touches across
@@ -25,20 +23,6 @@ tree = refl
 free : free-edges triangle ≡ 2 ∷ []
 unfolding triangle tree-edges free-edges listed below keep search served serve scan look touches across
 free = refl
-
--- 3 on the edge from 0 to 1 and -2 on that from 1 to 2: the sums are -3, 5 and -2
-breaks-law : finding triangle uncharged (pos 3 ∷ pos 0 ∷ negsuc 1 ∷ []) ≡ record { found = true; vertex = 0; sum = negsuc 2 }
-unfolding triangle finding lowest-broken firstOf gauss flow equal below keep
-breaks-law = refl
-
--- with the charges -3 and 5 at the first two vertices the last is the lowest that is wrong
-breaks-charged : finding triangle (λ v. getD (negsuc 2 ∷ pos 5 ∷ []) v (pos 0)) (pos 3 ∷ pos 0 ∷ negsuc 1 ∷ []) ≡ record { found = true; vertex = 2; sum = negsuc 1 }
-unfolding triangle finding lowest-broken firstOf gauss flow equal below keep
-breaks-charged = refl
-
-keeps-law : finding triangle uncharged (pos 1 ∷ negsuc 0 ∷ pos 1 ∷ []) .found ≡ false
-unfolding triangle finding lowest-broken firstOf gauss flow equal below keep
-keeps-law = refl
 
 three-states : listing triangle uncharged 1
     ≡ (negsuc 0 ∷ pos 1 ∷ negsuc 0 ∷ []) ∷ (pos 0 ∷ pos 0 ∷ pos 0 ∷ []) ∷ (pos 1 ∷ negsuc 0 ∷ pos 1 ∷ []) ∷ []
@@ -59,7 +43,7 @@ unfolding triangle listing tree-edges free-edges values placed lawful gauss flow
 no-state = refl
 
 tetrahedron : Complex
-tetrahedron = record { vertices = 4; edges = (0 ∷ 1 ∷ []) ∷ (0 ∷ 2 ∷ []) ∷ (0 ∷ 3 ∷ []) ∷ (1 ∷ 2 ∷ []) ∷ (1 ∷ 3 ∷ []) ∷ (2 ∷ 3 ∷ []) ∷ []; triangles = [] }
+tetrahedron = record { vertices = 4; edges = (0 ∷ 1 ∷ []) ∷ (0 ∷ 2 ∷ []) ∷ (0 ∷ 3 ∷ []) ∷ (1 ∷ 2 ∷ []) ∷ (1 ∷ 3 ∷ []) ∷ (2 ∷ 3 ∷ []) ∷ []; triangles = []; charges = uncharged }
 
 fifteen-states : length (listing tetrahedron uncharged 1) ≡ 15
 unfolding tetrahedron listing tree-edges free-edges values placed lawful gauss flow equal listed position every below keep counted flatMap search served serve scan look touches across

@@ -9,7 +9,4 @@ pub mod Extension
 pub mod Accepted
 pub mod Spanned
 pub mod TreeTold
-pub mod Summed
-pub mod Findings
-pub mod LawTold
 pub mod Shifts

@@ -10,8 +10,8 @@ use Rattle.mathematics.specs.Integers.{sum-below}
 use Rattle.mathematics.proofs.Integers.{positive, negative, the, _⊟_, integral, parts, times-sum, times-difference}
 use Rattle.mathematics.proofs.Sums.{sum-same, sum-zero, sum-add, sum-difference, sum-one}
 use Rattle.mathematics.specs.Entries.{Each, none, also}
-use Rattle.complex.specs.Complex.{Simplex, start, end}
-use Rattle.gauss_law.specs.Gauss.{flow, gauss, uncharged}
+use Rattle.complex.specs.Complex.{Simplex, start, end, uncharged}
+use Rattle.gauss_law.specs.Gauss.{flow, gauss}
 use Rattle.gauss_law.proofs.Gauss.{pick-here, pick-elsewhere}
 
 -- the edge's ends are below n and have the same weight

@@ -28,10 +28,6 @@ Lawful c q s = (v : ℕ) → v < c .vertices → gauss (c .edges) s v ≡ q v
 unfoldable pub lawful : Complex → (ℕ → ℤ) → List ℤ → Bool
 lawful c q s = every (λ v. equal (gauss (c .edges) s v) (q v)) (c .vertices)
 
--- no charge at any vertex
-abbrev pub uncharged : ℕ → ℤ
-uncharged = λ v. pos 0
-
 -- a value within -L to L, as a test
 unfoldable pub within : ℕ → ℤ → Bool
 within L x = leb (natAbs x) L

@@ -11,7 +11,7 @@ use Rattle.mathematics.specs.Lists.{listed, position, In, Once}
 use Rattle.mathematics.specs.Counting.{below, keep, counted}
 use Rattle.complex.specs.Complex.{Complex}
 use Rattle.complex.specs.Search.{search}
-use Rattle.gauss_law.specs.Gauss.{State, lawful, uncharged}
+use Rattle.gauss_law.specs.Gauss.{State, lawful}
 
 -- the tree edges as the search finds them, and all other edges by rising number
 unfoldable pub tree-edges : Complex → List ℕ
@@ -33,9 +33,9 @@ placed order xs = map (λ e. getD xs (position eqb e order) (pos 0)) (below (len
 unfoldable pub listing : Complex → (ℕ → ℤ) → ℕ → List (List ℤ)
 listing c q L = keep (lawful c q) (map (placed (tree-edges c ++ free-edges c)) (counted (values L) (length (c .edges))))
 
--- the states without charges
+-- the states, with the charges of the complex
 unfoldable pub states : Complex → ℕ → List (List ℤ)
-states c L = listing c uncharged L
+states c L = listing c (c .charges) L
 
 -- the most candidates that a basis may have
 abbrev pub limit : ℕ

@@ -8,7 +8,7 @@ use lib.Dec.{eqb, ltb}
 use Rattle.mathematics.specs.Writing.{front}
 use Rattle.mathematics.specs.Lists.{listed}
 use Rattle.mathematics.specs.Counting.{below, keep}
-use Rattle.mathematics.specs.Refusals.{first, Outcome, value, refused, outcome, written}
+use Rattle.mathematics.specs.Calls.{Call}
 use Rattle.complex.specs.declared.SimplicialComplex.{SimplicialComplex}
 use Rattle.complex.specs.declared.search.SpanningTree.{SpanningTree}
 use Rattle.complex.specs.Complex.{Complex, complexOf}
@@ -16,28 +16,23 @@ use Rattle.complex.specs.Search.{search}
 use Rattle.complex.specs.Judge.{complex-tests, refusal}
 use Rattle.complex.specs.Tree.{Searched}
 use Rattle.gauss_law.specs.declared.spanning.FreeEdges.{FreeEdges}
-use Rattle.gauss_law.specs.declared.spanning.SpanningTreeAnswer.{SpanningTreeAnswer}
-use Rattle.gauss_law.specs.declared.spanning.SpanningTreeAnswer.the-variants.{Free, Refused}
 use Rattle.gauss_law.specs.Listing.{tree-edges, free-edges}
-
--- what an answer says
-unfoldable pub treeAnswer : SpanningTreeAnswer → Outcome ℕ
-treeAnswer (Free n) = value n
-treeAnswer (Refused n) = refused n
 
 -- 4, 7 to 9, then 15 where the list of tree edges or that of free edges has too few entries
 abbrev pub tree-tests : Complex → ℕ → ℕ → List (ℕ × Bool)
 tree-tests c tree-room free-room =
     complex-tests c ++ ((15, ltb tree-room (length (tree-edges c)) || ltb free-room (length (free-edges c))) ∷ [])
 
-unfoldable pub tree-refusal : Complex → ℕ → ℕ → ℕ
-tree-refusal c tree-room free-room = first (tree-tests c tree-room free-room)
-
--- the number of free edges is told, and the two lists begin with the tree edges and with the free edges
-pub record TreeTold (c : Complex) (tree free : List ℕ) (r : SpanningTreeAnswer) (tree′ free′ : List ℕ) : Type 0 where
-  pub answer : treeAnswer r ≡ outcome (tree-refusal c (length tree) (length free)) (length (free-edges c))
-  pub tree-list : tree′ ≡ written (tree-refusal c (length tree) (length free)) (front (tree-edges c) tree) tree
-  pub free-list : free′ ≡ written (tree-refusal c (length tree) (length free)) (front (free-edges c) free) free
+-- spanning_tree: the number of free edges is told, and the two lists begin with the tree edges and with the free edges.
+unfoldable pub tree-call : Complex → List ℕ → List ℕ → Call ℕ (List ℕ × List ℕ)
+tree-call c tree free =
+    record {
+      tests = tree-tests c (length tree) (length free);
+      value = length (free-edges c);
+      before = (tree, free);
+      after = (front (tree-edges c) tree, front (free-edges c) free);
+      known = length (free-edges c) ≤ 63;
+    }
 
 -- ---- as the code keeps them
 -- the record is accepted, and t is its search

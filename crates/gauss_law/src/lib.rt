@@ -1,5 +1,3 @@
 // Gauss's law on a complex.
 
-pub mod answer;
-pub mod law;
 pub mod spanning;

@@ -1,40 +1,23 @@
 -- The matrix that is written: zeros, then the electric term, then the triangles one after the other.
 use Prim.Native.Nat.{ℕ, _*_, _<_, _≤_}
-use mathlib.Core.List.{List, []}
+use mathlib.Core.List.{List}
 use mathlib.Core.Path.{_≡_, ap, _∙_}
-use native.Mathlib.Omega.{arith}
-use lib.IntN.{ℤ, pos, natAbs}
+use lib.IntN.{ℤ}
 use lib.Ieee.{Float}
-use lib.ListN.{getD, length}
+use lib.ListN.{length}
 use Rattle.mathematics.specs.Writing.{front}
 use Rattle.complex.specs.Complex.{Complex}
-use Rattle.gauss_law.specs.Listing.{states}
 use Rattle.matrices.specs.declared.coupling.KSParams.{KSParams}
 use Rattle.plaquettes.specs.declared.target.Sizes.{Sizes}
 use Rattle.matrices.specs.Coupling.{float-of}
 use Rattle.matrices.specs.Matrix.{matrix-rows, Matrix, passed}
 use Rattle.hamiltonian.specs.Dense.{u1-electric-entry, u1-entry, u1-dense}
-use Rattle.hamiltonian.specs.Walk.{SmallRows, electric-term}
+use Rattle.plaquettes.specs.Rows.{electric-term}
 use Rattle.plaquettes.specs.Targets.{BasisList}
 use Rattle.matrices.proofs.Matrices.{matrix-same, matrix-is, passed-all}
-use Rattle.plaquettes.proofs.TriangleTelling.{state-there}
-use Rattle.plaquettes.proofs.Targets.{edges-few, there, list-long, row-is}
+use Rattle.plaquettes.proofs.Targets.{row-is}
 
 module _ (c : Complex) (list : List ℤ) (s : Sizes) (free : List ℕ) (basis : BasisList c list s free) where
-  pub small-rows : SmallRows list (s .states) (s .edges)
-  small-rows =
-      record {
-        few = basis .few;
-        edges-few = edges-few c list s free basis;
-        long = list-long c list s free basis;
-        small = λ i h e k. rw (row-is c list s free basis i h) (value i h e k);
-      }
-    where
-      value : (i : ℕ) → i < s .states → (e : ℕ) → e < s .edges → natAbs (getD (getD (states c (s .lambda)) i []) e (pos 0)) ≤ 1000
-      value i h e k =
-          let w = state-there c (basis .accepted) (s .lambda) i (there c list s free basis i h) .within e (rw (← (basis .edges)) k) in
-          omega (arith, w, basis .truncation)
-
   module _ (p : KSParams) (w : ℕ → Float) where
     -- the electric term, as it is added to zeros
     electric-added : (i j : ℕ) → i < s .states → passed (λ i j. float-of 0) (λ i. i) (electric-term (p .electric) (s .edges) list) (s .states) i j ≡ u1-entry c (s .lambda) p w 0 i j

@@ -1,5 +1,4 @@
-pub mod Examples
 pub mod PartWay
 pub mod Plaquettes
 pub mod DenseWritten
-pub mod DenseTelling
+pub mod OneTerm

@@ -66,7 +66,7 @@ module _ (c : Complex) (accepted : Accepted c) (L t : ℕ) (number : t < length 
             where
               go : Dec (i ≡ k) → (hits c L t i j && ltb i (k + 1)) ≡ (hits c L t i j && ltb i k)
               go (yes e) =
-                  let z : hits c L t i j ≡ false = ap (λ m. hits c L t m j) e ∙ no-hit c accepted L t number k j q (λ f. a (e, f)) hit in
+                  let z : hits c L t i j ≡ false = ap (λ m. hits c L t m j) e ∙ no-hit c L t k j q (λ f. a (e, f)) hit in
                   rw z
               go (no e) = ap (λ b. hits c L t i j && b) (one-higher i k e)
 

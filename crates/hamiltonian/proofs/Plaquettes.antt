@@ -1,37 +1,37 @@
 -- The walk over the states of a triangle: what the entries are after one state more.
 use Prim.Native.Nat.{ℕ, _+_, _*_, _<_, _≤_}
 use mathlib.Core.List.{List}
-use mathlib.Core.Bool.{Bool, true, false, _&&_, cond}
+use mathlib.Core.Bool.{true, false, _&&_, cond}
 use mathlib.Core.Path.{_≡_, refl, sym, _∙_}
 use mathlib.Core.Logic.{_≢_}
 use native.Mathlib.Omega.{arith}
 use native.Mathlib.Decide.{ℕ-discrete, decLt}
 use borrow.Author.Tests.{eq-eqb, ne-eqb}
 use lib.Dec.{eqb}
-use lib.IntN.{ℤ}
+use lib.IntN.{ℤ, pos}
 use lib.Ieee.{Float, binary64, add}
 use lib.ListN.{length}
 use Rattle.triangles.specs.declared.Sides.{Sides}
 use Rattle.complex.specs.Complex.{Complex}
 use Rattle.gauss_law.specs.Listing.{states}
-use Rattle.hilbert.specs.Basis.{place}
 use Rattle.matrices.specs.declared.coupling.KSParams.{KSParams}
+use Rattle.matrices.specs.Terms.{dense-plaquette-term}
 use Rattle.plaquettes.specs.declared.target.Sizes.{Sizes}
 use Rattle.matrices.specs.Matrix.{Matrix, with-added}
-use Rattle.plaquettes.specs.Triangle.{shifted-state, sides-within, hits}
-use Rattle.hamiltonian.specs.Dense.{plaquette-term, u1-entry}
+use Rattle.plaquettes.specs.Triangle.{target, hits}
+use Rattle.hamiltonian.specs.Dense.{u1-entry}
 use Rattle.hamiltonian.specs.Walk.{part-entry, HitAdded, PlaquetteAdded}
-use Rattle.plaquettes.specs.Targets.{BasisList, SidesOf, target}
+use Rattle.plaquettes.specs.Targets.{BasisList}
+use Rattle.triangles.specs.Indices.{SidesOf}
 use Rattle.matrices.proofs.Matrices.{matrix-add, matrix-same}
-use Rattle.plaquettes.proofs.Rising.{targets-rise}
 use Rattle.plaquettes.proofs.Hits.{elsewhere}
 use Rattle.hamiltonian.proofs.PartWay.{way-none, way-there, way-back, way-elsewhere, part-none, part-all}
-use Rattle.plaquettes.proofs.Targets.{there, target-none, target-at}
+use Rattle.plaquettes.proofs.Targets.{there, hit-found, hit-none, target-later}
 
 -- while triangle t is under way: no later target is before a place, and the entries are those of the states below i
 pub record Way (c : Complex) (s : Sizes) (t : ℕ) (x : Float) (i from : ℕ) (old new : List Float) : Type 0 where
-  pub rises : (k : ℕ) → i ≤ k → k < s .states → from ≤ target c (s .lambda) t k
-  pub entries : (p : KSParams) (w : ℕ → Float) → x ≡ plaquette-term p (w t) → (first : List Float) → Matrix (u1-entry c (s .lambda) p w t) (s .states) first old
+  pub rises : (k : ℕ) → i ≤ k → k < s .states → from ≤ target c (s .lambda) t (pos 1) k
+  pub entries : (p : KSParams) (w : ℕ → Float) → x ≡ dense-plaquette-term p (w t) → (first : List Float) → Matrix (u1-entry c (s .lambda) p w t) (s .states) first old
       → Matrix (part-entry c (s .lambda) p w t i) (s .states) first new
 
 pub hit-below : (n i j from : ℕ) (x : Float) (old new : List Float) (r : ℕ) → HitAdded n i j from x old new r → from ≤ n → r ≤ n
@@ -47,43 +47,6 @@ module _ (c : Complex) (list : List ℤ) (s : Sizes) (free : List ℕ) (basis : 
 
   abbrev n : ℕ
   n = s .states
-
-  module _ (i : ℕ) (h : i < n) where
-    abbrev inside : Bool
-    inside = sides-within c L t (shifted-state c L t i)
-
-    -- a target that is a place is a hit
-    band-of : target c L t i < n → inside ≡ true
-    band-of k = go inside refl
-      where
-        go : (b : Bool) → inside ≡ b → b ≡ true
-        go true e = refl
-        go false e = absurd (omega (arith, target-none c list s free basis t three of i h e))
-
-    pub hit-found : target c L t i < n → hits c L t i (target c L t i) ≡ true
-    unfolding hits target
-    hit-found k = rw (band-of k) (eq-eqb (place c L (shifted-state c L t i)) (place c L (shifted-state c L t i)) refl)
-
-    pub hit-none : n ≤ target c L t i → (q : ℕ) → hits c L t i q ≡ false
-    unfolding hits
-    hit-none k q = go inside refl
-      where
-        go : (b : Bool) → inside ≡ b → (b && eqb (place c L (shifted-state c L t i)) q) ≡ false
-        go true e = absurd (omega (arith, target-at c list s free basis t three of i h e .below, basis .count))
-        go false e = refl
-
-  -- the targets rise
-  pub later : (i k : ℕ) → i < k → k < n → target c L t i < n → target c L t i ≤ target c L t k
-  later i k less below hit = go (sides-within c L t (shifted-state c L t k)) refl
-    where
-      go : (b : Bool) → sides-within c L t (shifted-state c L t k) ≡ b → target c L t i ≤ target c L t k
-      go true e =
-          omega (
-            arith,
-            targets-rise c (basis .accepted) t (of .number) L i k _ _ less (there c list s free basis k below)
-                (target-at c list s free basis t three of i (omega arith) (band-of i (omega arith) hit)) (target-at c list s free basis t three of k below e),
-          )
-      go false e = omega (arith, target-none c list s free basis t three of k below e)
 
   module _ (x : Float) (old : List Float) where
     pub way-begun : Way c s t x 0 0 old old
@@ -103,7 +66,7 @@ module _ (c : Complex) (list : List ℤ) (s : Sizes) (free : List ℕ) (basis : 
       abbrev here : i < length (states c L)
       here = there c list s free basis i h
 
-      pub way-kept : n ≤ target c L t i → Way c s t x (i + 1) from old new
+      pub way-kept : n ≤ target c L t (pos 1) i → Way c s t x (i + 1) from old new
       unfolding part-entry
       way-kept out =
           record {
@@ -112,10 +75,10 @@ module _ (c : Complex) (list : List ℤ) (s : Sizes) (free : List ℕ) (basis : 
           }
         where
           same : (p : KSParams) (w : ℕ → Float) (a b : ℕ) → part-entry c L p w t i a b ≡ part-entry c L p w t (i + 1) a b
-          same p w a b = rw (way-none c (basis .accepted) L t (of .number) i here (hit-none i h out) a b)
+          same p w a b = rw (way-none c (basis .accepted) L t (of .number) i here (hit-none c list s free basis t (of .number) i h out) a b)
 
       -- entry by entry, where it was added to both entries of the hit (i, q)
-      module _ (p : KSParams) (w : ℕ → Float) (is : x ≡ plaquette-term p (w t)) (q : ℕ) (there-q : q < length (states c L)) (hit : hits c L t i q ≡ true) where
+      module _ (p : KSParams) (w : ℕ → Float) (is : x ≡ dense-plaquette-term p (w t)) (q : ℕ) (there-q : q < length (states c L)) (hit : hits c L t i q ≡ true) where
         before : ℕ → ℕ → Float
         before = part-entry c L p w t i
 
@@ -148,27 +111,27 @@ module _ (c : Complex) (list : List ℤ) (s : Sizes) (free : List ℕ) (basis : 
             go (no d) e (yes f) (no g) = untouched a b (rw (ne-eqb a i d)) (rw (eq-eqb a q f, ne-eqb b i g)) (λ z. d (z .0)) (λ z. g (z .1))
             go (no d) e (no f) g = untouched a b (rw (ne-eqb a i d)) (rw (ne-eqb a q f)) (λ z. d (z .0)) (λ z. f (z .0))
 
-      pub way-hit : target c L t i < n → n * n ≤ length old
-          → Way c s t x (i + 1) (target c L t i) old (with-added n (target c L t i) i x (with-added n i (target c L t i) x new))
+      pub way-hit : target c L t (pos 1) i < n → n * n ≤ length old
+          → Way c s t x (i + 1) (target c L t (pos 1) i) old (with-added n (target c L t (pos 1) i) i x (with-added n i (target c L t (pos 1) i) x new))
       unfolding both-added first-added before
       way-hit hit room =
           record {
-            rises = λ k a b. later i k (omega arith) b hit;
+            rises = λ k a b. target-later c list s free basis t (of .number) i k (omega arith) b hit;
             entries = λ p w e first m.
-                let q = target c L t i in
+                let q = target c L t (pos 1) i in
                 let enough : n * n ≤ length first = rw (← (m .long)) room in
                 let one = matrix-add (part-entry c L p w t i) n first new (way .entries p w e first m) enough i q h hit x in
-                matrix-same (both-added p w e q (there c list s free basis q hit) (hit-found i h hit)) (part-entry c L p w t (i + 1)) n first
+                matrix-same (both-added p w e q (there c list s free basis q hit) (hit-found c list s free basis t (of .number) i hit)) (part-entry c L p w t (i + 1)) n first
                 (with-added n q i x (with-added n i q x new))
-                (λ a b d f. hit-added p w e q (there c list s free basis q hit) (hit-found i h hit) a b)
-                (matrix-add (first-added p w e q (there c list s free basis q hit) (hit-found i h hit)) n first (with-added n i q x new) one enough q i hit h x);
+                (λ a b d f. hit-added p w e q (there c list s free basis q hit) (hit-found c list s free basis t (of .number) i hit) a b)
+                (matrix-add (first-added p w e q (there c list s free basis q hit) (hit-found c list s free basis t (of .number) i hit)) n first (with-added n i q x new) one enough q i hit h x);
           }
 
       -- one state more, whether its target is a hit or not
-      pub way-on : (j : ℕ) → (from ≤ target c L t i → j ≡ target c L t i) → n * n ≤ length old → (next : List Float) (r : ℕ) → HitAdded n i j from x new next r → Way c s t x (i + 1) r old next
+      pub way-on : (j : ℕ) → (from ≤ target c L t (pos 1) i → j ≡ target c L t (pos 1) i) → n * n ≤ length old → (next : List Float) (r : ℕ) → HitAdded n i j from x new next r → Way c s t x (i + 1) r old next
       way-on j is room next r made = go (decLt j n)
         where
-          e : j ≡ target c L t i
+          e : j ≡ target c L t (pos 1) i
           e = is (way .rises i (omega arith) h)
 
           go : Dec (j < n) → Way c s t x (i + 1) r old next

@@ -1,32 +1,34 @@
 // The dense Hamiltonian of U(1).
 use crate::walk::add_plaquette;
+use answers::Answer;
 use complex::SimplicialComplex;
+use cursor::tables::count_states;
+use cursor::tables::write_states;
 use enumeration::prepare_basis;
-use gauss_law::answer::Enumerated;
 use matrices::coupling::KSParams;
 use matrices::coupling::is_u1;
-use matrices::electric::energy;
-use matrices::electric::squares;
 use matrices::matrix::add_entry;
 use matrices::matrix::clear_matrix;
+use matrices::terms::dense_plaquette_term;
 use matrices::weights::judge_weights;
 use matrices::weights::weight_of;
+use plaquettes::rows::row_energy;
 use plaquettes::target::Sizes;
-use triangles::triangle_sides;
-use walker::tables::count_states;
-use walker::tables::write_states;
+use triangles::all_sides;
+use triangles::sides_at;
 ghost use mathlib.Core.Path.{_≡_};
-ghost use mathlib.Core.Bool.{true};
 ghost use Prim.Native.Nat.{ℕ, _*_, _≤_};
 ghost use lib.Ieee.{Float};
 ghost use mathlib.Core.List.{List};
 ghost use lib.ListN.{length};
 ghost use Rattle.mathematics.specs.Writing.{front};
+ghost use Rattle.mathematics.specs.Calls.{Answered};
+ghost use Rattle.answers.specs.Answer.{numberAnswer};
 ghost use Rattle.complex.specs.Complex.{complexOf};
-ghost use Rattle.matrices.specs.Weights.{weight};
+ghost use Rattle.matrices.specs.Weights.{weight, Weighed};
 ghost use Rattle.matrices.specs.Matrix.{Matrix, passed};
-ghost use Rattle.hamiltonian.specs.Dense.{plaquette-term, u1-entry, u1-dense, U1Built};
-ghost use Rattle.hamiltonian.specs.Walk.{SmallRows, electric-term};
+ghost use Rattle.hamiltonian.specs.Dense.{u1-entry, u1-dense, u1-dense-call};
+ghost use Rattle.plaquettes.specs.Rows.{SmallRows, electric-term};
 ghost use Rattle.plaquettes.specs.Targets.{BasisList};
 
 // A factor times each row's sum of squares is added on the diagonal.
@@ -35,16 +37,8 @@ fn add_electric(list: &[i32], n: usize, m: usize, factor: f64, h: &mut [f64])
     ensures { λ _. ⌜ ((f : ℕ → ℕ → Float) (old : List Float) → Matrix f n old (now (h .entry)) → Matrix (passed f (λ i. i) (electric-term factor m (now (list .entry))) n) n old (now (h .exit))) ⌝ }
 {
     for i in 0..n {
-        let at = i * m;
-        add_entry(h, n, i, i, energy(factor, squares(&list[at..at + m])));
+        add_entry(h, n, i, i, row_energy(list, m, i, factor));
     }
-}
-
-// What the plaquette of a triangle with a weight adds.
-fn plaquette_term(p: KSParams, weight: f64) -> f64
-    ensures { λ r. ⌜ r ≡ plaquette-term p weight ⌝ }
-{
-    p.magnetic * weight * 0.5
 }
 
 // The triangles of a record add their plaquettes, one after the other.
@@ -58,12 +52,13 @@ fn add_magnetic(
     free: &[u8; 63],
     h: &mut [f64],
 )
-    requires { ⌜ BasisList (complexOf c) (now list) s (now free) × (given ≡ true → length (now weights) ≡ c .«n_triangles») × (s .states * s .states ≤ length (now h)) ⌝ }
+    requires { ⌜ BasisList (complexOf c) (now list) s (now free) × Weighed (length (complexOf c .triangles)) given (now weights) × (s .states * s .states ≤ length (now h)) ⌝ }
     ensures { λ _. ⌜ ((old : List Float) → Matrix (u1-entry (complexOf c) (s .lambda) p (weight given (now (weights .entry))) 0) (s .states) old (now (h .entry)) → Matrix (u1-entry (complexOf c) (s .lambda) p (weight given (now (weights .entry))) (c .«n_triangles»)) (s .states) old (now (h .exit))) ⌝ }
 {
+    let all = all_sides(c);
     for t in 0..c.n_triangles {
-        let x = plaquette_term(p, weight_of(given, weights, t));
-        add_plaquette(list, s, free, triangle_sides(c, t), x, h);
+        let x = dense_plaquette_term(p, weight_of(given, weights, t));
+        add_plaquette(list, s, free, sides_at(&all, t), x, h);
     }
 }
 
@@ -78,7 +73,7 @@ fn write_dense(
     free: &[u8; 63],
     h: &mut [f64],
 )
-    requires { ⌜ BasisList (complexOf c) (now list) s (now free) × (given ≡ true → length (now weights) ≡ c .«n_triangles») × (s .states * s .states ≤ length (now h)) ⌝ }
+    requires { ⌜ BasisList (complexOf c) (now list) s (now free) × Weighed (length (complexOf c .triangles)) given (now weights) × (s .states * s .states ≤ length (now h)) ⌝ }
     ensures { λ _. ⌜ now (h .exit) ≡ front (u1-dense (complexOf c) (s .lambda) p (weight given (now (weights .entry)))) (now (h .entry)) ⌝ }
 {
     clear_matrix(h, s.states);
@@ -96,23 +91,23 @@ pub fn build_hamiltonian(
     weights: &[f64],
     states: &mut [i32],
     result: &mut [f64],
-) -> Enumerated
-    ensures { λ r. ⌜ U1Built (complexOf c) lambda p given (now (weights .entry)) (now (states .entry)) (now (result .entry)) r (now (states .exit)) (now (result .exit)) ⌝ }
+) -> Answer
+    ensures { λ r. ⌜ Answered (u1-dense-call (complexOf c) lambda p given (now (weights .entry)) (now (states .entry)) (now (result .entry))) (numberAnswer r) (now (states .exit), now (result .exit)) ⌝ }
 {
     let basis = prepare_basis(c, lambda);
     let number = basis.refusal;
     if number != 0 {
-        return Enumerated::Refused(number);
+        return Answer::Refused(number);
     }
     let wrong = judge_weights(c.n_triangles, is_u1(p), given, weights);
     if wrong != 0 {
-        return Enumerated::Refused(wrong);
+        return Answer::Refused(wrong);
     }
     let w = basis.walker;
     let blocks = basis.blocks;
     let n = count_states(w, lambda, blocks);
     if (states.len() < n * w.n_edges) | (result.len() < n * n) {
-        return Enumerated::Refused(15);
+        return Answer::Refused(15);
     }
     let free = w.free;
     let s = Sizes {
@@ -122,5 +117,5 @@ pub fn build_hamiltonian(
         lambda: lambda,
     };
     write_dense(c, p, given, weights, states, s, &free, result);
-    Enumerated::States(n)
+    Answer::Number(n)
 }

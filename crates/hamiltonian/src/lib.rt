@@ -1,4 +1,4 @@
-// The Kogut-Susskind Hamiltonian of U(1): the shift of a triangle, and the dense matrix.
+// The Kogut-Susskind Hamiltonian of U(1) as a dense matrix.
 
 pub mod dense;
 pub mod walk;

@@ -7,7 +7,8 @@ ghost use Prim.Native.Nat.{ℕ, _*_, _^_, _<_, _≤_};
 ghost use lib.ListN.{length};
 ghost use Rattle.complex.specs.Complex.{Complex};
 ghost use Rattle.hamiltonian.specs.Walk.{HitAdded, PlaquetteAdded};
-ghost use Rattle.plaquettes.specs.Targets.{BasisList, SidesOf, Ready};
+ghost use Rattle.plaquettes.specs.Targets.{BasisList, Ready};
+ghost use Rattle.triangles.specs.Indices.{SidesOf};
 
 // x is added to both entries of a hit, where the target of state i is one. The place that no later target is before.
 fn add_hit(h: &mut [f64], n: usize, i: usize, j: usize, from: usize, x: f64) -> usize

@@ -18,7 +18,7 @@ use Rattle.mathematics.proofs.Below.{listed-member, member-listed}
 use Rattle.mathematics.proofs.Flat.{flatten-row}
 use Rattle.complex.specs.Complex.{Complex}
 use Rattle.complex.specs.Judge.{Accepted}
-use Rattle.gauss_law.specs.Gauss.{State, within, uncharged}
+use Rattle.gauss_law.specs.Gauss.{State, within}
 use Rattle.gauss_law.specs.Listing.{free-edges, Before, Complete, states}
 use Rattle.mathematics.specs.Lists.{In}
 use Rattle.gauss_law.proofs.Gauss.{lawful-true, true-lawful}
@@ -139,9 +139,9 @@ self-smaller c s = smaller-past (free-edges c) s s 0 (length (free-edges c)) (om
 
 -- ---- the place of a listed configuration
 module _ (c : Complex) (accepted : Accepted c) (L : ℕ) where
-  complete : Complete c uncharged L (states c L)
+  complete : Complete c (c .charges) L (states c L)
   unfolding states
-  complete = listing-complete c accepted uncharged L
+  complete = listing-complete c accepted (c .charges) L
 
   state-sized : (i : ℕ) → i < length (states c L) → length (getD (states c L) i []) ≡ length (c .edges)
   state-sized i h = complete .only (getD (states c L) i []) (i, h, refl) .sized
@@ -165,23 +165,23 @@ module _ (c : Complex) (accepted : Accepted c) (L : ℕ) where
 -- ---- which configurations are listed
 -- the test says what a state is
 module _ (c : Complex) (L : ℕ) (s : List ℤ) where
-  pub in-basis-state : length s ≡ length (c .edges) → in-basis c L s ≡ true → State c uncharged L s
+  pub in-basis-state : length s ≡ length (c .edges) → in-basis c L s ≡ true → State c (c .charges) L s
   unfolding in-basis within
   in-basis-state long h =
       let r = and-parts _ _ h in
       record {
         sized = long;
         within = λ e k. leb-true (natAbs (getD s e (pos 0))) L (all-at (within L) (pos 0) s (r .0) e (omega arith));
-        law = lawful-true c uncharged s (r .1);
+        law = lawful-true c (c .charges) s (r .1);
       }
 
-  pub state-in-basis : State c uncharged L s → in-basis c L s ≡ true
+  pub state-in-basis : State c (c .charges) L s → in-basis c L s ≡ true
   unfolding in-basis within
   state-in-basis h =
       let long = h .sized in
       and-both _ _
       (at-all (within L) (pos 0) s (λ e k. le-leb (natAbs (getD s e (pos 0))) L (h .within e (omega arith))))
-      (true-lawful c uncharged s (h .law))
+      (true-lawful c (c .charges) s (h .law))
 
 module _ (c : Complex) (accepted : Accepted c) (L : ℕ) (s : List ℤ) where
   -- a configuration is listed exactly when its Gauss sums are zero and its values are within -L to L

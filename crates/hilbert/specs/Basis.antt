@@ -1,5 +1,5 @@
 -- Which configurations are in the basis, and at which place.
-use Prim.Native.Nat.{ℕ, zero, suc, _<_}
+use Prim.Native.Nat.{ℕ, zero, suc, _<_, _≤_}
 use mathlib.Core.List.{List, []}
 use mathlib.Core.Bool.{Bool, true, false, _&&_, cond}
 use mathlib.Core.Path.{_≡_}
@@ -9,12 +9,12 @@ use lib.ListN.{getD, length}
 use Rattle.mathematics.specs.Tests.{every-entry}
 use Rattle.mathematics.specs.Counting.{keep}
 use Rattle.complex.specs.Complex.{Complex}
-use Rattle.gauss_law.specs.Gauss.{lawful, within, uncharged}
-use Rattle.gauss_law.specs.Listing.{free-edges, states}
+use Rattle.gauss_law.specs.Gauss.{lawful, within}
+use Rattle.gauss_law.specs.Listing.{free-edges, states, limit}
 
 -- a configuration with one value for each edge is in the basis: every value within -L to L, and every Gauss sum zero
 unfoldable pub in-basis : Complex → ℕ → List ℤ → Bool
-in-basis c L s = every-entry (within L) s && lawful c uncharged s
+in-basis c L s = every-entry (within L) s && lawful c (c .charges) s
 
 -- true where x is the smaller, false where y is, and b where they are equal
 unfoldable pub decided : Bool → ℤ → ℤ → Bool
@@ -37,3 +37,8 @@ place c L s = length (keep (λ t. comes-before c t s) (states c L))
 pub record At (c : Complex) (L : ℕ) (s : List ℤ) (p : ℕ) : Type 0 where
   pub below : p < length (states c L)
   pub state : getD (states c L) p [] ≡ s
+
+-- what is known of a configuration that was found: it stands at its place, and the basis is no longer than the limit
+pub record PlaceKnown (c : Complex) (L : ℕ) (s : List ℤ) : Type 0 where
+  pub found : At c L s (place c L s)
+  pub few : length (states c L) ≤ limit

@@ -1,19 +1,18 @@
 -- What config_to_index tells, and what its list then holds.
-use Prim.Native.Nat.{ℕ, _≤_}
+use Prim.Native.Nat.{ℕ}
 use mathlib.Core.List.{List, [], _∷_, _++_}
 use mathlib.Core.Bool.{Bool, not}
-use mathlib.Core.Path.{_≡_}
 use mathlib.Core.Logic.{_≢_}
 use lib.IntN.{ℤ}
 use lib.ListN.{length}
-use Rattle.mathematics.specs.Refusals.{first, Outcome, value, refused, outcome, written}
+use Rattle.mathematics.specs.Refusals.{Outcome, value, refused}
+use Rattle.mathematics.specs.Calls.{Call, Answered}
 use Rattle.complex.specs.Complex.{Complex}
 use Rattle.complex.specs.Judge.{length-test}
 use Rattle.enumeration.specs.Enumeration.{basis-tests, short, basis-first}
-use Rattle.gauss_law.specs.Listing.{states, limit}
 use Rattle.hilbert.specs.declared.index.Index.{Index}
 use Rattle.hilbert.specs.declared.index.Index.the-variants.{Place, NotInBasis, Refused}
-use Rattle.hilbert.specs.Basis.{in-basis, place, At}
+use Rattle.hilbert.specs.Basis.{in-basis, place, PlaceKnown}
 
 -- what an answer says
 unfoldable pub indexAnswer : Index → Outcome ℕ
@@ -26,14 +25,18 @@ abbrev pub index-tests : Complex → ℕ → List ℤ → ℕ → List (ℕ × B
 index-tests c L s room =
     basis-tests c L ++ (length-test c (length s) ∷ (15, short c L room) ∷ (17, not (in-basis c L s)) ∷ [])
 
-unfoldable pub index-refusal : Complex → ℕ → List ℤ → ℕ → ℕ
-index-refusal c L s room = first (index-tests c L s room)
+-- config_to_index: the place of the configuration is told, and the list begins with the basis.
+unfoldable pub index-call : Complex → ℕ → List ℤ → List ℤ → Call ℕ (List ℤ)
+index-call c L s old =
+    record {
+      tests = index-tests c L s (length old);
+      value = place c L s;
+      before = old;
+      after = basis-first c L old;
+      known = PlaceKnown c L s;
+    }
 
--- The place of the configuration is told, 17 by a case of its own, and the list begins with the basis. What follows where nothing is refused:
--- the configuration stands at that place, and the basis is no longer than the limit.
-pub record Indexed (c : Complex) (L : ℕ) (s old new : List ℤ) (r : Index) : Type 0 where
-  pub answer : indexAnswer r ≡ outcome (index-refusal c L s (length old)) (place c L s)
+-- an answer is that of a call, and 17 has a case of its own
+pub record Indexed {B : Type 0} (call : Call ℕ B) (r : Index) (l : B) : Type 0 where
+  pub told : Answered call (indexAnswer r) l
   pub own : r ≢ Refused 17
-  pub list : new ≡ written (index-refusal c L s (length old)) (basis-first c L old) old
-  pub found : index-refusal c L s (length old) ≡ 0 → At c L s (place c L s)
-  pub few : index-refusal c L s (length old) ≡ 0 → length (states c L) ≤ limit

@@ -1,12 +1,12 @@
 // The place of a configuration in the basis.
 use crate::search::find_place;
 use complex::SimplicialComplex;
+use cursor::tables::write_states;
 use enumeration::prepare_basis;
 use enumeration::too_short;
-use gauss_law::law::find_unlawful;
+use law_check::find_unlawful;
 use walker::blocks::within;
 use walker::tables::Walker;
-use walker::tables::write_states;
 ghost use mathlib.Core.Path.{_≡_};
 ghost use Prim.Native.Nat.{_≤_};
 ghost use lib.ListN.{length};
@@ -17,7 +17,7 @@ ghost use Rattle.enumeration.specs.Enumeration.{BasisWalks};
 ghost use Rattle.hilbert.specs.Basis.{in-basis};
 ghost use Rattle.gauss_law.specs.Gauss.{within};
 ghost use Rattle.hilbert.specs.Search.{Sought, FoundIn};
-ghost use Rattle.hilbert.specs.Index.{Indexed};
+ghost use Rattle.hilbert.specs.Index.{index-call, Indexed};
 
 // Whether every value is within -lambda to lambda.
 fn in_band(configuration: &[i32], lambda: usize) -> bool
@@ -71,7 +71,7 @@ pub fn config_to_index(
     configuration: &[i32],
     states: &mut [i32],
 ) -> Index
-    ensures { λ r. ⌜ Indexed (complexOf c) lambda (now (configuration .entry)) (now (states .entry)) (now (states .exit)) r ⌝ }
+    ensures { λ r. ⌜ Indexed (index-call (complexOf c) lambda (now (configuration .entry)) (now (states .entry))) r (now (states .exit)) ⌝ }
 {
     let basis = prepare_basis(c, lambda);
     let number = basis.refusal;

@@ -1,5 +1,6 @@
 // The place of a configuration in the list of the basis.
-use complex::numbering::byte;
+use numbers::byte;
+use numbers::sizes::MOST_EDGES;
 ghost use mathlib.Core.Path.{_≡_};
 ghost use Prim.Native.Nat.{ℕ, _≤_};
 ghost use lib.ListN.{length};
@@ -8,7 +9,7 @@ ghost use Rattle.hilbert.specs.Basis.{smaller};
 ghost use Rattle.hilbert.specs.Search.{Rows, Ranked};
 
 // Whether a row has the smaller value on the last free edge where it differs from a configuration: from the last free edge down.
-fn row_before(row: &[i32], config: &[i32], free: &[u8; 63], n_free: usize) -> bool
+fn row_before(row: &[i32], config: &[i32], free: &[u8; MOST_EDGES], n_free: usize) -> bool
     requires { ⌜ (length (now row) ≡ length (now config)) × (length (now config) ≤ 63) × («n_free» ≤ 63) × FreeFit (length (now config)) «n_free» (now free) ⌝ }
     ensures { λ r. ⌜ r ≡ smaller (now (free .entry)) (now (row .entry)) (now (config .entry)) «n_free» ⌝ }
 {
@@ -26,7 +27,13 @@ fn row_before(row: &[i32], config: &[i32], free: &[u8; 63], n_free: usize) -> bo
 }
 
 // How many of the first n rows come before a configuration, where they are in order: by halving.
-pub fn find_place(states: &[i32], n: usize, config: &[i32], free: &[u8; 63], n_free: usize) -> usize
+pub fn find_place(
+    states: &[i32],
+    n: usize,
+    config: &[i32],
+    free: &[u8; MOST_EDGES],
+    n_free: usize,
+) -> usize
     requires { ⌜ Rows (now states) n (now config) (now free) «n_free» ⌝ }
     ensures { λ r. ⌜ ((p : ℕ) → Ranked (now (states .entry)) n (now (config .entry)) (now (free .entry)) «n_free» p → r ≡ p) ⌝ }
 {
@@ -51,7 +58,7 @@ pub fn advance(
     n: usize,
     from: usize,
     config: &[i32],
-    free: &[u8; 63],
+    free: &[u8; MOST_EDGES],
     n_free: usize,
 ) -> usize
     requires { ⌜ Rows (now states) n (now config) (now free) «n_free» × (from ≤ n) ⌝ }

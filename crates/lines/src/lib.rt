@@ -43,7 +43,8 @@ pub fn write_number(out: &mut [u8], at: usize, n: usize) -> usize
     write_byte(out, next, digit(n % 10))
 }
 
-fn size(n: i32) -> usize
+// A value without its sign.
+fn absolute(n: i32) -> usize
     ensures { λ r. ⌜ r ≡ natAbs n ⌝ }
 {
     if n < 0 {
@@ -58,9 +59,9 @@ pub fn write_signed(out: &mut [u8], at: usize, n: i32) -> usize
 {
     if n < 0 {
         let next = write_byte(out, at, b'-');
-        return write_number(out, next, size(n));
+        return write_number(out, next, absolute(n));
     }
-    write_number(out, at, size(n))
+    write_number(out, at, absolute(n))
 }
 
 fn write_value(out: &mut [u8], at: usize, n: i32) -> usize

@@ -1,28 +1,26 @@
 -- A sheet from flat lists.
-use Prim.Native.Nat.{ℕ, zero, suc, _+_, _-_, _*_, _/_, _%_, _<_, _≤_}
+use Prim.Native.Nat.{ℕ, _-_, _*_, _/_, _%_}
 use mathlib.Core.List.{List, [], _∷_, _++_}
-use mathlib.Core.Path.{_≡_, refl, sym, ap, _∙_}
+use mathlib.Core.Path.{_≡_, refl, _∙_}
 use mathlib.Core.Bool.{Bool, true, false, not, _&&_, cond}
 use native.Mathlib.Omega.{arith}
-use borrow.Author.Tests.{eqb-true, ltb-false, le-ltb}
-use lib.ListN.{getD, length, take, drop, replicate}
+use borrow.Author.Tests.{eqb-true}
+use lib.ListN.{length, take, drop, replicate}
 use lib.Seq.{take-length}
 use lib.Dec.{eqb, ltb}
-use Rattle.mathematics.specs.Refusals.{first, outcome, written}
+use Rattle.mathematics.specs.Refusals.{Outcome, first}
+use Rattle.mathematics.specs.Calls.{Answered}
 use Rattle.mathematics.proofs.Tests.{and-parts}
-use Rattle.mathematics.proofs.Refusals.{first-stops, first-none}
-use Rattle.complex.specs.declared.SimplicialComplex.{SimplicialComplex}
-use Rattle.complex.specs.Complex.{Complex, simplices, complexOf}
+use Rattle.mathematics.proofs.Refusals.{first-none}
+use Rattle.mathematics.proofs.Calls.{Tells, among}
+use Rattle.complex.specs.Complex.{simplices, complexOf}
 use Rattle.complex.specs.Judge.{counts-right, shape-tests, truncated-tests}
 use Rattle.complex.proofs.Simplices.{simplices-length}
-use Rattle.complex.proofs.Accepting.{Counts, counts, simplices-sized}
 use Rattle.complex.proofs.Flattened.{simplices-front}
 use Rattle.sheet.specs.declared.Sheet.{Sheet}
-use Rattle.sheet.specs.declared.Written.{Written}
-use Rattle.sheet.specs.declared.Written.the-variants.{Bytes, Refused as NotWritten}
-use Rattle.sheet.specs.Sheet.{padded, sheetBytes, writing-refusal, writtenAnswer, WrittenOf}
-use Rattle.sheet.proofs.RoundTrips.{sheet-length, read-written}
-use Rattle.making.specs.Making.{flatComplex, size-tests, making-refusal, Made, MadeThenRead}
+use Rattle.sheet.specs.Sheet.{padded, sheetBytes, writing-tests, writing-call}
+use Rattle.sheet.proofs.RoundTrips.{read-written}
+use Rattle.making.specs.Making.{flatComplex, size-tests, making-tests, making-call, MadeThenRead}
 
 three-pass : (p q r : Bool) → _≡_ {A = ℕ} (cond (not p) 4 (cond q 5 (cond (not r) 6 0))) 0 → (p ≡ true) × (q ≡ false) × (r ≡ true)
 three-pass false q r h = absurd (omega arith)
@@ -52,44 +50,23 @@ pub whole-list : (k m : ℕ) (l : List ℕ) (n : ℕ) → length l ≡ k * n →
 unfolding padded
 whole-list k m l n long = rw (take-length l) (simplices-front k l (replicate (m - length l) 0) n (omega arith))
 
-module _ (n : ℕ) (edges triangles : List ℕ) (lambda : ℕ) (before : List ℕ) where
-  pub sizes-refused : (k : ℕ) → k ≡ first (size-tests n edges triangles lambda) → (k ≡ 0 → ⊥) → Made n edges triangles lambda before (NotWritten k) before
-  unfolding making-refusal writtenAnswer outcome written
-  sizes-refused zero e some = absurd (some refl)
-  sizes-refused (suc k) e some =
-      let c = flatComplex n edges triangles in
-      let more : List (ℕ × Bool) = shape-tests c ++ ((15, ltb (length before) (length (sheetBytes c lambda))) ∷ []) in
-      let stop : first (size-tests n edges triangles lambda ++ more) ≡ suc k =
-      first-stops (size-tests n edges triangles lambda) more (λ (z : first (size-tests n edges triangles lambda) ≡ 0). some (e ∙ z)) ∙ sym e in
-      record { answer = rw stop; bytes = rw stop }
+module _ (n : ℕ) (edges triangles : List ℕ) (lambda : ℕ) where
+  -- sizes that are refused
+  pub sizes-refuse : {k : ℕ} → k ≡ first (size-tests n edges triangles lambda) → (k ≡ 0 → ⊥) → (rest : List (ℕ × Bool)) → Tells (size-tests n edges triangles lambda ++ rest) k
+  sizes-refuse e some rest = among (size-tests n edges triangles lambda) rest e some
 
-  same-refusal : first (size-tests n edges triangles lambda) ≡ 0 → writing-refusal (flatComplex n edges triangles) lambda (length before) ≡ making-refusal n edges triangles lambda (length before)
-  unfolding writing-refusal making-refusal first size-tests flatComplex
-  same-refusal h =
+  -- past the sizes, what is judged in writing is what is judged in making
+  same-refusal : first (size-tests n edges triangles lambda) ≡ 0 → (room : ℕ) → first (writing-tests (flatComplex n edges triangles) lambda room) ≡ first (making-tests n edges triangles lambda room)
+  unfolding first size-tests flatComplex
+  same-refusal h room =
       let s = sizes-of n edges triangles lambda h in
       rw (simplices-length 2 edges (length edges / 2), simplices-length 3 triangles (length triangles / 3), s .counts-pass, s .truncation, s .multiples)
 
-  pub made-by : first (size-tests n edges triangles lambda) ≡ 0 → (s : Sheet) → complexOf (s .complex) ≡ flatComplex n edges triangles → s .lambda ≡ lambda → (r : Written) (after : List ℕ) → WrittenOf s before r after → Made n edges triangles lambda before r after
-  made-by h s e f r after w =
-      let answer = rw (e, f, same-refusal h) at (w .answer) in
-      let bytes = rw (e, f, same-refusal h) at (w .bytes) in
-      record { answer = answer; bytes = bytes }
-
-  sizes-none : making-refusal n edges triangles lambda (length before) ≡ 0 → first (size-tests n edges triangles lambda) ≡ 0
-  unfolding making-refusal
-  sizes-none h =
-      first-none (size-tests n edges triangles lambda)
-      (shape-tests (flatComplex n edges triangles) ++ ((15, ltb (length before) (length (sheetBytes (flatComplex n edges triangles) lambda))) ∷ [])) h
-
-  -- a sheet has at most 905 bytes
-  pub made-small : making-refusal n edges triangles lambda (length before) ≡ 0 → length (sheetBytes (flatComplex n edges triangles) lambda) ≤ 905
-  unfolding flatComplex
-  made-small h =
-      let s = sizes-of n edges triangles lambda (sizes-none h) in
-      let k = counts n (length edges / 2) (length triangles / 3) (s .counts-pass) in
-      let e = k .edges in
-      let t = k .triangles in
-      omega (arith, sheet-length (flatComplex n edges triangles) lambda (simplices-sized 2 edges (length edges / 2)) (simplices-sized 3 triangles (length triangles / 3)), simplices-length 2 edges (length edges / 2), simplices-length 3 triangles (length triangles / 3))
+  pub made-by : first (size-tests n edges triangles lambda) ≡ 0 → (old : List ℕ) {a : Outcome ℕ} {new : List ℕ} → Answered (writing-call (flatComplex n edges triangles) lambda old) a new → Answered (making-call n edges triangles lambda old) a new
+  unfolding writing-call making-call
+  made-by h old w =
+      let e = same-refusal h (length old) in
+      record { answer = rw e at (w .answer); lists = rw e at (w .lists); known = λ z. w .known (e ∙ z) }
 
 -- ---- what is made is read back
 abbrev flat-sheet : ℕ → List ℕ → List ℕ → ℕ → Sheet
@@ -112,12 +89,11 @@ flat-is n edges triangles lambda h =
     rw (whole-list 2 126 edges (length edges / 2) (s .pairs), whole-list 3 768 triangles (length triangles / 3) (s .triples))
 
 pub made-read : MadeThenRead
-unfolding writing-refusal
-made-read n edges triangles lambda before none =
+made-read n edges triangles lambda room none =
     let c = flatComplex n edges triangles in
-    let h = sizes-none n edges triangles lambda before none in
+    let full : List (ℕ × Bool) = (15, ltb room (length (sheetBytes c lambda))) ∷ [] in
+    let h = first-none (size-tests n edges triangles lambda) (shape-tests c ++ full) none in
     let is = flat-is n edges triangles lambda h in
-    let fine : first (truncated-tests c lambda) ≡ 0 =
-    first-none (truncated-tests c lambda) ((15, ltb (length before) (length (sheetBytes c lambda))) ∷ []) (same-refusal n edges triangles lambda before h ∙ none) in
+    let fine : first (truncated-tests c lambda) ≡ 0 = first-none (truncated-tests c lambda) full (same-refusal n edges triangles lambda h room ∙ none) in
     let back = read-written (flat-sheet n edges triangles lambda) (rw is fine) in
     record { answer = rw is at (back .answer); complex = rw is at (back .complex); truncation = rw is at (back .truncation) }

@@ -1,17 +1,17 @@
 -- A sheet's bytes from flat lists.
-use Prim.Native.Nat.{ℕ, _/_, _%_}
+use Prim.Native.Nat.{ℕ, _/_, _%_, _≤_}
 use mathlib.Core.List.{List, [], _∷_, _++_}
 use mathlib.Core.Bool.{Bool, not, _&&_}
 use mathlib.Core.Path.{_≡_}
 use lib.ListN.{length}
 use lib.Dec.{eqb, ltb}
 use Rattle.mathematics.specs.Writing.{front}
-use Rattle.mathematics.specs.Refusals.{first, outcome, written}
-use Rattle.complex.specs.Complex.{Complex, simplices, complexOf}
+use Rattle.mathematics.specs.Refusals.{first}
+use Rattle.mathematics.specs.Calls.{Call}
+use Rattle.complex.specs.Complex.{Complex, simplices, complexOf, uncharged}
 use Rattle.complex.specs.Judge.{counts-right, truncation-test, shape-tests}
 use Rattle.sheet.specs.declared.Reading.the-variants.{Accepted}
-use Rattle.sheet.specs.declared.Written.{Written}
-use Rattle.sheet.specs.Sheet.{readOf, sheetBytes, writtenAnswer}
+use Rattle.sheet.specs.Sheet.{readOf, sheetBytes}
 
 -- the complex of flat pairs and flat triples
 unfoldable pub flatComplex : ℕ → List ℕ → List ℕ → Complex
@@ -20,6 +20,7 @@ flatComplex n edges triangles =
       vertices = n;
       edges = simplices 2 edges (length edges / 2);
       triangles = simplices 3 triangles (length triangles / 3);
+      charges = uncharged;
     }
 
 -- the lines of the table of refusals that the numbers and the lengths decide: 6 is for a length that is no multiple of two, or of three
@@ -30,19 +31,22 @@ size-tests n edges triangles lambda =
     ∷ (6, not (eqb (length edges % 2) 0 && eqb (length triangles % 3) 0))
     ∷ []
 
--- the refusals of making in their order, or 0, for a lent list of a given length
+-- 4 to 6 of the numbers and lengths, 7 to 9 of the complex, then 15 for a list that has too few entries
 abbrev pub making-tests : ℕ → List ℕ → List ℕ → ℕ → ℕ → List (ℕ × Bool)
 making-tests n edges triangles lambda room =
     size-tests n edges triangles lambda
     ++ (shape-tests (flatComplex n edges triangles) ++ ((15, ltb room (length (sheetBytes (flatComplex n edges triangles) lambda))) ∷ []))
 
-unfoldable pub making-refusal : ℕ → List ℕ → List ℕ → ℕ → ℕ → ℕ
-making-refusal n edges triangles lambda room = first (making-tests n edges triangles lambda room)
-
--- what making a sheet answers, and what it leaves in the lent list
-pub record Made (n : ℕ) (edges triangles : List ℕ) (lambda : ℕ) (before : List ℕ) (r : Written) (after : List ℕ) : Type 0 where
-  pub answer : writtenAnswer r ≡ outcome (making-refusal n edges triangles lambda (length before)) (length (sheetBytes (flatComplex n edges triangles) lambda))
-  pub bytes : after ≡ written (making-refusal n edges triangles lambda (length before)) (front (sheetBytes (flatComplex n edges triangles) lambda) before) before
+-- make_sheet: the number of bytes is told, and the list begins with them.
+unfoldable pub making-call : ℕ → List ℕ → List ℕ → ℕ → List ℕ → Call ℕ (List ℕ)
+making-call n edges triangles lambda old =
+    record {
+      tests = making-tests n edges triangles lambda (length old);
+      value = length (sheetBytes (flatComplex n edges triangles) lambda);
+      before = old;
+      after = front (sheetBytes (flatComplex n edges triangles) lambda) old;
+      known = length (sheetBytes (flatComplex n edges triangles) lambda) ≤ 905;
+    }
 
 -- what reading gives of the bytes that are made of flat lists
 pub record MadeBack (n : ℕ) (edges triangles : List ℕ) (lambda : ℕ) (b : List ℕ) : Type 0 where
@@ -53,5 +57,5 @@ pub record MadeBack (n : ℕ) (edges triangles : List ℕ) (lambda : ℕ) (b : L
 -- they are read back as those lists
 abbrev pub MadeThenRead : Type 0
 MadeThenRead =
-    (n : ℕ) (edges triangles : List ℕ) (lambda : ℕ) (before : List ℕ) → making-refusal n edges triangles lambda (length before) ≡ 0
+    (n : ℕ) (edges triangles : List ℕ) (lambda : ℕ) (room : ℕ) → first (making-tests n edges triangles lambda room) ≡ 0
     → MadeBack n edges triangles lambda (sheetBytes (flatComplex n edges triangles) lambda)

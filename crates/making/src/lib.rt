@@ -1,15 +1,18 @@
 // A sheet from flat lists of pairs and triples.
 use acceptance::counts_right;
+use answers::Answer;
 use complex::SimplicialComplex;
+use numbers::sizes::LARGEST_TRUNCATION;
 use sheet::Sheet;
-use sheet::Written;
 use sheet::edges_in;
 use sheet::triangles_in;
 use sheet::write_sheet;
 ghost use mathlib.Core.Path.{_≡_};
 ghost use Rattle.mathematics.specs.Refusals.{first};
+ghost use Rattle.mathematics.specs.Calls.{Answered};
+ghost use Rattle.answers.specs.Answer.{numberAnswer};
 ghost use Rattle.complex.specs.Complex.{complexOf};
-ghost use Rattle.making.specs.Making.{flatComplex, size-tests, Made};
+ghost use Rattle.making.specs.Making.{flatComplex, size-tests, making-call};
 
 // What the numbers and the lengths of flat lists say: the first of 4 to 6 that holds, or 0.
 fn judge_sizes(n_vertices: usize, edges: &[u8], triangles: &[u8], lambda: usize) -> u8
@@ -18,7 +21,7 @@ fn judge_sizes(n_vertices: usize, edges: &[u8], triangles: &[u8], lambda: usize)
     if !counts_right(n_vertices, edges.len() / 2, triangles.len() / 3) {
         return 4;
     }
-    if 1000 < lambda {
+    if LARGEST_TRUNCATION < lambda {
         return 5;
     }
     if !((edges.len() % 2 == 0) & (triangles.len() % 3 == 0)) {
@@ -51,12 +54,12 @@ pub fn make_sheet(
     triangles: &[u8],
     lambda: usize,
     out: &mut [u8],
-) -> Written
-    ensures { λ r. ⌜ Made «n_vertices» (now (edges .entry)) (now (triangles .entry)) lambda (now (out .entry)) r (now (out .exit)) ⌝ }
+) -> Answer
+    ensures { λ r. ⌜ Answered (making-call «n_vertices» (now (edges .entry)) (now (triangles .entry)) lambda (now (out .entry))) (numberAnswer r) (now (out .exit)) ⌝ }
 {
     let number = judge_sizes(n_vertices, edges, triangles, lambda);
     if number != 0 {
-        return Written::Refused(number);
+        return Answer::Refused(number);
     }
     write_sheet(sheet_of(n_vertices, edges, triangles, lambda), out)
 }

@@ -1,2 +1,3 @@
 pub mod Basis
 pub mod Place
+pub mod Flips

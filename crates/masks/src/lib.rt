@@ -1,11 +1,12 @@
 // The even edge sets as masks: the list of all of them, and the place of one in it.
 
+pub mod flip;
 pub mod place;
 
 use acceptance::judge;
+use answers::Answer;
 use complex::SimplicialComplex;
 use even_sets::closing_loops;
-use gauss_law::answer::Enumerated;
 ghost use mathlib.Core.Path.{_≡_};
 ghost use mathlib.Core.List.{_++_, map};
 ghost use Prim.Native.Nat.{_+_, _^_, _≤_};
@@ -13,7 +14,9 @@ ghost use lib.Bits.{bitXor};
 ghost use lib.ListN.{length, take, drop};
 ghost use Rattle.complex.specs.Complex.{complexOf};
 ghost use Rattle.even_sets.specs.Loops.{loop-sums};
-ghost use Rattle.masks.specs.Basis.{Su2Listed};
+ghost use Rattle.mathematics.specs.Calls.{Answered};
+ghost use Rattle.answers.specs.Answer.{numberAnswer};
+ghost use Rattle.masks.specs.Basis.{su2-basis-call};
 
 // The first masks, each with a loop added, go behind them.
 fn double(states: &mut [u64], count: usize, cycle: u64)
@@ -39,23 +42,23 @@ pub fn write_masks(states: &mut [u64], loops: &[u64; 63], n: usize)
 }
 
 // All even edge sets of a record, ascending, go to the beginning of the list. The record is judged first.
-pub fn su2_basis(c: SimplicialComplex, states: &mut [u64]) -> Enumerated
-    ensures { λ r. ⌜ Su2Listed (complexOf c) (now (states .entry)) (now (states .exit)) r ⌝ }
+pub fn su2_basis(c: SimplicialComplex, states: &mut [u64]) -> Answer
+    ensures { λ r. ⌜ Answered (su2-basis-call (complexOf c) (now (states .entry))) (numberAnswer r) (now (states .exit)) ⌝ }
 {
     let number = judge(c);
     if number != 0 {
-        return Enumerated::Refused(number);
+        return Answer::Refused(number);
     }
     let f = closing_loops(c);
     let n = f.count;
     if 20 < n {
-        return Enumerated::Refused(10);
+        return Answer::Refused(10);
     }
     let count = 1 << n;
     if states.len() < count {
-        return Enumerated::Refused(15);
+        return Answer::Refused(15);
     }
     let loops = f.loops;
     write_masks(states, &loops, n);
-    Enumerated::States(count)
+    Answer::Number(count)
 }

@@ -1,6 +1,6 @@
 // The place of a mask in the list of even edge sets, read off its closing edges.
-use complex::numbering::byte;
 use even_sets::Forest;
+use numbers::byte;
 ghost use mathlib.Core.Path.{_≡_};
 ghost use mathlib.Core.Bool.{cond};
 ghost use Prim.Native.Nat.{ℕ, _<_, _≤_};

@@ -1,23 +1,13 @@
--- What is told of a coupling, by the test that decides it; and that every record that is made passes the test of its own mode.
+-- Every coupling that is made passes the test of its own mode.
 use Prim.Native.Nat.{ℕ, zero, suc, _+_, _-_, _*_, _/_, _%_, _^_, compare}
-use mathlib.Core.Bool.{Bool, true, false, not, _&&_, cond, false≢true}
+use mathlib.Core.Bool.{Bool, true, false, cond, false≢true}
 use mathlib.Core.Path.{_≡_, refl}
 use borrow.Author.Tests.{eq-eqb}
 use lib.Dec.{eqb, ltb}
 use lib.IntN.{ℤ, pos, negsuc}
 use lib.Ieee.{Float, nan, inf, fin, binary64, low, emax, prec, unlike, size, nearest, odd, units, round, neg, mul, div, eq, le, lt, ofInt, up, down}
-use Rattle.mathematics.specs.Refusals.{first, value, refused, outcome}
 use Rattle.matrices.specs.declared.coupling.KSParams.{KSParams}
-use Rattle.matrices.specs.Coupling.{float-of, coupling-right, coupling-refusal, couplingOutcome, u1-params, su2-params, params-right, u1-right, su2-right}
-
-module _ (g : Float) (p : KSParams) where
-  pub right-told : coupling-right g ≡ true → value p ≡ couplingOutcome g p
-  unfolding couplingOutcome coupling-refusal first outcome
-  right-told h = rw h
-
-  pub wrong-told : coupling-right g ≡ false → refused 14 ≡ couplingOutcome g p
-  unfolding couplingOutcome coupling-refusal first outcome
-  wrong-told h = rw h
+use Rattle.matrices.specs.Coupling.{float-of, coupling-right, u1-params, su2-params, params-right, u1-right, su2-right}
 
 -- ---- a number is equal to itself
 number : Float → Bool

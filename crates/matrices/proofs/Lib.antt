@@ -3,3 +3,5 @@ pub mod Couplings
 pub mod Weighing
 pub mod Squares
 pub mod Matrices
+pub mod Steps
+pub mod Examples

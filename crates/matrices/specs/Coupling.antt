@@ -1,10 +1,12 @@
 -- The coupling: g² with the electric and the magnetic factor that it gives, in each of the two modes.
+use Prim.{Unit}
 use Prim.Native.Nat.{ℕ, _^_}
-use mathlib.Core.List.{[], _∷_}
+use mathlib.Core.List.{List, [], _∷_}
 use mathlib.Core.Bool.{Bool, not, _&&_}
 use lib.IntN.{pos}
 use lib.Ieee.{Float, binary64, ofInt, neg, mul, div, le, eq}
-use Rattle.mathematics.specs.Refusals.{first, Outcome, value, refused, outcome}
+use Rattle.mathematics.specs.Refusals.{Outcome, value, refused}
+use Rattle.mathematics.specs.Calls.{Call, NoneLent, none-lent}
 use Rattle.matrices.specs.declared.coupling.KSParams.{KSParams}
 use Rattle.matrices.specs.declared.coupling.Coupling.{Coupling}
 use Rattle.matrices.specs.declared.coupling.Coupling.the-variants.{Params, Refused}
@@ -31,12 +33,12 @@ couplingAnswer (Params p) = value p
 couplingAnswer (Refused n) = refused n
 
 -- 14 for a g² out of its range
-unfoldable pub coupling-refusal : Float → ℕ
-coupling-refusal g² = first ((14, not (coupling-right g²)) ∷ [])
+abbrev pub coupling-tests : Float → List (ℕ × Bool)
+coupling-tests g² = (14, not (coupling-right g²)) ∷ []
 
--- the record, or the refusal
-unfoldable pub couplingOutcome : Float → KSParams → Outcome KSParams
-couplingOutcome g² p = outcome (coupling-refusal g²) p
+-- KSParams::u1 and KSParams::su2: the record of g² in the mode is told. They write no list.
+unfoldable pub coupling-call : Float → KSParams → Call KSParams NoneLent
+coupling-call g² own = record { tests = coupling-tests g²; value = own; before = none-lent; after = none-lent; known = Unit {0} }
 
 -- a record whose g² is in its range and whose factors are those of its g²
 unfoldable pub params-right : KSParams → KSParams → Bool

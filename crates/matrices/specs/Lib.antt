@@ -1,4 +1,5 @@
 pub mod Coupling
 pub mod Weights
+pub mod Terms
 pub mod Matrix
 pub mod Squares

@@ -1,7 +1,8 @@
 -- The weights of the triangles: given, or 1 everywhere.
 use Prim.Native.Nat.{ℕ, _^_}
 use mathlib.Core.List.{List, [], _∷_}
-use mathlib.Core.Bool.{Bool, not, _&&_, _||_, cond}
+use mathlib.Core.Bool.{Bool, true, not, _&&_, _||_, cond}
+use mathlib.Core.Path.{_≡_}
 use lib.Dec.{eqb}
 use lib.Ieee.{Float, nan, neg, le}
 use lib.ListN.{getD, length}
@@ -19,3 +20,8 @@ weight given weights t = cond given (getD weights t nan) (float-of 1)
 -- 12 where weights are given and are not one for each of n triangles, 14 where the coupling is not right or a given weight is out of its range
 unfoldable pub weights-tests : ℕ → Bool → Bool → List Float → List (ℕ × Bool)
 weights-tests n coupling-ok given weights = (12, given && not (eqb (length weights) n)) ∷ (14, not coupling-ok || (given && not (every-entry bounded weights))) ∷ []
+
+-- ---- as the code keeps it
+-- weights that were judged: one for each of n triangles where they are given
+pub record Weighed (n : ℕ) (given : Bool) (weights : List Float) : Type 0 where
+  pub one-each : given ≡ true → length weights ≡ n

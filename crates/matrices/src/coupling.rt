@@ -1,6 +1,7 @@
 // The coupling g² and its two factors.
 ghost use mathlib.Core.Path.{_≡_};
-ghost use Rattle.matrices.specs.Coupling.{coupling-right, u1-params, su2-params, couplingAnswer, couplingOutcome, params-right, u1-right, su2-right};
+ghost use Rattle.mathematics.specs.Calls.{Answered, none-lent};
+ghost use Rattle.matrices.specs.Coupling.{coupling-right, u1-params, su2-params, couplingAnswer, coupling-call, params-right, u1-right, su2-right};
 
 pub struct KSParams {
     pub g_squared: f64,
@@ -44,7 +45,7 @@ fn su2_params(g_squared: f64) -> KSParams
 
 // A record after the range check.
 fn checked(g_squared: f64, params: KSParams) -> Coupling
-    ensures { λ r. ⌜ couplingAnswer r ≡ couplingOutcome «g_squared» params ⌝ }
+    ensures { λ r. ⌜ Answered (coupling-call «g_squared» params) (couplingAnswer r) none-lent ⌝ }
 {
     if in_range(g_squared) {
         return Coupling::Params(params);
@@ -61,13 +62,13 @@ fn same_factors(p: KSParams, own: KSParams) -> bool
 
 impl KSParams {
     pub fn u1(g_squared: f64) -> Coupling
-        ensures { λ r. ⌜ couplingAnswer r ≡ couplingOutcome «g_squared» (u1-params «g_squared») ⌝ }
+        ensures { λ r. ⌜ Answered (coupling-call «g_squared» (u1-params «g_squared»)) (couplingAnswer r) none-lent ⌝ }
     {
         checked(g_squared, u1_params(g_squared))
     }
 
     pub fn su2(g_squared: f64) -> Coupling
-        ensures { λ r. ⌜ couplingAnswer r ≡ couplingOutcome «g_squared» (su2-params «g_squared») ⌝ }
+        ensures { λ r. ⌜ Answered (coupling-call «g_squared» (su2-params «g_squared»)) (couplingAnswer r) none-lent ⌝ }
     {
         checked(g_squared, su2_params(g_squared))
     }

@@ -1,6 +1,7 @@
-// The electric term: a factor times a whole number of each state, for U(1) the sum of its squares.
+// The electric term: a factor times a whole number of each state, for U(1) the sum of its squares, for Z2 the number of its edges.
 ghost use mathlib.Core.Path.{_≡_};
 ghost use Prim.Native.Nat.{ℕ, _*_, _^_, _<_, _≤_};
+ghost use lib.Count.{ones};
 ghost use lib.IntN.{pos, natAbs};
 ghost use lib.ListN.{getD, length};
 ghost use Rattle.matrices.specs.Squares.{squares, energy};
@@ -30,4 +31,11 @@ pub fn energy(factor: f64, count: usize) -> f64
     ensures { λ r. ⌜ r ≡ energy factor count ⌝ }
 {
     factor * (count as f64)
+}
+
+// A factor times the number of edges in a mask.
+pub fn mask_energy(factor: f64, mask: u64) -> f64
+    ensures { λ r. ⌜ r ≡ energy factor (ones mask) ⌝ }
+{
+    energy(factor, u64::count_ones(mask) as usize)
 }

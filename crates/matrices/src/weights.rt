@@ -14,7 +14,7 @@ fn bounded(x: f64) -> bool
     (-4294967296.0 <= x) & (x <= 4294967296.0)
 }
 
-fn all_bounded(list: &[f64]) -> bool
+pub fn all_bounded(list: &[f64]) -> bool
     ensures { λ r. ⌜ r ≡ every-entry bounded (now (list .entry)) ⌝ }
 {
     let mut so_far = true;

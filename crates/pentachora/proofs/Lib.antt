@@ -4,5 +4,5 @@ pub mod Appearing
 pub mod FaceKeys
 pub mod Writing
 pub mod Refusing
-pub mod Answering
 pub mod Making
+pub mod Answering

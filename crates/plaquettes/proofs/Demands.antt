@@ -1,40 +1,35 @@
 -- Demand 3 holds.
-use Prim.Native.Nat.{ℕ, zero, suc, _+_, _*_, _^_, _≤_, _<_}
+use Prim.Native.Nat.{ℕ, zero, suc, _*_, _≤_, _<_}
 use mathlib.Core.List.{List, [], _∷_}
-use mathlib.Core.Bool.{Bool, true, false, not, _&&_, _||_, cond, false≢true}
+use mathlib.Core.Bool.{Bool, true, false, not, _&&_, _||_, false≢true}
 use mathlib.Core.Path.{_≡_, refl, sym, ap, _∙_}
 use native.Mathlib.Omega.{arith}
-use borrow.Author.Tests.{le-ltb, lt-leb, leb-false}
+use borrow.Author.Tests.{lt-leb, leb-false}
 use lib.Dec.{leb}
 use lib.IntN.{ℤ, pos}
 use lib.ListN.{getD, length}
 use Rattle.mathematics.specs.Tests.{every-entry}
-use Rattle.mathematics.specs.Refusals.{first, Outcome, value, refused, outcome, written}
-use Rattle.mathematics.proofs.Refusals.{first-goes-on, numbered}
+use Rattle.mathematics.specs.Refusals.{first, Outcome, value, refused, outcome}
+use Rattle.mathematics.specs.Calls.{Answered}
+use Rattle.mathematics.proofs.Refusals.{numbered}
+use Rattle.mathematics.proofs.Calls.{Tells, none as last, here, past, past-all}
+use Rattle.answers.specs.declared.Answer.{Answer}
+use Rattle.answers.specs.Answer.{numberAnswer}
 use Rattle.complex.specs.declared.SimplicialComplex.{SimplicialComplex}
 use Rattle.complex.specs.Complex.{Complex, complexOf}
-use Rattle.complex.specs.Judge.{Accepted, refusal, truncated-tests}
+use Rattle.complex.specs.Judge.{Accepted}
 use Rattle.complex.specs.Sides.{sides, side}
-use Rattle.complex.proofs.Judging.{with-truncation}
-use Rattle.complex.proofs.Accepting.{accepted}
 use Rattle.complex.proofs.TriangleEdges.{triangle-sides}
-use Rattle.gauss_law.specs.Listing.{free-edges, states}
+use Rattle.gauss_law.specs.Listing.{states}
 use Rattle.gauss_law.proofs.Accepted.{listing-complete}
-use Rattle.gauss_law.proofs.Shifts.{triangle-shifted}
-use Rattle.enumeration.specs.Enumeration.{limit-test, basis-tests, short, basis-first, enumerated-refusal}
-use Rattle.enumeration.proofs.Enumerating.{basis-goes-on}
+use Rattle.gauss_law.proofs.Shifts.{triangle-moved}
+use Rattle.enumeration.specs.Enumeration.{basis-tests}
+use Rattle.enumeration.proofs.Demanded.{not-short, basis-none, demanded}
 use Rattle.hilbert.specs.Basis.{place}
-use Rattle.gauss_law.specs.Gauss.{within, uncharged}
-use Rattle.plaquettes.specs.Triangle.{triangleAnswer, shifted-state, sides-within, triangle-refusal, triangleOutcome, TriangleShiftTold}
-use Rattle.plaquettes.specs.Demand.{OutOfBand, ListingTold, ShiftAnswered, Demand3}
+use Rattle.gauss_law.specs.Gauss.{within}
+use Rattle.plaquettes.specs.Triangle.{moved-state, shifted-state, sides-within, triangle-tests, triangle-call}
+use Rattle.plaquettes.specs.Demand.{OutOfBand, ShiftAnswered, ShiftDemand, Demand3}
 use Rattle.plaquettes.proofs.TriangleTelling.{state-there}
-
--- ---- nothing is refused
-basis-none : (c : SimplicialComplex) (L : ℕ) → refusal (complexOf c) ≡ 0 → L ≤ 1000 → (2 * L + 1) ^ length (free-edges (complexOf c)) ≤ 1048576 → first (basis-tests (complexOf c) L) ≡ 0
-unfolding first numbered every-entry
-basis-none c L h few within =
-    let none : first (truncated-tests (complexOf c) L) ≡ 0 = with-truncation c L ∙ rw (h, le-ltb 1000 L few) in
-    first-goes-on (truncated-tests (complexOf c) L) (limit-test (complexOf c) L ∷ []) refl none ∙ rw (le-ltb 1048576 ((2 * L + 1) ^ length (free-edges (complexOf c))) within)
 
 -- a value is no refusal
 is-value : Outcome ℕ → ℕ
@@ -85,58 +80,51 @@ module _ (c : Complex) (right : Accepted c) (L t : ℕ) (number : t < length (c 
 
 -- ---- both halves
 module _ (c : Complex) (right : Accepted c) (L : ℕ) (none : first (basis-tests c L) ≡ 0) where
-  enough : (room : ℕ) → length (states c L) * length (c .edges) ≤ room → short c L room ≡ false
-  unfolding short
-  enough room h = le-ltb room (length (states c L) * length (c .edges)) h
-
-  all-listed : ListingTold c L (states c L)
-  unfolding enumerated-refusal basis-first first outcome written
-  all-listed old new r h long =
-      let nothing : enumerated-refusal c L (length old) ≡ 0 = basis-goes-on c L ((15, short c L (length old)) ∷ []) none ∙ rw (enough (length old) long) in
-      (rw nothing at (h .answer), rw nothing at (h .list))
-
   module _ (t k : ℕ) (number : t < length (c .triangles)) (state : k < length (states c L)) where
-    decided : (room : ℕ) → length (states c L) * length (c .edges) ≤ room → triangle-refusal c L t k room ≡ cond (not (sides-within c L t (shifted-state c L t k))) 16 0
-    unfolding triangle-refusal first
-    decided room long =
-        basis-goes-on c L
-        ((13, leb (length (c .triangles)) t || leb (length (states c L)) k) ∷ (15, short c L room) ∷ (16, not (sides-within c L t (shifted-state c L t k))) ∷ []) none
-        ∙ rw (lt-leb (length (c .triangles)) t number, lt-leb (length (states c L)) k state, enough room long)
+    decided : (room : ℕ) → length (states c L) * length (c .edges) ≤ room → {n : ℕ} → Tells ((16, not (sides-within c L t (shifted-state c L t k))) ∷ []) n → first (triangle-tests c L t k room) ≡ n
+    unfolding numbered every-entry
+    decided room long end =
+        let numbers : (leb (length (c .triangles)) t || leb (length (states c L)) k) ≡ false = rw (lt-leb (length (c .triangles)) t number, lt-leb (length (states c L)) k state) in
+        past-all (basis-tests c L) refl none (past numbers (past (not-short c L room long) end)) .number
 
-    shift-told : (old new : List ℤ) (r : _) → TriangleShiftTold c L t k old new r → length (states c L) * length (c .edges) ≤ length old → ShiftAnswered c L (states c L) t k r
-    unfolding outcome shifted-state triangleOutcome
+    shift-told : (old new : List ℤ) (r : Answer) → Answered (triangle-call c L t k old) (numberAnswer r) new → length (states c L) * length (c .edges) ≤ length old → ShiftAnswered c L (states c L) t k r
+    unfolding outcome moved-state triangle-call
     shift-told old new r h long =
         record {
           sides = triangle-sides c right t number;
           after = shifted-state c L t k;
-          shifted = triangle-shifted c right t number (getD (states c L) k []) (state-there c right L k state .sized);
-          refused-only = λ e. leaves c right L t number (shifted-state c L t k) (only (sides-within c L t (shifted-state c L t k)) (sym (by-band) ∙ e));
-          refused-then = λ out. by-band ∙ rw (left c right L t number (shifted-state c L t k) out);
+          shifted = triangle-moved c right t number (pos 1) (getD (states c L) k []) (state-there c right L k state .sized);
+          refused-only = λ e. leaves c right L t number (shifted-state c L t k) (only (sides-within c L t (shifted-state c L t k)) refl e);
+          refused-then = λ out. by-band (here (rw (left c right L t number (shifted-state c L t k) out)));
           placed = λ stay. at-place (sides-within c L t (shifted-state c L t k)) refl (λ e. stay (leaves c right L t number (shifted-state c L t k) e));
         }
       where
-        by-band : triangleAnswer r ≡ outcome (cond (not (sides-within c L t (shifted-state c L t k))) 16 0) (place c L (shifted-state c L t k))
-        by-band = h .answer ∙ ap (λ n. outcome n (place c L (shifted-state c L t k))) (decided (length old) long)
+        by-band : {n : ℕ} → Tells ((16, not (sides-within c L t (shifted-state c L t k))) ∷ []) n → numberAnswer r ≡ outcome n (place c L (shifted-state c L t k))
+        by-band end = h .answer ∙ ap (λ n. outcome n (place c L (shifted-state c L t k))) (decided (length old) long end)
 
-        only : (b : Bool) → outcome (cond (not b) 16 0) (place c L (shifted-state c L t k)) ≡ refused 16 → b ≡ false
-        only true e = absurd (value-refused e)
-        only false e = refl
+        only : (b : Bool) → sides-within c L t (shifted-state c L t k) ≡ b → numberAnswer r ≡ refused 16 → b ≡ false
+        only true band e = absurd (value-refused (sym (by-band (past (rw band) last)) ∙ e))
+        only false band e = refl
 
-        at-place : (b : Bool) → sides-within c L t (shifted-state c L t k) ≡ b → (b ≡ false → ⊥) → (p : ℕ) × (triangleAnswer r ≡ value p) × (p < length (states c L)) × (getD (states c L) p [] ≡ shifted-state c L t k)
-        at-place true e f =
-            let nothing : triangle-refusal c L t k (length old) ≡ 0 = decided (length old) long ∙ rw e in
-            let there = h .found nothing in
-            (place c L (shifted-state c L t k), by-band ∙ rw e, there .below, there .state)
-        at-place false e f = absurd (f refl)
+        at-place : (b : Bool) → sides-within c L t (shifted-state c L t k) ≡ b → (b ≡ false → ⊥) → (p : ℕ) × (numberAnswer r ≡ value p) × (p < length (states c L)) × (getD (states c L) p [] ≡ shifted-state c L t k)
+        at-place true band f =
+            let end : Tells ((16, not (sides-within c L t (shifted-state c L t k))) ∷ []) 0 = past (rw band) last in
+            let there = h .known (decided (length old) long end) .found in
+            (place c L (shifted-state c L t k), by-band end, there .below, there .state)
+        at-place false band f = absurd (f refl)
+
+pub shift-demanded : (c : SimplicialComplex) (L t k : ℕ) (old new : List ℤ) (r : Answer) → Answered (triangle-call (complexOf c) L t k old) (numberAnswer r) new
+    → Answered (triangle-call (complexOf c) L t k old) (numberAnswer r) new × ShiftDemand (complexOf c) L t k old r
+unfolding complexOf
+shift-demanded c L t k old new r h =
+    (h, record { zero = λ v. refl; answered = λ can number state long. shift-told (complexOf c) (can .accepted) L (basis-none c L can) t k number state old new r h long })
 
 pub demand-3 : Demand3
-unfolding states
-demand-3 r L right few within =
-    let c = complexOf r in
-    let none = basis-none r L (accepted r .1 right) few within in
+unfolding states complexOf
+demand-3 c L can =
     record {
-      list = states c L;
-      complete = listing-complete c right uncharged L;
-      lists = all-listed c right L none;
-      shifts = λ t k number state. shift-told c right L none t k number state;
+      zero = λ v. refl;
+      complete = listing-complete (complexOf c) (can .accepted) (complexOf c .charges) L;
+      lists = λ old new r h. demanded c L old new r h .1;
+      shifts = λ t k old new r h. shift-demanded c L t k old new r h .1;
     }

@@ -2,5 +2,10 @@ pub mod TriangleRows
 pub mod TriangleTelling
 pub mod Demands
 pub mod Rising
+pub mod Moves
 pub mod Targets
 pub mod Hits
+pub mod Listed
+pub mod Runs
+pub mod Joined
+pub mod Examples

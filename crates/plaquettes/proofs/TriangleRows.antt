@@ -6,20 +6,20 @@ use mathlib.Core.Path.{_≡_, sym, ap, _∙_}
 use native.Mathlib.Omega.{arith}
 use native.Mathlib.Decide.{ℕ-discrete}
 use borrow.Author.Tests.{leb-true}
-use lib.IntN.{ℤ, pos, negsuc, natAbs, _+ℤ_}
+use lib.IntN.{ℤ, pos, natAbs, negℤ, _+ℤ_}
 use lib.ListN.{getD, length, take}
 use lib.Seq.{take-set-lt, getD-take}
 use Rattle.mathematics.specs.Tests.{every-entry}
 use Rattle.mathematics.proofs.Tests.{and-parts, and-true}
-use Rattle.mathematics.proofs.Signed.{size-sum}
+use Rattle.mathematics.proofs.Signed.{size-neg, size-sum}
 use Rattle.triangles.specs.declared.Sides.{Sides}
 use Rattle.complex.specs.Complex.{Complex}
 use Rattle.complex.specs.Judge.{Accepted}
 use Rattle.complex.specs.Sides.{sides, side}
 use Rattle.complex.proofs.TriangleEdges.{triangle-sides}
-use Rattle.gauss_law.specs.Gauss.{State, within, uncharged}
-use Rattle.gauss_law.specs.Shifts.{raised, shifted, triangle-shift}
-use Rattle.gauss_law.proofs.Shifts.{shifted-length, shifted-at, shifted-elsewhere, triangle-long, triangle-lawful, triangle-shifted}
+use Rattle.gauss_law.specs.Gauss.{State, within}
+use Rattle.gauss_law.specs.Shifts.{raised, shifted, triangle-move}
+use Rattle.gauss_law.proofs.Shifts.{shifted-length, shifted-at, shifted-elsewhere, triangle-long, triangle-lawful, triangle-moved}
 use Rattle.hilbert.specs.Basis.{in-basis}
 use Rattle.hilbert.proofs.Order.{state-in-basis}
 use Rattle.triangles.proofs.SidesFound.{sides-below}
@@ -41,44 +41,48 @@ module _ (row : List ℤ) (e : ℕ) (d : ℤ) where
       go (no q) = rw (shifted-elsewhere row e d i q) (omega arith)
 
 -- ---- the three edges of a row, one after the other
-module _ (row : List ℤ) (s : Sides) (ready : Shiftable row s) where
+module _ (row : List ℤ) (s : Sides) (ready : Shiftable row s) (u : ℤ) where
   abbrev first-row : List ℤ
-  first-row = shifted row (s .first) (pos 1)
+  first-row = shifted row (s .first) u
 
   abbrev second-row : List ℤ
-  second-row = shifted first-row (s .second) (negsuc 0)
+  second-row = shifted first-row (s .second) (negℤ u)
 
   first-long : length first-row ≡ 63
-  first-long = shifted-length row (s .first) (pos 1) ∙ ready .long
+  first-long = shifted-length row (s .first) u ∙ ready .long
 
   second-long : length second-row ≡ 63
-  second-long = shifted-length first-row (s .second) (negsuc 0) ∙ first-long
+  second-long = shifted-length first-row (s .second) (negℤ u) ∙ first-long
 
-  first-size : (i : ℕ) → natAbs (getD first-row i (pos 0)) ≤ natAbs (getD row i (pos 0)) + 1
-  first-size i = shifted-size row (s .first) (pos 1) i (omega (arith, ready .long, ready .first-below))
+  pub moved-row-long : length (shifted second-row (s .third) u) ≡ 63
+  moved-row-long = shifted-length second-row (s .third) u ∙ second-long
 
-  second-size : (i : ℕ) → natAbs (getD second-row i (pos 0)) ≤ natAbs (getD row i (pos 0)) + 2
-  second-size i = omega (arith, shifted-size first-row (s .second) (negsuc 0) i (omega (arith, first-long, ready .second-below)), first-size i)
+  module _ (small : natAbs u ≤ 1) where
+    first-size : (i : ℕ) → natAbs (getD first-row i (pos 0)) ≤ natAbs (getD row i (pos 0)) + 1
+    first-size i = omega (arith, shifted-size row (s .first) u i (omega (arith, ready .long, ready .first-below)))
 
-  pub first-ready : (length row ≡ 63) × (s .first < 63) × (natAbs (getD row (s .first) (pos 0) +ℤ pos 1) ≤ 2 ^ 20)
-  first-ready = (ready .long, ready .first-below, omega (arith, size-sum (getD row (s .first) (pos 0)) (pos 1), ready .first-small))
+    second-size : (i : ℕ) → natAbs (getD second-row i (pos 0)) ≤ natAbs (getD row i (pos 0)) + 2
+    second-size i = omega (arith, shifted-size first-row (s .second) (negℤ u) i (omega (arith, first-long, ready .second-below)), size-neg u, first-size i)
 
-  pub second-ready : (length first-row ≡ 63) × (s .second < 63) × (natAbs (getD first-row (s .second) (pos 0) +ℤ negsuc 0) ≤ 2 ^ 20)
-  second-ready = (
-    first-long,
-    ready .second-below,
-    omega (arith, size-sum (getD first-row (s .second) (pos 0)) (negsuc 0), first-size (s .second), ready .second-small),
-  )
+    pub first-ready : (length row ≡ 63) × (s .first < 63) × (natAbs (getD row (s .first) (pos 0) +ℤ u) ≤ 2 ^ 20)
+    first-ready = (ready .long, ready .first-below, omega (arith, size-sum (getD row (s .first) (pos 0)) u, ready .first-small))
 
-  pub third-ready : (length second-row ≡ 63) × (s .third < 63) × (natAbs (getD second-row (s .third) (pos 0) +ℤ pos 1) ≤ 2 ^ 20)
-  third-ready = (
-    second-long,
-    ready .third-below,
-    omega (arith, size-sum (getD second-row (s .third) (pos 0)) (pos 1), second-size (s .third), ready .third-small),
-  )
+    pub second-ready : (length first-row ≡ 63) × (s .second < 63) × (natAbs (getD first-row (s .second) (pos 0) +ℤ negℤ u) ≤ 2 ^ 20)
+    second-ready = (
+      first-long,
+      ready .second-below,
+      omega (arith, size-sum (getD first-row (s .second) (pos 0)) (negℤ u), size-neg u, first-size (s .second), ready .second-small),
+    )
 
-  pub shifted-row-long : length (shifted second-row (s .third) (pos 1)) ≡ 63
-  shifted-row-long = shifted-length second-row (s .third) (pos 1) ∙ second-long
+    pub third-ready : (length second-row ≡ 63) × (s .third < 63) × (natAbs (getD second-row (s .third) (pos 0) +ℤ u) ≤ 2 ^ 20)
+    third-ready = (
+      second-long,
+      ready .third-below,
+      omega (arith, size-sum (getD second-row (s .third) (pos 0)) u, second-size (s .third), ready .third-small),
+    )
+
+pub one-small : natAbs (pos 1) ≤ 1
+one-small = omega arith
 
 -- ---- a state in a row
 module _ (c : Complex) (t : ℕ) (s : Sides) (is : sides c t ≡ s .first ∷ s .second ∷ s .third ∷ []) where
@@ -94,15 +98,15 @@ module _ (c : Complex) (t : ℕ) (s : Sides) (is : sides c t ≡ s .first ∷ s 
   unfolding side
   third-side = rw is
 
-  -- the front of the shifted row is the shifted state
-  pub front-shifted : (row state : List ℤ) (m : ℕ) → s .first < m → s .second < m → s .third < m → take m row ≡ state
-      → take m (shifted (shifted (shifted row (s .first) (pos 1)) (s .second) (negsuc 0)) (s .third) (pos 1)) ≡ triangle-shift c t state
-  unfolding triangle-shift
-  front-shifted row state m i j k h =
+  -- the front of the moved row is the moved state
+  pub front-moved : (u : ℤ) (row state : List ℤ) (m : ℕ) → s .first < m → s .second < m → s .third < m → take m row ≡ state
+      → take m (shifted (shifted (shifted row (s .first) u) (s .second) (negℤ u)) (s .third) u) ≡ triangle-move c t u state
+  unfolding triangle-move
+  front-moved u row state m i j k h =
       rw (first-side, second-side, third-side, ← h)
-      (take-shifted (shifted (shifted row (s .first) (pos 1)) (s .second) (negsuc 0)) (s .third) (pos 1) m k
-      ∙ ap (λ l. shifted l (s .third) (pos 1)) (take-shifted (shifted row (s .first) (pos 1)) (s .second) (negsuc 0) m j
-      ∙ ap (λ l. shifted l (s .second) (negsuc 0)) (take-shifted row (s .first) (pos 1) m i)))
+      (take-shifted (shifted (shifted row (s .first) u) (s .second) (negℤ u)) (s .third) u m k
+      ∙ ap (λ l. shifted l (s .third) u) (take-shifted (shifted row (s .first) u) (s .second) (negℤ u) m j
+      ∙ ap (λ l. shifted l (s .second) (negℤ u)) (take-shifted row (s .first) u m i)))
 
   -- the test of three values of a row is that of the state in it
   pub three-told : (L : ℕ) (row state : List ℤ) (m : ℕ) → s .first < m → s .second < m → s .third < m → take m row ≡ state
@@ -120,7 +124,7 @@ module _ (c : Complex) (t : ℕ) (s : Sides) (is : sides c t ≡ s .first ∷ s 
 
 -- a row whose front is a state
 pub row-shiftable : (c : Complex) → Accepted c → (L t : ℕ) → L ≤ 1000 → t < length (c .triangles) → (s : Sides) → sides c t ≡ s .first ∷ s .second ∷ s .third ∷ []
-    → (row state : List ℤ) → length row ≡ 63 → take (length (c .edges)) row ≡ state → State c uncharged L state → Shiftable row s
+    → (row state : List ℤ) → length row ≡ 63 → take (length (c .edges)) row ≡ state → State c (c .charges) L state → Shiftable row s
 row-shiftable c accepted L t truncation number s is row state long front here =
     let below = sides-below c t s is accepted number in
     let few = accepted .few-edges in
@@ -140,11 +144,11 @@ row-shiftable c accepted L t truncation number s is row state long front here =
         let w : natAbs (getD row e (pos 0)) ≤ L = rw (← v) (here .within e h) in
         omega arith
 
--- ---- a shifted state is a state where its three edges stay within -L to L
-module _ (c : Complex) (accepted : Accepted c) (L t : ℕ) (number : t < length (c .triangles)) (s : List ℤ) (state : State c uncharged L s) where
+-- ---- a moved state is a state where its three edges stay within -L to L
+module _ (c : Complex) (accepted : Accepted c) (L t : ℕ) (number : t < length (c .triangles)) (u : ℤ) (s : List ℤ) (state : State c (c .charges) L s) where
   -- an edge of the triangle, by its number
-  side-within : sides-within c L t (triangle-shift c t s) ≡ true
-      → (natAbs (getD (triangle-shift c t s) (side c t 0) (pos 0)) ≤ L) × (natAbs (getD (triangle-shift c t s) (side c t 1) (pos 0)) ≤ L) × (natAbs (getD (triangle-shift c t s) (side c t 2) (pos 0)) ≤ L)
+  side-within : sides-within c L t (triangle-move c t u s) ≡ true
+      → (natAbs (getD (triangle-move c t u s) (side c t 0) (pos 0)) ≤ L) × (natAbs (getD (triangle-move c t u s) (side c t 1) (pos 0)) ≤ L) × (natAbs (getD (triangle-move c t u s) (side c t 2) (pos 0)) ≤ L)
   unfolding sides-within every-entry within side
   side-within h =
       let three = triangle-sides c accepted t number in
@@ -153,17 +157,17 @@ module _ (c : Complex) (accepted : Accepted c) (L t : ℕ) (number : t < length 
       let q = and-parts _ _ (r .1) in
       rw (three .numbers) (leb-true _ _ (r .0), leb-true _ _ (q .0), leb-true _ _ (and-parts _ _ (q .1) .0))
 
-  pub shifted-state-in-basis : sides-within c L t (triangle-shift c t s) ≡ true → in-basis c L (triangle-shift c t s) ≡ true
-  shifted-state-in-basis h =
-      state-in-basis c L (triangle-shift c t s)
+  pub moved-in-basis : sides-within c L t (triangle-move c t u s) ≡ true → in-basis c L (triangle-move c t u s) ≡ true
+  moved-in-basis h =
+      state-in-basis c L (triangle-move c t u s)
       (record {
-        sized = triangle-long c t s ∙ state .sized;
+        sized = triangle-long c t u s ∙ state .sized;
         within = λ e k. each e k (ℕ-discrete e (side c t 0)) (ℕ-discrete e (side c t 1)) (ℕ-discrete e (side c t 2));
-        law = triangle-lawful c accepted t number s (state .sized) uncharged (state .law);
+        law = triangle-lawful c accepted t number u s (state .sized) (c .charges) (state .law);
       })
     where
-      each : (e : ℕ) → e < length (c .edges) → Dec (e ≡ side c t 0) → Dec (e ≡ side c t 1) → Dec (e ≡ side c t 2) → natAbs (getD (triangle-shift c t s) e (pos 0)) ≤ L
+      each : (e : ℕ) → e < length (c .edges) → Dec (e ≡ side c t 0) → Dec (e ≡ side c t 1) → Dec (e ≡ side c t 2) → natAbs (getD (triangle-move c t u s) e (pos 0)) ≤ L
       each e k (yes p) q r = rw p (side-within h .0)
       each e k (no p) (yes q) r = rw q (side-within h .1)
       each e k (no p) (no q) (yes r) = rw r (side-within h .2)
-      each e k (no p) (no q) (no r) = rw (triangle-shifted c accepted t number s (state .sized) .others e p q r) (state .within e k)
+      each e k (no p) (no q) (no r) = rw (triangle-moved c accepted t number u s (state .sized) .others e p q r) (state .within e k)

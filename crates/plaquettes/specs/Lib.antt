@@ -1,3 +1,5 @@
 pub mod Triangle
+pub mod Joined
 pub mod Demand
 pub mod Targets
+pub mod Rows

@@ -1,19 +1,17 @@
 -- What the code keeps while it seeks where a triangle takes the states: one walk over them finds all targets, since they rise.
 use Prim.Native.Nat.{ℕ, _<_, _≤_}
-use mathlib.Core.List.{List, [], _∷_, _++_, flatten}
-use mathlib.Core.Bool.{cond}
+use mathlib.Core.List.{List, _++_, flatten}
 use mathlib.Core.Path.{_≡_}
-use lib.IntN.{ℤ}
+use lib.IntN.{ℤ, pos}
 use lib.ListN.{getD, length}
 use Rattle.triangles.specs.declared.Sides.{Sides}
+use Rattle.triangles.specs.Indices.{SidesOf}
 use Rattle.complex.specs.Complex.{Complex}
 use Rattle.complex.specs.Judge.{Accepted}
-use Rattle.complex.specs.Sides.{sides}
 use Rattle.gauss_law.specs.Listing.{free-edges, states}
 use Rattle.walker.specs.Steps.{FreeFit}
-use Rattle.hilbert.specs.Basis.{place}
 use Rattle.plaquettes.specs.declared.target.Sizes.{Sizes}
-use Rattle.plaquettes.specs.Triangle.{shifted-state, sides-within}
+use Rattle.plaquettes.specs.Triangle.{target}
 
 -- a list that begins with the basis, its sizes, and the free edges, which order it
 pub record BasisList (c : Complex) (list : List ℤ) (s : Sizes) (free : List ℕ) : Type 0 where
@@ -29,11 +27,6 @@ pub record BasisList (c : Complex) (list : List ℤ) (s : Sizes) (free : List �
   pub free-fit : FreeFit (s .edges) (s .free) free
   pub free-listed : (j : ℕ) → j < s .free → getD free j 0 ≡ getD (free-edges c) j 0
 
--- the three edges of triangle t
-pub record SidesOf (c : Complex) (t : ℕ) (s : Sides) : Type 0 where
-  pub number : t < length (c .triangles)
-  pub are : sides c t ≡ s .first ∷ s .second ∷ s .third ∷ []
-
 -- a list that begins with some basis, and the three edges of a triangle of its complex
 pub record Ready (list : List ℤ) (s : Sizes) (free : List ℕ) (three : Sides) : Type 0 where
   pub complex : Complex
@@ -41,10 +34,6 @@ pub record Ready (list : List ℤ) (s : Sizes) (free : List ℕ) (three : Sides)
   pub triangle : ℕ
   pub of : SidesOf complex triangle three
 
--- where triangle t takes state i: the number of states where it leaves the band
-unfoldable pub target : Complex → ℕ → ℕ → ℕ → ℕ
-target c L t i = cond (sides-within c L t (shifted-state c L t i)) (place c L (shifted-state c L t i)) (length (states c L))
-
--- r is that target, where it is not before a place
+-- r is where the shift of triangle t takes state i, where that is not before a place
 abbrev pub Targeted : Complex → ℕ → ℕ → ℕ → ℕ → ℕ → Type 0
-Targeted c L t i from r = from ≤ target c L t i → r ≡ target c L t i
+Targeted c L t i from r = from ≤ target c L t (pos 1) i → r ≡ target c L t (pos 1) i

@@ -1,40 +1,41 @@
 -- The shift of a triangle on the states, what apply_triangle_shift tells, and what its list then holds.
 use Prim.Native.Nat.{ℕ, _<_, _≤_}
 use mathlib.Core.List.{List, [], _∷_, _++_}
-use mathlib.Core.Bool.{Bool, not, _&&_, _||_}
+use mathlib.Core.Bool.{Bool, not, _&&_, _||_, cond}
 use mathlib.Core.Path.{_≡_}
-use lib.Dec.{eqb, leb}
+use lib.Dec.{eqb, leb, ltb}
 use lib.IntN.{ℤ, pos, natAbs}
 use lib.ListN.{getD, length}
 use Rattle.mathematics.specs.Tests.{every-entry}
-use Rattle.mathematics.specs.Refusals.{first, Outcome, value, refused, outcome, written}
+use Rattle.mathematics.specs.Calls.{Call}
 use Rattle.triangles.specs.declared.Sides.{Sides}
 use Rattle.complex.specs.Complex.{Complex}
 use Rattle.complex.specs.Sides.{sides}
-use Rattle.gauss_law.specs.Shifts.{triangle-shift}
+use Rattle.gauss_law.specs.Shifts.{triangle-move}
 use Rattle.enumeration.specs.Enumeration.{basis-tests, short, basis-first}
-use Rattle.gauss_law.specs.Listing.{states, limit}
-use Rattle.hilbert.specs.Basis.{place, At}
+use Rattle.gauss_law.specs.Listing.{states}
+use Rattle.hilbert.specs.Basis.{place, PlaceKnown}
 use Rattle.gauss_law.specs.Gauss.{within}
-use Rattle.plaquettes.specs.declared.triangle.TriangleShift.{TriangleShift}
-use Rattle.plaquettes.specs.declared.triangle.TriangleShift.the-variants.{Place, Refused}
 
--- what an answer says
-unfoldable pub triangleAnswer : TriangleShift → Outcome ℕ
-triangleAnswer (Place p) = value p
-triangleAnswer (Refused n) = refused n
+-- the state at a place after the move of triangle t by u
+unfoldable pub moved-state : Complex → ℕ → ℕ → ℤ → ℕ → List ℤ
+moved-state c L t u k = triangle-move c t u (getD (states c L) k [])
 
--- the state at a place after the shift of triangle t
-unfoldable pub shifted-state : Complex → ℕ → ℕ → ℕ → List ℤ
-shifted-state c L t k = triangle-shift c t (getD (states c L) k [])
+-- and after its shift, the move by 1
+abbrev pub shifted-state : Complex → ℕ → ℕ → ℕ → List ℤ
+shifted-state c L t k = moved-state c L t (pos 1) k
 
 -- the values on the three edges of triangle t are within -L to L
 unfoldable pub sides-within : Complex → ℕ → ℕ → List ℤ → Bool
 sides-within c L t s = every-entry (λ e. within L (getD s e (pos 0))) (sides c t)
 
--- the shift of triangle t takes state i to state j
+-- where the move of triangle t by u takes state i: the number of states where one of the three edges leaves -L to L
+unfoldable pub target : Complex → ℕ → ℕ → ℤ → ℕ → ℕ
+target c L t u i = cond (sides-within c L t (moved-state c L t u i)) (place c L (moved-state c L t u i)) (length (states c L))
+
+-- the shift of triangle t takes state i to state j: its target is listed, and j
 unfoldable pub hits : Complex → ℕ → ℕ → ℕ → ℕ → Bool
-hits c L t i j = sides-within c L t (shifted-state c L t i) && eqb (place c L (shifted-state c L t i)) j
+hits c L t i j = ltb j (length (states c L)) && eqb (target c L t (pos 1) i) j
 
 -- 4, 5, 7 to 10, then 13 for a number that is no triangle's or no state's, 15 for a list that has too few entries for the basis, and 16
 -- where one of the triangle's edges leaves -L to L
@@ -46,20 +47,16 @@ triangle-tests c L t k room =
     ∷ (16, not (sides-within c L t (shifted-state c L t k)))
     ∷ [])
 
-unfoldable pub triangle-refusal : Complex → ℕ → ℕ → ℕ → ℕ → ℕ
-triangle-refusal c L t k room = first (triangle-tests c L t k room)
-
--- the place of the shifted state, or the refusal
-unfoldable pub triangleOutcome : Complex → ℕ → ℕ → ℕ → ℕ → Outcome ℕ
-triangleOutcome c L t k room = outcome (triangle-refusal c L t k room) (place c L (shifted-state c L t k))
-
--- That is told, and the list begins with the basis. What follows where nothing is refused: the shifted state stands at its place, and the
--- basis is no longer than the limit.
-pub record TriangleShiftTold (c : Complex) (L t k : ℕ) (old new : List ℤ) (r : TriangleShift) : Type 0 where
-  pub answer : triangleAnswer r ≡ triangleOutcome c L t k (length old)
-  pub list : new ≡ written (triangle-refusal c L t k (length old)) (basis-first c L old) old
-  pub found : triangle-refusal c L t k (length old) ≡ 0 → At c L (shifted-state c L t k) (place c L (shifted-state c L t k))
-  pub few : triangle-refusal c L t k (length old) ≡ 0 → length (states c L) ≤ limit
+-- apply_triangle_shift: the place of the shifted state is told, and the list begins with the basis.
+unfoldable pub triangle-call : Complex → ℕ → ℕ → ℕ → List ℤ → Call ℕ (List ℤ)
+triangle-call c L t k old =
+    record {
+      tests = triangle-tests c L t k (length old);
+      value = place c L (shifted-state c L t k);
+      before = old;
+      after = basis-first c L old;
+      known = PlaceKnown c L (shifted-state c L t k);
+    }
 
 -- ---- as the code keeps it
 -- three edges of a row, with values to which 1 can be added a few times

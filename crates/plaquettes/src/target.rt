@@ -7,7 +7,8 @@ ghost use mathlib.Core.Path.{_≡_};
 ghost use Prim.Native.Nat.{ℕ, _<_, _≤_};
 ghost use lib.ListN.{length, take};
 ghost use Rattle.complex.specs.Complex.{Complex};
-ghost use Rattle.plaquettes.specs.Targets.{BasisList, SidesOf, Ready, Targeted};
+ghost use Rattle.plaquettes.specs.Targets.{BasisList, Ready, Targeted};
+ghost use Rattle.triangles.specs.Indices.{SidesOf};
 
 // How many states a list begins with, the edges of each, the free ones of them, and the truncation.
 pub struct Sizes {
@@ -18,7 +19,7 @@ pub struct Sizes {
 }
 
 // A state goes to the front of a row.
-fn copy_state(row: &mut [i32; 63], state: &[i32])
+pub fn copy_state(row: &mut [i32; 63], state: &[i32])
     requires { ⌜ (length (now row) ≡ 63) × (length (now state) ≤ 63) ⌝ }
     ensures { λ _. ⌜ (length (now (row .exit)) ≡ 63) × (take (length (now (state .entry))) (now (row .exit)) ≡ now (state .entry)) ⌝ }
 {

@@ -1,13 +1,14 @@
 // The shift of a triangle: 1, -1 and 1 are added on its three edges.
+use answers::Answer;
 use complex::SimplicialComplex;
+use cursor::tables::count_states;
+use cursor::tables::state_at;
 use enumeration::prepare_basis;
-use gauss_law::law::sum;
 use hilbert::index::list_and_find;
+use numbers::sum;
 use triangles::Sides;
 use triangles::triangle_sides;
 use walker::blocks::within;
-use walker::tables::count_states;
-use walker::tables::state_at;
 ghost use mathlib.Core.Path.{_≡_};
 ghost use mathlib.Core.Bool.{_&&_};
 ghost use Prim.Native.Nat.{_^_, _<_, _≤_};
@@ -16,7 +17,10 @@ ghost use lib.ListN.{getD, length};
 ghost use Rattle.complex.specs.Complex.{complexOf};
 ghost use Rattle.gauss_law.specs.Shifts.{shifted};
 ghost use Rattle.gauss_law.specs.Gauss.{within};
-ghost use Rattle.plaquettes.specs.Triangle.{Shiftable, TriangleShiftTold};
+ghost use Rattle.mathematics.specs.Calls.{Answered};
+ghost use Rattle.answers.specs.Answer.{numberAnswer};
+ghost use Rattle.plaquettes.specs.Triangle.{triangle-call, Shiftable};
+ghost use Rattle.plaquettes.specs.Demand.{ShiftDemand};
 
 // 1 or -1 is added on one edge of a row.
 fn move_edge(row: &mut [i32; 63], edge: usize, by: i32)
@@ -47,11 +51,6 @@ pub fn three_within(row: &[i32; 63], sides: Sides, lambda: usize) -> bool
     within(row[i], lambda) & (within(row[j], lambda) & within(row[k], lambda))
 }
 
-pub enum TriangleShift {
-    Place(usize),
-    Refused(u8),
-}
-
 // The place of the state that a triangle's shift makes of the state at a place. The basis goes to the beginning of the list. All is
 // judged first: the state is found by the walk, since the list stays as it is where the shift leaves the band.
 pub fn apply_triangle_shift(
@@ -60,29 +59,30 @@ pub fn apply_triangle_shift(
     triangle: usize,
     state: usize,
     states: &mut [i32],
-) -> TriangleShift
-    ensures { λ r. ⌜ TriangleShiftTold (complexOf c) lambda triangle state (now (states .entry)) (now (states .exit)) r ⌝ }
+) -> Answer
+    ensures { λ r. ⌜ Answered (triangle-call (complexOf c) lambda triangle state (now (states .entry))) (numberAnswer r) (now (states .exit)) ⌝ }
+    ensures { λ r. ⌜ ShiftDemand (complexOf c) lambda triangle state (now (states .entry)) r ⌝ }
 {
     let basis = prepare_basis(c, lambda);
     let number = basis.refusal;
     if number != 0 {
-        return TriangleShift::Refused(number);
+        return Answer::Refused(number);
     }
     let w = basis.walker;
     let blocks = basis.blocks;
     let n = count_states(w, lambda, blocks);
     if (c.n_triangles <= triangle) | (n <= state) {
-        return TriangleShift::Refused(13);
+        return Answer::Refused(13);
     }
     let m = c.n_edges;
     if states.len() < n * m {
-        return TriangleShift::Refused(15);
+        return Answer::Refused(15);
     }
     let sides = triangle_sides(c, triangle);
     let mut row = state_at(w, lambda, blocks, state);
     shift_row(&mut row, sides);
     if !three_within(&row, sides, lambda) {
-        return TriangleShift::Refused(16);
+        return Answer::Refused(16);
     }
-    TriangleShift::Place(list_and_find(w, lambda, blocks, &row[0..m], states))
+    Answer::Number(list_and_find(w, lambda, blocks, &row[0..m], states))
 }

@@ -10,17 +10,20 @@ use lib.ListN.{getD, length, take, drop, length-append, take-append-drop}
 use lib.Seq.{take-at, length-take-le}
 use Rattle.mathematics.specs.Lists.{same}
 use Rattle.mathematics.specs.Refusals.{Outcome, value, refused, first, outcome, written}
+use Rattle.mathematics.specs.Calls.{Answered}
+use Rattle.mathematics.specs.Writing.{front}
+use Rattle.mathematics.proofs.Calls.{written-both}
 use Rattle.mathematics.proofs.Flat.{flatten-length}
 use Rattle.mathematics.proofs.Lists.{lists-equal}
 use Rattle.mathematics.proofs.Tests.{and-parts, and-both, all-at, same-tests}
-use Rattle.complex.specs.Complex.{Simplex, Complex, simplices}
+use Rattle.complex.specs.Complex.{Simplex, Complex, simplices, uncharged}
 use Rattle.complex.specs.Judge.{counts-right, rising, sides-listed, refusal}
 use Rattle.complex.specs.Search.{connected}
 use Rattle.complex.proofs.Accepting.{Sized, counts, passed}
 use Rattle.complex.proofs.Flattened.{flatten-simplices, simplices-flatten}
 use Rattle.complex.proofs.Triangles.{fitting}
 use Rattle.pentachora.specs.Pentachora.{pentachora-right, faces, pentachora-refusal}
-use Rattle.pentachora.specs.Pentachora.{facesAnswer, FacesTold}
+use Rattle.pentachora.specs.Pentachora.{pentachoraAnswer, pentachora-call}
 use Rattle.pentachora.specs.declared.FromPentachorons.{FromPentachorons}
 use Rattle.pentachora.specs.declared.FromPentachorons.the-variants.{Counts as Told, Refused}
 use Rattle.pentachora.proofs.Appearing.{right-rises, faces-fit}
@@ -105,11 +108,25 @@ front-of k new old after n z e long =
     let f : after ≡ new ++ drop n old = rw z at e in
     (rw f (take-at new (drop n old) n long), rw f (omega (arith, length-append new (drop n old))))
 
-module _ (n : ℕ) (l edges₀ triangles₀ : List ℕ) (r : FromPentachorons) (edges₁ triangles₁ : List ℕ) (told : FacesTold n l edges₀ triangles₀ r edges₁ triangles₁) (edges-long : length edges₀ ≡ 126) (triangles-long : length triangles₀ ≡ 768) where
+module _ (n : ℕ) (l edges₀ triangles₀ : List ℕ) (r : FromPentachorons) (edges₁ triangles₁ : List ℕ) (told : Answered (pentachora-call n l edges₀ triangles₀) (pentachoraAnswer r) (edges₁, triangles₁)) (edges-long : length edges₀ ≡ 126) (triangles-long : length triangles₀ ≡ 768) where
+  -- the answer and the two lists
+  abbrev number : ℕ
+  number = pentachora-refusal n l (length edges₀) (length triangles₀)
+
+  answer-is : pentachoraAnswer r ≡ outcome number (length (faces 2 l), length (faces 3 l))
+  unfolding pentachora-call pentachora-refusal
+  answer-is = told .answer
+
+  lists-are : (edges₁ ≡ written number (front (flatten (faces 2 l)) edges₀) edges₀) × (triangles₁ ≡ written number (front (flatten (faces 3 l)) triangles₀) triangles₀)
+  unfolding pentachora-call pentachora-refusal
+  lists-are =
+      let e = told .lists ∙ written-both number (front (flatten (faces 2 l)) edges₀) edges₀ (front (flatten (faces 3 l)) triangles₀) triangles₀ in
+      (ap (λ p. p .0) e, ap (λ p. p .1) e)
+
   module _ (e t : ℕ) (is : r ≡ Told e t) where
-    known : (pentachora-refusal n l (length edges₀) (length triangles₀) ≡ 0) × (e ≡ length (faces 2 l)) × (t ≡ length (faces 3 l))
-    unfolding facesAnswer
-    known = counts-of (pentachora-refusal n l (length edges₀) (length triangles₀)) e t (length (faces 2 l)) (length (faces 3 l)) (rw is at (told .answer))
+    known : (number ≡ 0) × (e ≡ length (faces 2 l)) × (t ≡ length (faces 3 l))
+    unfolding pentachoraAnswer
+    known = counts-of number e t (length (faces 2 l)) (length (faces 3 l)) (rw is at answer-is)
 
     right : Right n l
     right = right-of n l (length edges₀) (length triangles₀) (known .0)
@@ -121,10 +138,10 @@ module _ (n : ℕ) (l edges₀ triangles₀ : List ℕ) (r : FromPentachorons) (
     few-triangles = rw (known .2) (right .few-triangles)
 
     edges-front : (take (2 * e) edges₁ ≡ flatten (faces 2 l)) × (2 * e ≤ length edges₁)
-    edges-front = rw (known .1, ← (right .pairs)) (front-of _ (flatten (faces 2 l)) edges₀ edges₁ (length (flatten (faces 2 l))) (known .0) (told .edges) refl)
+    edges-front = rw (known .1, ← (right .pairs)) (front-of _ (flatten (faces 2 l)) edges₀ edges₁ (length (flatten (faces 2 l))) (known .0) (lists-are .0) refl)
 
     triangles-front : (take (3 * t) triangles₁ ≡ flatten (faces 3 l)) × (3 * t ≤ length triangles₁)
-    triangles-front = rw (known .2, ← (right .triples)) (front-of _ (flatten (faces 3 l)) triangles₀ triangles₁ (length (flatten (faces 3 l))) (known .0) (told .triangles) refl)
+    triangles-front = rw (known .2, ← (right .triples)) (front-of _ (flatten (faces 3 l)) triangles₀ triangles₁ (length (flatten (faces 3 l))) (known .0) (lists-are .1) refl)
 
     pub edges-inside : 2 * e ≤ length edges₁
     edges-inside = edges-front .1
@@ -146,16 +163,16 @@ module _ (n : ℕ) (l edges₀ triangles₀ : List ℕ) (r : FromPentachorons) (
         rw (z, ← (same-bytes a (take (2 * e) edges₁) (flatten (faces 2 l)) edges (edges-front .0) f), ← (same-bytes b (take (3 * t) triangles₁) (flatten (faces 3 l)) triangles (triangles-front .0) g))
 
   pub not-answered : (k : ℕ) → r ≡ Refused k → (edges triangles : List ℕ) → false ≡ answers n l edges triangles
-  unfolding answers facesAnswer
+  unfolding answers pentachoraAnswer
   not-answered k is edges triangles =
-      let f = refused-of (pentachora-refusal n l (length edges₀) (length triangles₀)) k (length (faces 2 l), length (faces 3 l)) (rw is at (told .answer)) in
+      let f = refused-of number k (length (faces 2 l), length (faces 3 l)) (rw is at answer-is) in
       let z : eqb (pentachora-refusal n l 126 768) 0 ≡ false = rw (edges-long, triangles-long) at f in
       rw z
 
 -- ---- of an accepted complex the answer's bytes are the recorded ones where the pentachora make it
 module _ (n : ℕ) (l es ts : List ℕ) (e t : ℕ) (edges-room : 2 * e ≤ length es) (triangles-room : 3 * t ≤ length ts) where
   abbrev made : Complex
-  made = record { vertices = n; edges = simplices 2 es e; triangles = simplices 3 ts t }
+  made = record { vertices = n; edges = simplices 2 es e; triangles = simplices 3 ts t; charges = uncharged }
 
   to-made : answers n l (take (2 * e) es) (take (3 * t) ts) ≡ true → makes l made ≡ true
   unfolding answers makes

@@ -12,11 +12,10 @@ use Rattle.complex.specs.Complex.{entries, complexOf}
 use Rattle.complex.specs.Judge.{refusal}
 use Rattle.complex.specs.Sides.{sides}
 use Rattle.complex.proofs.Simplices.{simplices-length}
-use Rattle.triangles.specs.Indices.{sidesOutcome}
 use Rattle.sheet.specs.Sheet.{padded}
 use Rattle.replay.specs.declared.case.Case.{Case}
 use Rattle.replay.specs.Cases.{recorded, sides-recorded, makes, agreed}
-use Rattle.replay.specs.Comparing.{Whole, answers, agrees}
+use Rattle.replay.specs.Comparing.{Whole, sidesOutcome, answers, agrees}
 use Rattle.replay.proofs.Agreeing.{answers-agree}
 use Rattle.replay.proofs.Making.{answers-made}
 use Rattle.replay.proofs.Padded.{padded-simplices}

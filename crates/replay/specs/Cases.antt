@@ -7,7 +7,7 @@ use lib.ListN.{getD, length, take, drop}
 use Rattle.mathematics.specs.Counting.{keep}
 use Rattle.mathematics.specs.Lists.{same}
 use Rattle.mathematics.specs.Tests.{every}
-use Rattle.complex.specs.Complex.{Simplex, Complex, entries, simplices}
+use Rattle.complex.specs.Complex.{Simplex, Complex, entries, simplices, uncharged}
 use Rattle.complex.specs.Judge.{refusal}
 use Rattle.complex.specs.Sides.{sides}
 use Rattle.pentachora.specs.Pentachora.{pentachora-right, faces}
@@ -56,6 +56,7 @@ recorded list c =
       vertices = c .«n_vertices»;
       edges = simplices 2 (drop (c .edges) list) (c .«n_edges»);
       triangles = simplices 3 (drop (c .triangles) list) (c .«n_triangles»);
+      charges = uncharged;
     }
 
 -- the numbers of the edges of every triangle are the recorded ones

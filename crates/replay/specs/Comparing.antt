@@ -4,7 +4,9 @@ use mathlib.Core.Bool.{Bool, false, _&&_}
 use mathlib.Core.List.{List, flatten}
 use lib.Dec.{eqb}
 use Rattle.mathematics.specs.Lists.{same}
-use Rattle.mathematics.specs.Refusals.{Outcome, value, refused}
+use Rattle.mathematics.specs.Refusals.{Outcome, value, refused, first, outcome}
+use Rattle.complex.specs.Complex.{Complex}
+use Rattle.triangles.specs.Indices.{indices-call}
 use Rattle.pentachora.specs.Pentachora.{faces, pentachora-refusal}
 use Rattle.replay.specs.declared.case.Case.{Case}
 
@@ -17,6 +19,10 @@ pub record Whole (n : ℕ) (c : Case) : Type 0 where
   pub triangles : c .triangles + 3 * c .«n_triangles» ≤ n
   pub few-triangles : c .«n_triangles» ≤ 256
   pub sides : c .sides + 3 * c .«n_triangles» ≤ n
+
+-- what tri_edge_indices answers
+unfoldable pub sidesOutcome : Complex → ℕ → Outcome (List ℕ)
+sidesOutcome c t = outcome (first (indices-call c t .tests)) (indices-call c t .value)
 
 -- an answer of tri_edge_indices is the recorded one
 unfoldable pub agrees : Outcome (List ℕ) → List ℕ → Bool

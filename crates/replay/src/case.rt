@@ -1,5 +1,7 @@
 // Where the fields of a case stand in the list of answers; oracle/README.md has the format.
-use complex::numbering::byte;
+use numbers::byte;
+use numbers::sizes::MOST_EDGES;
+use numbers::sizes::MOST_TRIANGLES;
 ghost use mathlib.Core.Path.{_≡_};
 ghost use Prim.Native.Nat.{_+_, _<_, _≤_};
 ghost use lib.ListN.{length, getD};
@@ -79,5 +81,5 @@ pub fn is_whole(list: &[u8], c: Case) -> bool
     ensures { λ r. ⌜ r ≡ well-formed (length (now (list .entry))) c ⌝ }
 {
     ((c.kind == 1) | (c.kind == 2))
-        & ((c.n_edges <= 63) & ((c.n_triangles <= 256) & (c.next <= list.len())))
+        & ((c.n_edges <= MOST_EDGES) & ((c.n_triangles <= MOST_TRIANGLES) & (c.next <= list.len())))
 }

@@ -3,7 +3,10 @@ use crate::case::Case;
 use acceptance::judge;
 use check::same;
 use complex::SimplicialComplex;
-use complex::numbering::byte;
+use numbers::byte;
+use numbers::sizes::EDGE_ENTRIES;
+use numbers::sizes::TRIANGLE_ENTRIES;
+use numbers::u8_to_u64;
 use pentachora::FromPentachorons;
 use pentachora::from_pentachorons;
 use sheet::edges_in;
@@ -18,9 +21,8 @@ ghost use lib.ListN.{length, take, drop};
 ghost use Rattle.mathematics.specs.Tests.{every};
 ghost use Rattle.complex.specs.Complex.{complexOf, entries};
 ghost use Rattle.sheet.specs.Sheet.{padded};
-ghost use Rattle.triangles.specs.Indices.{sidesOutcome};
 ghost use Rattle.replay.specs.Cases.{agreed};
-ghost use Rattle.replay.specs.Comparing.{Whole, agrees, answers};
+ghost use Rattle.replay.specs.Comparing.{Whole, sidesOutcome, agrees, answers};
 
 fn sides_same(c: SimplicialComplex, triangle: usize, list: &[u8], at: usize) -> bool
     requires { ⌜ at + 3 ≤ length (now list) ⌝ }
@@ -48,12 +50,6 @@ fn all_sides_same(c: SimplicialComplex, list: &[u8], at: usize) -> bool
     so_far
 }
 
-fn wide(x: u8) -> u64
-    ensures { λ r. ⌜ r ≡ x ⌝ }
-{
-    x as u64
-}
-
 // The vertices of pentachora, with zeros after them.
 fn pentachora_in(list: &[u8], start: usize, count: usize) -> [u64; 1275]
     requires { ⌜ (start + count ≤ length (now list)) × (count ≤ 1275) ⌝ }
@@ -61,7 +57,7 @@ fn pentachora_in(list: &[u8], start: usize, count: usize) -> [u64; 1275]
 {
     let mut vertices = [0u64; 1275];
     for i in 0..count {
-        vertices[i] = wide(list[start + i]);
+        vertices[i] = u8_to_u64(list[start + i]);
     }
     vertices
 }
@@ -70,8 +66,8 @@ fn pentachora_in(list: &[u8], start: usize, count: usize) -> [u64; 1275]
 fn faces_same(n_vertices: usize, pentachora: &[u64], edges: &[u8], triangles: &[u8]) -> bool
     ensures { λ r. ⌜ r ≡ answers «n_vertices» (now (pentachora .entry)) (now (edges .entry)) (now (triangles .entry)) ⌝ }
 {
-    let mut made_edges = [0u8; 126];
-    let mut made_triangles = [0u8; 768];
+    let mut made_edges = [0u8; EDGE_ENTRIES];
+    let mut made_triangles = [0u8; TRIANGLE_ENTRIES];
     let answer = from_pentachorons(n_vertices, pentachora, &mut made_edges, &mut made_triangles);
     match answer {
         FromPentachorons::Counts {

@@ -14,7 +14,7 @@ use Rattle.mathematics.proofs.Lists.{lists-equal}
 use Rattle.mathematics.proofs.Refusals.{first-none}
 use Rattle.mathematics.proofs.Flat.{flatten-length}
 use Rattle.complex.specs.declared.SimplicialComplex.{SimplicialComplex}
-use Rattle.complex.specs.Complex.{Simplex, Complex, simplices, complexOf}
+use Rattle.complex.specs.Complex.{Simplex, Complex, simplices, complexOf, uncharged}
 use Rattle.complex.specs.Judge.{counts-right, shape-tests, truncated-tests, refusal}
 use Rattle.complex.proofs.Simplices.{simplices-length}
 use Rattle.complex.proofs.Accepting.{Counts, counts, passed, Sized, simplices-sized}
@@ -39,6 +39,7 @@ record Plain (c : Complex) (lambda : ℕ) : Type 0 where
   triples : Sized 3 (c .triangles)
   counts-pass : counts-right (c .vertices) (length (c .edges)) (length (c .triangles)) ≡ true
   truncation : lambda ≤ 1000
+  neutral : c .charges ≡ uncharged
 
 module _ (c : Complex) (lambda : ℕ) (plain : Plain c lambda) where
   few : Counts (c .vertices) (length (c .edges)) (length (c .triangles))
@@ -84,6 +85,7 @@ module _ (c : Complex) (lambda : ℕ) (plain : Plain c lambda) where
   unfolding complexOf sheetIn padded
   same-complex =
       rw (vertices-read, triangles-read, edges-read, edges-part, triangles-part, simplices-flatten 2 (c .edges) (replicate (126 - length (flatten (c .edges))) 0) (plain .pairs), simplices-flatten 3 (c .triangles) (replicate (768 - length (flatten (c .triangles))) 0) (plain .triples))
+      (λ i. record { vertices = c .vertices; edges = c .edges; triangles = c .triangles; charges = sym (plain .neutral) i })
 
   written-header : Header (sheetBytes c lambda)
   unfolding sheetBytes headerOf word same
@@ -109,6 +111,7 @@ plain-of s h =
       triples = simplices-sized 3 (s .complex .triangles) (s .complex .«n_triangles»);
       counts-pass = passed (complexOf (s .complex)) (p .0) .counts;
       truncation = p .1;
+      neutral = refl;
     }
 
 pub read-written : WrittenThenRead

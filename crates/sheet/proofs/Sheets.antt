@@ -1,28 +1,27 @@
 -- What the tests of a sheet say, and what reading and writing make of it.
-use Prim.Native.Nat.{ℕ, zero, suc, _+_, _-_, _*_, _/_, _%_, _<_, _≤_}
+use Prim.{tt}
+use Prim.Native.Nat.{ℕ, zero, suc, _+_, _-_, _*_, _≤_}
 use mathlib.Core.List.{List, [], _∷_, _++_, flatten, append-assoc}
 use mathlib.Core.Path.{_≡_, refl, sym, ap, _∙_}
-use mathlib.Core.Bool.{Bool, true, false, not, _&&_, cond}
+use mathlib.Core.Bool.{Bool, true, false, not, cond}
 use native.Mathlib.Omega.{arith}
-use borrow.Author.Tests.{eqb-true, eq-eqb, ltb-false, le-ltb, lt-ltb}
+use borrow.Author.Tests.{eqb-true, eq-eqb, ltb-false, le-ltb}
 use lib.ListN.{getD, length, take, drop, replicate, length-append}
 use lib.Seq.{paste, length-take-le, take-all, take-at, drop-append-add, drop-drop}
 use lib.Dec.{eqb, ltb}
+use Rattle.mathematics.specs.Writing.{front}
 use Rattle.mathematics.specs.Lists.{same}
 use Rattle.mathematics.specs.Tests.{every-entry}
-use Rattle.mathematics.specs.Refusals.{first, Outcome, value, refused, outcome, written}
+use Rattle.mathematics.specs.Refusals.{first, outcome, written}
 use Rattle.mathematics.proofs.Refusals.{numbered, first-stops, first-goes-on}
-use Rattle.complex.specs.declared.SimplicialComplex.{SimplicialComplex}
-use Rattle.complex.specs.Complex.{Complex, simplices, complexOf}
-use Rattle.complex.specs.Judge.{counts-right, counts-test, shape-tests, truncated-tests, refusal}
+use Rattle.complex.specs.Complex.{simplices, complexOf}
+use Rattle.complex.specs.Judge.{counts-right, shape-tests, refusal}
 use Rattle.complex.proofs.Simplices.{simplices-length}
-use Rattle.complex.proofs.Accepting.{Counts, counts}
 use Rattle.complex.proofs.Flattened.{flatten-simplices}
 use Rattle.sheet.specs.declared.Sheet.{Sheet}
 use Rattle.sheet.specs.declared.SheetRead.{SheetRead}
-use Rattle.sheet.specs.declared.Reading.the-variants.{Accepted, Refused}
-use Rattle.sheet.specs.declared.Written.the-variants.{Bytes, Refused as NotWritten}
-use Rattle.sheet.specs.Sheet.{word, padded, sheetIn, blank, header-tests, reading-refusal, readAnswer, readOf, readingAnswer, ReadTold, refusedOf, headerOf, sheetBytes, writing-refusal, writtenAnswer, WrittenOf, Writable}
+use Rattle.sheet.specs.declared.Reading.the-variants.{Accepted}
+use Rattle.sheet.specs.Sheet.{word, padded, sheetIn, blank, header-tests, reading-refusal, readAnswer, readOf, readingAnswer, reading-call, ReadTold, refusedOf, headerOf, sheetBytes}
 
 -- ---- the header
 pub record Header (b : List ℕ) : Type 0 where
@@ -89,7 +88,6 @@ module _ (b : List ℕ) where
   unfolding readOf readAnswer written
   read-accepted h e = let none : reading-refusal b ≡ 0 = shape-decides h ∙ e in rw none
 
--- ---- lists that are copied
 -- what the answer says
 read-says : (k : ℕ) (s : Sheet) → readingAnswer (readAnswer k) (written k s blank) ≡ outcome k s
 unfolding readingAnswer readAnswer written outcome
@@ -97,9 +95,10 @@ read-says zero s = refl
 read-says (suc k) s = refl
 
 pub read-told : (b : List ℕ) (r : SheetRead) → r ≡ readOf b → ReadTold b r
-unfolding readOf
-read-told b r is = record { answer = rw is (read-says (reading-refusal b) (sheetIn b)); is = is }
+unfolding readOf reading-call reading-refusal
+read-told b r is = record { told = record { answer = rw is (read-says (reading-refusal b) (sheetIn b)); lists = refl; known = λ z. tt }; is = is }
 
+-- ---- lists that are copied
 drop-zeros : (n k : ℕ) → k ≤ n → _≡_ {A = List ℕ} (drop k (replicate n 0)) (replicate (n - k) 0)
 drop-zeros n zero h = let e : n - 0 ≡ n = omega arith in rw e
 drop-zeros zero (suc k) h = absurd (omega arith)
@@ -115,6 +114,12 @@ paste-padded n s k h g =
 front-paste : (p out s : List ℕ) (n k : ℕ) → length p ≡ n → paste (p ++ drop n out) n s k ≡ (p ++ take k s) ++ drop (n + k) out
 front-paste p out s n k long =
     rw (take-at p (drop n out) n long, ← long, drop-append-add p (drop (length p) out) k, drop-drop k (length p) out)
+
+-- the simplices of a list, copied to the front of another
+pub copied-front : (k n : ℕ) (l out : List ℕ) → k * n ≤ length l → paste out 0 l (k * n) ≡ front (flatten (simplices k l n)) out
+copied-front k n l out room =
+    let z : 0 + k * n ≡ k * n = omega arith in
+    rw (z, flatten-simplices k l n room, length-take-le (k * n) l room)
 
 pub three-pastes : (h es ts out : List ℕ) (k j : ℕ) → length h ≡ 11 → k ≤ length es → paste (paste (paste out 0 h 11) 11 es k) (11 + k) ts j ≡ (h ++ (take k es ++ take j ts)) ++ drop (11 + k + j) out
 three-pastes h es ts out k j long room =
@@ -148,39 +153,8 @@ module _ (s : Sheet) (edges-long : length (s .complex .edges) ≡ 126) (triangle
       ap length bytes-are ∙ omega (arith, length-append h (e ++ t), length-append e t)
 
   -- the bytes, copied in three steps
-  pub copied : (h out one two three : List ℕ) → h ≡ headerOf (s .complex .«n_vertices») (s .complex .«n_edges») (s .complex .«n_triangles») (s .lambda) → one ≡ paste out 0 h 11 → two ≡ paste one 11 (s .complex .edges) (2 * s .complex .«n_edges») → three ≡ paste two (11 + 2 * s .complex .«n_edges») (s .complex .triangles) (3 * s .complex .«n_triangles») → three ≡ sheetBytes (complexOf (s .complex)) (s .lambda) ++ drop (length (sheetBytes (complexOf (s .complex)) (s .lambda))) out
+  pub copied : (h out one two three : List ℕ) → h ≡ headerOf (s .complex .«n_vertices») (s .complex .«n_edges») (s .complex .«n_triangles») (s .lambda) → one ≡ paste out 0 h 11 → two ≡ paste one 11 (s .complex .edges) (2 * s .complex .«n_edges») → three ≡ paste two (11 + 2 * s .complex .«n_edges») (s .complex .triangles) (3 * s .complex .«n_triangles») → three ≡ front (sheetBytes (complexOf (s .complex)) (s .lambda)) out
   copied h out one two three head e f g =
       let c = s .complex in
       let eleven : length h ≡ 11 = ap length head ∙ header-long (c .«n_vertices») (c .«n_edges») (c .«n_triangles») (s .lambda) in
       rw (g, f, e, three-pastes h (c .edges) (c .triangles) out (2 * c .«n_edges») (3 * c .«n_triangles») eleven (omega arith), head, bytes-long, bytes-are)
-
--- ---- writing
-module _ (s : Sheet) (before : List ℕ) where
-  pub writing-refused : (k : ℕ) → k ≡ first (truncated-tests (complexOf (s .complex)) (s .lambda)) → (k ≡ 0 → ⊥) → WrittenOf s before (NotWritten k) before
-  unfolding writing-refusal writtenAnswer outcome written
-  writing-refused zero e some = absurd (some refl)
-  writing-refused (suc k) e some =
-      let c = complexOf (s .complex) in
-      let more : List (ℕ × Bool) = (15, ltb (length before) (length (sheetBytes c (s .lambda)))) ∷ [] in
-      let stop : first (truncated-tests c (s .lambda) ++ more) ≡ suc k =
-      first-stops (truncated-tests c (s .lambda)) more (λ (z : first (truncated-tests c (s .lambda)) ≡ 0). some (e ∙ z)) ∙ sym e in
-      record { answer = rw stop; bytes = rw stop }
-
-  module _ (none : first (truncated-tests (complexOf (s .complex)) (s .lambda)) ≡ 0) where
-    room-decides : writing-refusal (complexOf (s .complex)) (s .lambda) (length before) ≡ cond (ltb (length before) (length (sheetBytes (complexOf (s .complex)) (s .lambda)))) 15 0
-    unfolding writing-refusal first numbered every-entry
-    room-decides =
-        let c = complexOf (s .complex) in
-        first-goes-on (truncated-tests c (s .lambda)) ((15, ltb (length before) (length (sheetBytes c (s .lambda)))) ∷ []) refl none
-
-    pub room-refused : length before < length (sheetBytes (complexOf (s .complex)) (s .lambda)) → WrittenOf s before (NotWritten 15) before
-    unfolding writtenAnswer outcome written
-    room-refused short =
-        let t = lt-ltb (length before) (length (sheetBytes (complexOf (s .complex)) (s .lambda))) short in
-        record { answer = rw (room-decides, t); bytes = rw (room-decides, t) }
-
-    pub written-whole : length (sheetBytes (complexOf (s .complex)) (s .lambda)) ≤ length before → (size : ℕ) → size ≡ length (sheetBytes (complexOf (s .complex)) (s .lambda)) → (after : List ℕ) → after ≡ sheetBytes (complexOf (s .complex)) (s .lambda) ++ drop (length (sheetBytes (complexOf (s .complex)) (s .lambda))) before → WrittenOf s before (Bytes size) after
-    unfolding writtenAnswer outcome written
-    written-whole room size is after e =
-        let t = le-ltb (length before) (length (sheetBytes (complexOf (s .complex)) (s .lambda))) room in
-        record { answer = rw (room-decides, t, is); bytes = rw (room-decides, t) e }

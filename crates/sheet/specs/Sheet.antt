@@ -1,5 +1,6 @@
 -- The sheet: bytes 0 to 2 the mark GLS; 3 to 4 the version, 1; 5 V; 6 E; 7 to 8 T; 9 to 10 L; then two bytes for each edge and three for
 -- each triangle. Numbers of two bytes have the low byte first.
+use Prim.{Unit}
 use Prim.Native.Nat.{ℕ, zero, suc, _+_, _-_, _*_, _/_, _%_, _≤_}
 use mathlib.Core.List.{List, [], _∷_, _++_, flatten}
 use mathlib.Core.Bool.{Bool, not}
@@ -8,15 +9,14 @@ use lib.ListN.{getD, length, take, drop, replicate}
 use lib.Dec.{eqb, ltb}
 use Rattle.mathematics.specs.Writing.{front}
 use Rattle.mathematics.specs.Lists.{same}
-use Rattle.mathematics.specs.Refusals.{first, Outcome, value, refused, outcome, written}
+use Rattle.mathematics.specs.Refusals.{first, Outcome, value, refused, written}
+use Rattle.mathematics.specs.Calls.{Call, Answered, NoneLent, none-lent}
 use Rattle.complex.specs.Complex.{Complex, complexOf}
 use Rattle.complex.specs.Judge.{counts-right, truncation-test, shape-tests, truncated-tests}
 use Rattle.sheet.specs.declared.Sheet.{Sheet}
 use Rattle.sheet.specs.declared.SheetRead.{SheetRead}
 use Rattle.sheet.specs.declared.Reading.{Reading}
 use Rattle.sheet.specs.declared.Reading.the-variants.{Accepted, Refused}
-use Rattle.sheet.specs.declared.Written.{Written}
-use Rattle.sheet.specs.declared.Written.the-variants.{Bytes, Refused as NotWritten}
 
 -- the number of two bytes from a place on, low byte first
 unfoldable pub word : List ℕ → ℕ → ℕ
@@ -59,12 +59,21 @@ header-tests b =
     ∷ (6, not (eqb (length b) (11 + 2 * getD b 6 0 + 3 * word b 7)))
     ∷ []
 
--- what is judged in reading, and the first of it that holds, or 0
+-- 1 to 6 of the header, then 7 to 9 of the complex that the bytes hold
 abbrev pub reading-tests : List ℕ → List (ℕ × Bool)
 reading-tests b = header-tests b ++ shape-tests (complexOf (sheetIn b .complex))
 
 unfoldable pub reading-refusal : List ℕ → ℕ
 reading-refusal b = first (reading-tests b)
+
+-- what an answer says, with the sheet beside it
+unfoldable pub readingAnswer : Reading → Sheet → Outcome Sheet
+readingAnswer Accepted s = value s
+readingAnswer (Refused n) s = refused n
+
+-- read_sheet: the sheet is told. It writes no list.
+unfoldable pub reading-call : List ℕ → Call Sheet NoneLent
+reading-call b = record { tests = reading-tests b; value = sheetIn b; before = none-lent; after = none-lent; known = Unit {0} }
 
 -- the answer of a refusal, 0 for none
 unfoldable pub readAnswer : ℕ → Reading
@@ -75,14 +84,9 @@ readAnswer (suc n) = Refused (suc n)
 unfoldable pub readOf : List ℕ → SheetRead
 readOf b = record { answer = readAnswer (reading-refusal b); sheet = written (reading-refusal b) (sheetIn b) blank }
 
--- what an answer says, with the sheet beside it
-unfoldable pub readingAnswer : Reading → Sheet → Outcome Sheet
-readingAnswer Accepted s = value s
-readingAnswer (Refused n) s = refused n
-
--- that is told: the sheet, or the refusal
+-- an answer is that of the call, and beside a refusal are zeros
 pub record ReadTold (b : List ℕ) (r : SheetRead) : Type 0 where
-  pub answer : readingAnswer (r .answer) (r .sheet) ≡ outcome (reading-refusal b) (sheetIn b)
+  pub told : Answered (reading-call b) (readingAnswer (r .answer) (r .sheet)) none-lent
   pub is : r ≡ readOf b
 
 -- the first eleven bytes
@@ -93,23 +97,21 @@ headerOf v e t lambda = 71 ∷ 76 ∷ 83 ∷ 1 ∷ 0 ∷ v ∷ e ∷ t % 256 ∷
 unfoldable pub sheetBytes : Complex → ℕ → List ℕ
 sheetBytes c lambda = headerOf (c .vertices) (length (c .edges)) (length (c .triangles)) lambda ++ (flatten (c .edges) ++ flatten (c .triangles))
 
--- the refusals of writing in their order, or 0, for a lent list of a given length
+-- 4, 5, 7 to 9, then 15 for a list that has too few entries
 abbrev pub writing-tests : Complex → ℕ → ℕ → List (ℕ × Bool)
 writing-tests c lambda room =
     truncated-tests c lambda ++ ((15, ltb room (length (sheetBytes c lambda))) ∷ [])
 
-unfoldable pub writing-refusal : Complex → ℕ → ℕ → ℕ
-writing-refusal c lambda room = first (writing-tests c lambda room)
-
--- what an answer says
-unfoldable pub writtenAnswer : Written → Outcome ℕ
-writtenAnswer (Bytes n) = value n
-writtenAnswer (NotWritten n) = refused n
-
--- what writing answers, and what it leaves in the lent list
-pub record WrittenOf (s : Sheet) (before : List ℕ) (r : Written) (after : List ℕ) : Type 0 where
-  pub answer : writtenAnswer r ≡ outcome (writing-refusal (complexOf (s .complex)) (s .lambda) (length before)) (length (sheetBytes (complexOf (s .complex)) (s .lambda)))
-  pub bytes : after ≡ written (writing-refusal (complexOf (s .complex)) (s .lambda) (length before)) (front (sheetBytes (complexOf (s .complex)) (s .lambda)) before) before
+-- write_sheet: the number of bytes is told, and the list begins with them.
+unfoldable pub writing-call : Complex → ℕ → List ℕ → Call ℕ (List ℕ)
+writing-call c lambda old =
+    record {
+      tests = writing-tests c lambda (length old);
+      value = length (sheetBytes c lambda);
+      before = old;
+      after = front (sheetBytes c lambda) old;
+      known = length (sheetBytes c lambda) ≤ 905;
+    }
 
 -- ---- as the code keeps it
 -- a refusal, with zeros beside it

@@ -2,16 +2,23 @@
 use acceptance::counts_right;
 use acceptance::judge;
 use acceptance::judge_truncated;
+use answers::Answer;
 use complex::SimplicialComplex;
-use complex::numbering::byte;
+use numbers::byte;
+use numbers::sizes::EDGE_ENTRIES;
+use numbers::sizes::LARGEST_TRUNCATION;
+use numbers::sizes::SHEET_HEADER;
+use numbers::sizes::TRIANGLE_ENTRIES;
 ghost use mathlib.Core.Path.{_≡_};
-ghost use mathlib.Core.List.{_++_};
 ghost use Prim.Native.Nat.{_+_, _*_, _/_, _%_, _<_, _≤_};
 ghost use lib.ListN.{length, take, drop};
 ghost use lib.Seq.{paste};
+ghost use Rattle.mathematics.specs.Writing.{front};
 ghost use Rattle.mathematics.specs.Refusals.{first};
 ghost use Rattle.complex.specs.Complex.{complexOf};
-ghost use Rattle.sheet.specs.Sheet.{word, padded, sheetIn, header-tests, ReadTold, refusedOf, headerOf, sheetBytes, Writable, WrittenOf};
+ghost use Rattle.mathematics.specs.Calls.{Answered};
+ghost use Rattle.answers.specs.Answer.{numberAnswer};
+ghost use Rattle.sheet.specs.Sheet.{word, padded, sheetIn, header-tests, ReadTold, refusedOf, headerOf, sheetBytes, Writable, writing-call};
 
 // A complex and its truncation.
 pub struct Sheet {
@@ -30,11 +37,6 @@ pub struct SheetRead {
     pub sheet: Sheet,
 }
 
-pub enum Written {
-    Bytes(usize),
-    Refused(u8),
-}
-
 // The number of two bytes from i on, low byte first.
 fn word(b: &[u8], i: usize) -> usize
     requires { ⌜ i + 1 < length (now b) ⌝ }
@@ -47,7 +49,7 @@ fn word(b: &[u8], i: usize) -> usize
 fn judge_header(b: &[u8]) -> u8
     ensures { λ r. ⌜ r ≡ first (header-tests (now (b .entry))) ⌝ }
 {
-    if b.len() < 11 {
+    if b.len() < SHEET_HEADER {
         return 1;
     }
     if !((b[0] == 71) & ((b[1] == 76) & (b[2] == 83))) {
@@ -61,17 +63,17 @@ fn judge_header(b: &[u8]) -> u8
     if !counts_right(byte(b[5]), m, t) {
         return 4;
     }
-    if 1000 < word(b, 9) {
+    if LARGEST_TRUNCATION < word(b, 9) {
         return 5;
     }
-    if b.len() != 11 + 2 * m + 3 * t {
+    if b.len() != SHEET_HEADER + 2 * m + 3 * t {
         return 6;
     }
     0
 }
 
 // Entries from start on go to place at of the lent list.
-fn copy(src: &[u8], start: usize, count: usize, out: &mut [u8], at: usize)
+pub fn copy(src: &[u8], start: usize, count: usize, out: &mut [u8], at: usize)
     requires { ⌜ (start + count ≤ length (now src)) × (at + count ≤ length (now out)) ⌝ }
     ensures { λ _. ⌜ now (out .exit) ≡ paste (now (out .entry)) at (drop start (now (src .entry))) count ⌝ }
 {
@@ -81,21 +83,21 @@ fn copy(src: &[u8], start: usize, count: usize, out: &mut [u8], at: usize)
 }
 
 // Entries from start on as an array of edges, with zeros after them.
-pub fn edges_in(b: &[u8], start: usize, count: usize) -> [u8; 126]
+pub fn edges_in(b: &[u8], start: usize, count: usize) -> [u8; EDGE_ENTRIES]
     requires { ⌜ (start + count ≤ length (now b)) × (count ≤ 126) ⌝ }
     ensures { λ r. ⌜ r ≡ padded 126 (take count (drop start (now (b .entry)))) ⌝ }
 {
-    let mut edges = [0u8; 126];
+    let mut edges = [0u8; EDGE_ENTRIES];
     copy(b, start, count, &mut edges, 0);
     edges
 }
 
 // The same for triangles.
-pub fn triangles_in(b: &[u8], start: usize, count: usize) -> [u8; 768]
+pub fn triangles_in(b: &[u8], start: usize, count: usize) -> [u8; TRIANGLE_ENTRIES]
     requires { ⌜ (start + count ≤ length (now b)) × (count ≤ 768) ⌝ }
     ensures { λ r. ⌜ r ≡ padded 768 (take count (drop start (now (b .entry)))) ⌝ }
 {
-    let mut triangles = [0u8; 768];
+    let mut triangles = [0u8; TRIANGLE_ENTRIES];
     copy(b, start, count, &mut triangles, 0);
     triangles
 }
@@ -109,8 +111,8 @@ fn sheet_in(b: &[u8]) -> Sheet
     let m = byte(b[6]);
     let t = word(b, 7);
     let lambda = word(b, 9);
-    let edges = edges_in(b, 11, 2 * m);
-    let triangles = triangles_in(b, 11 + 2 * m, 3 * t);
+    let edges = edges_in(b, SHEET_HEADER, 2 * m);
+    let triangles = triangles_in(b, SHEET_HEADER + 2 * m, 3 * t);
     let complex = SimplicialComplex {
         n_vertices: v,
         n_edges: m,
@@ -122,15 +124,15 @@ fn sheet_in(b: &[u8]) -> Sheet
 }
 
 // A refusal, with zeros beside it.
-fn refused(number: u8) -> SheetRead
+fn refused_sheet(number: u8) -> SheetRead
     ensures { λ r. ⌜ r ≡ refusedOf number ⌝ }
 {
     let complex = SimplicialComplex {
         n_vertices: 0,
         n_edges: 0,
-        edges: [0; 126],
+        edges: [0; EDGE_ENTRIES],
         n_triangles: 0,
-        triangles: [0; 768],
+        triangles: [0; TRIANGLE_ENTRIES],
     };
     let sheet = Sheet { complex, lambda: 0 };
     SheetRead {
@@ -145,13 +147,13 @@ pub fn read_sheet(b: &[u8]) -> SheetRead
 {
     let header = judge_header(b);
     if header != 0 {
-        return refused(header);
+        return refused_sheet(header);
     }
     let sheet = sheet_in(b);
     let complex = sheet.complex;
     let number = judge(complex);
     if number != 0 {
-        return refused(number);
+        return refused_sheet(number);
     }
     SheetRead {
         answer: Reading::Accepted,
@@ -160,7 +162,7 @@ pub fn read_sheet(b: &[u8]) -> SheetRead
 }
 
 // The first eleven bytes.
-fn header(v: usize, m: usize, t: usize, lambda: usize) -> [u8; 11]
+fn header(v: usize, m: usize, t: usize, lambda: usize) -> [u8; SHEET_HEADER]
     requires { ⌜ (v < 256) × (m < 256) × (t < 65536) × (lambda < 65536) ⌝ }
     ensures { λ r. ⌜ r ≡ headerOf v m t lambda ⌝ }
 {
@@ -182,30 +184,30 @@ fn header(v: usize, m: usize, t: usize, lambda: usize) -> [u8; 11]
 // The bytes of an accepted sheet, at the front of a list with room for them.
 fn write_bytes(s: Sheet, out: &mut [u8])
     requires { ⌜ Writable s (now out) ⌝ }
-    ensures { λ _. ⌜ now (out .exit) ≡ sheetBytes (complexOf (s .complex)) (s .lambda) ++ drop (length (sheetBytes (complexOf (s .complex)) (s .lambda))) (now (out .entry)) ⌝ }
+    ensures { λ _. ⌜ now (out .exit) ≡ front (sheetBytes (complexOf (s .complex)) (s .lambda)) (now (out .entry)) ⌝ }
 {
     let c = s.complex;
     let m = c.n_edges;
     let t = c.n_triangles;
     let first = header(c.n_vertices, m, t, s.lambda);
-    copy(&first, 0, 11, out, 0);
-    copy(&c.edges, 0, 2 * m, out, 11);
-    copy(&c.triangles, 0, 3 * t, out, 11 + 2 * m);
+    copy(&first, 0, SHEET_HEADER, out, 0);
+    copy(&c.edges, 0, 2 * m, out, SHEET_HEADER);
+    copy(&c.triangles, 0, 3 * t, out, SHEET_HEADER + 2 * m);
 }
 
 // Writes a sheet: the number of bytes, or the first of 4, 5, 7, 8, 9 and 15 that holds.
-pub fn write_sheet(s: Sheet, out: &mut [u8]) -> Written
-    ensures { λ r. ⌜ WrittenOf s (now (out .entry)) r (now (out .exit)) ⌝ }
+pub fn write_sheet(s: Sheet, out: &mut [u8]) -> Answer
+    ensures { λ r. ⌜ Answered (writing-call (complexOf (s .complex)) (s .lambda) (now (out .entry))) (numberAnswer r) (now (out .exit)) ⌝ }
 {
     let c = s.complex;
     let number = judge_truncated(c, s.lambda);
     if number != 0 {
-        return Written::Refused(number);
+        return Answer::Refused(number);
     }
-    let size = 11 + 2 * c.n_edges + 3 * c.n_triangles;
+    let size = SHEET_HEADER + 2 * c.n_edges + 3 * c.n_triangles;
     if out.len() < size {
-        return Written::Refused(15);
+        return Answer::Refused(15);
     }
     write_bytes(s, out);
-    Written::Bytes(size)
+    Answer::Number(size)
 }

@@ -2,29 +2,31 @@
 use complex::SimplicialComplex;
 use enumeration::prepare_basis;
 use enumeration::too_short;
-use gauss_law::law::plus;
-use gauss_law::law::sum;
-use gauss_law::law::wide;
 use hilbert::index::Index;
 use hilbert::index::in_basis;
 use hilbert::index::list_and_find;
-use walker::steps::signed;
+use numbers::i32_to_i64;
+use numbers::plus;
+use numbers::sizes::MOST_EDGES;
+use numbers::sum;
+use numbers::usize_to_i32;
 ghost use mathlib.Core.Path.{_≡_};
 ghost use mathlib.Core.List.{_++_};
-ghost use Prim.Native.Nat.{_^_, _<_, _≤_};
-ghost use lib.IntN.{pos, natAbs, _+ℤ_};
+ghost use Prim.Native.Nat.{_<_, _≤_};
+ghost use lib.IntN.{pos, _+ℤ_};
 ghost use lib.ListN.{length, set, drop, replicate};
 ghost use Rattle.complex.specs.Complex.{complexOf};
 ghost use Rattle.gauss_law.specs.Gauss.{within};
-ghost use Rattle.shifts.specs.Shift.{EdgeShiftTold};
+ghost use Rattle.hilbert.specs.Index.{Indexed};
+ghost use Rattle.shifts.specs.Shift.{shift-call};
 
 // Whether the true sum of two values is within -lambda to lambda.
 fn sum_within(x: i32, delta: i32, lambda: usize) -> bool
     requires { ⌜ lambda ≤ 1000 ⌝ }
     ensures { λ r. ⌜ r ≡ within lambda (x +ℤ delta) ⌝ }
 {
-    let sum = plus(wide(x), delta);
-    let limit = wide(signed(lambda));
+    let sum = plus(i32_to_i64(x), delta);
+    let limit = i32_to_i64(usize_to_i32(lambda));
     (-limit <= sum) & (sum <= limit)
 }
 
@@ -40,11 +42,11 @@ fn write_shifted(configuration: &[i32], edge: usize, value: i32, to: &mut [i32])
 }
 
 // A configuration with another value on one edge, and zeros after it.
-fn shifted_row(configuration: &[i32], edge: usize, value: i32) -> [i32; 63]
+fn shifted_row(configuration: &[i32], edge: usize, value: i32) -> [i32; MOST_EDGES]
     requires { ⌜ (edge < length (now configuration)) × (length (now configuration) ≤ 63) ⌝ }
     ensures { λ r. ⌜ r ≡ set (now (configuration .entry)) edge value ++ drop (length (now (configuration .entry))) (replicate 63 (pos 0)) ⌝ }
 {
-    let mut row = [0i32; 63];
+    let mut row = [0i32; MOST_EDGES];
     write_shifted(configuration, edge, value, &mut row);
     row
 }
@@ -60,7 +62,7 @@ pub fn apply_shift(
     states: &mut [i32],
     result: &mut [i32],
 ) -> Index
-    ensures { λ r. ⌜ EdgeShiftTold (complexOf c) lambda (now (configuration .entry)) edge delta (now (states .entry)) (now (result .entry)) r (now (states .exit)) (now (result .exit)) ⌝ }
+    ensures { λ r. ⌜ Indexed (shift-call (complexOf c) lambda (now (configuration .entry)) edge delta (now (states .entry)) (now (result .entry))) r (now (states .exit), now (result .exit)) ⌝ }
 {
     let basis = prepare_basis(c, lambda);
     let number = basis.refusal;

@@ -1,10 +1,10 @@
 -- The entries of the matrix, as the code adds to them.
 use Prim.Native.Nat.{ℕ, _+_, _*_, _^_, _<_, _≤_}
-use mathlib.Core.List.{List, [], _∷_, _++_}
+use mathlib.Core.List.{List, _++_}
 use mathlib.Core.Bool.{Bool, cond}
-use mathlib.Core.Path.{_≡_, refl, sym, ap, _∙_}
+use mathlib.Core.Path.{_≡_, sym, ap, _∙_}
 use native.Mathlib.Numerals.{add-one}
-use lib.Bits.{bitXor, xor-lt}
+use lib.Bits.{bitXor}
 use lib.Count.{ones}
 use lib.Dec.{eqb}
 use lib.Ieee.{Float, binary64, add, mul}
@@ -13,32 +13,16 @@ use lib.ListN.{getD, length, List·getD-append}
 use Rattle.mathematics.specs.Writing.{front}
 use Rattle.complex.specs.Complex.{Complex}
 use Rattle.complex.specs.Judge.{Accepted}
-use Rattle.complex.specs.Sides.{sides, side}
-use Rattle.complex.proofs.TriangleEdges.{triangle-sides}
 use Rattle.matrices.specs.declared.coupling.KSParams.{KSParams}
 use Rattle.matrices.specs.Coupling.{float-of}
 use Rattle.matrices.specs.Matrix.{matrix-rows, Matrix, passed}
 use Rattle.matrices.proofs.Matrices.{matrix-is, matrix-same, passed-all}
 use Rattle.even_sets.specs.declared.Forest.{Forest}
 use Rattle.even_sets.specs.EvenSets.{su2-states, mask-place}
-use Rattle.masks.specs.Place.{LoopsOf}
-use Rattle.even_sets.specs.Loops.{closing-bits}
-use Rattle.su2_quantum.specs.Dense.{triangle-mask, flips, su2-electric-entry, su2-entry, su2-dense, MatrixOf}
-use Rattle.even_sets.proofs.Spans.{bits-below}
-use Rattle.even_sets.proofs.EvenLists.{even-complete, state-place, three-listed, flipped-place}
-use Rattle.masks.proofs.Placing.{states-number, listed-place}
-
--- the mask of a triangle whose edges are known
-pub mask-is : (c : Complex) (t i j k : ℕ) → sides c t ≡ i ∷ j ∷ k ∷ [] → triangle-mask c t ≡ bitXor (bitXor (2 ^ i) (2 ^ j)) (2 ^ k)
-unfolding triangle-mask side
-mask-is c t i j k is = rw is
-
--- the place of a triangle's mask is read off the tables
-pub triangle-read : (c : Complex) (f : Forest) → LoopsOf c f → (t i j k : ℕ) → t < length (c .triangles) → sides c t ≡ i ∷ j ∷ k ∷ []
-    → closing-bits (f .closing) (bitXor (bitXor (2 ^ i) (2 ^ j)) (2 ^ k)) (f .count) ≡ mask-place c (triangle-mask c t)
-triangle-read c f of t i j k number is =
-    let three = three-listed c (of .accepted) t i j k number is in
-    listed-place c f of _ (three .0) (three .1) ∙ ap (mask-place c) (sym (mask-is c t i j k is))
+use Rattle.su2_quantum.specs.Dense.{su2-electric-entry, su2-entry, su2-dense, MatrixOf}
+use Rattle.masks.specs.Flips.{triangle-mask}
+use Rattle.masks.proofs.Placing.{states-number}
+use Rattle.masks.proofs.Flips.{flip-within, flips-told}
 
 -- ---- a matrix with a row for each state
 module _ (c : Complex) (f : Forest) (n room : ℕ) (m : MatrixOf c f n room) where
@@ -49,21 +33,9 @@ module _ (c : Complex) (f : Forest) (n room : ℕ) (m : MatrixOf c f n room) whe
   rows-few = rw (m .states) (pow-mono (m .few))
 
   pub flips-within : (t : ℕ) → t < length (c .triangles) → (i : ℕ) → i < n → bitXor i (mask-place c (triangle-mask c t)) < n
-  flips-within t number i h =
-      let s = triangle-sides c (m .loops .accepted) t number in
-      let read = triangle-read c f (m .loops) t (s .i) (s .j) (s .k) number (s .numbers) in
-      rw (m .states) (xor-lt (f .count) i _ (rw (← (m .states)) h) (rw (← read) (bits-below (f .closing) _ (f .count))))
+  flips-within t number i h = rw rows-number (flip-within c (m .loops .accepted) t number i (rw (← rows-number) h))
 
 module _ (c : Complex) (accepted : Accepted c) where
-  -- a triangle flips state i to the state whose place is i xor the place of the triangle's mask
-  pub flips-told : (t i j : ℕ) → t < length (c .triangles) → i < length (su2-states c) → flips c t i j ≡ eqb (bitXor i (mask-place c (triangle-mask c t))) j
-  unfolding flips
-  flips-told t i j number state =
-      let s = triangle-sides c accepted t number in
-      let listed = even-complete c accepted .only _ (i, state, refl) in
-      let flipped = flipped-place c accepted t (s .i) (s .j) (s .k) number (s .numbers) (getD (su2-states c) i 0) (listed .1) (listed .0) in
-      ap (λ (k : ℕ). eqb k j) (rw (mask-is c t (s .i) (s .j) (s .k) (s .numbers)) (flipped .2 ∙ ap (λ (k : ℕ). bitXor k (mask-place c (bitXor (bitXor (2 ^ s .i) (2 ^ s .j)) (2 ^ s .k)))) (state-place c accepted i state)))
-
   module _ (p : KSParams) (n : ℕ) (number : n ≡ length (su2-states c)) (old new : List Float) where
     -- the diagonal is added to zeros
     pub electric-matrix : (states rest : List ℕ) → states ≡ su2-states c ++ rest
@@ -81,7 +53,7 @@ module _ (c : Complex) (accepted : Accepted c) where
     triangle-matrix w t triangle =
         matrix-same _ (su2-entry c p w (t + 1)) n old new
         (λ i j h k. passed-all _ _ _ n i j h
-        ∙ ap (λ (b : Bool). cond b (add binary64 (su2-entry c p w t i j) (mul binary64 (p .magnetic) (w t))) (su2-entry c p w t i j)) (sym (flips-told t i j triangle (rw (← number) h)))
+        ∙ ap (λ (b : Bool). cond b (add binary64 (su2-entry c p w t i j) (mul binary64 (p .magnetic) (w t))) (su2-entry c p w t i j)) (sym (flips-told c accepted t triangle i (rw (← number) h) j))
         ∙ ap (λ (m : ℕ). su2-entry c p w m i j) (sym (add-one t)))
 
     -- all entries

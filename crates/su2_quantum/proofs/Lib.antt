@@ -1,2 +1,3 @@
 pub mod DenseEntries
 pub mod DenseTelling
+pub mod OneTerm

@@ -1,42 +1,36 @@
 // The two-valued Hamiltonian as a dense matrix.
 use acceptance::judge;
+use answers::Answer;
 use complex::SimplicialComplex;
 use even_sets::Forest;
 use even_sets::closing_loops;
-use gauss_law::answer::Enumerated;
-use masks::place::closing_bits;
+use masks::flip::triangle_place;
 use masks::write_masks;
 use matrices::coupling::KSParams;
 use matrices::coupling::is_su2;
-use matrices::electric::energy;
+use matrices::electric::mask_energy;
 use matrices::matrix::add_entry;
 use matrices::matrix::clear_matrix;
 use matrices::weights::judge_weights;
 use matrices::weights::weight_of;
-use triangles::triangle_sides;
+use triangles::all_sides;
+use triangles::sides_at;
 ghost use mathlib.Core.Path.{_≡_};
 ghost use mathlib.Core.List.{List, _++_};
-ghost use Prim.Native.Nat.{ℕ, _+_, _*_, _^_, _<_, _≤_};
+ghost use Prim.Native.Nat.{ℕ, _*_, _^_, _<_, _≤_};
 ghost use lib.Bits.{bitXor};
 ghost use lib.Count.{ones};
-ghost use lib.Ieee.{Float, binary64, mul};
+ghost use lib.Ieee.{Float};
 ghost use lib.ListN.{getD, length};
 ghost use Rattle.mathematics.specs.Writing.{front};
+ghost use Rattle.mathematics.specs.Calls.{Answered};
+ghost use Rattle.answers.specs.Answer.{numberAnswer};
 ghost use Rattle.complex.specs.Complex.{complexOf};
-ghost use Rattle.matrices.specs.declared.coupling.KSParams.{KSParams};
-ghost use Rattle.matrices.specs.Weights.{weight};
+ghost use Rattle.matrices.specs.Weights.{weight, Weighed};
 ghost use Rattle.matrices.specs.Matrix.{Matrix, passed};
-ghost use Rattle.even_sets.specs.EvenSets.{su2-states, mask-place};
-ghost use Rattle.masks.specs.Place.{LoopsOf};
-ghost use Rattle.su2_quantum.specs.Dense.{triangle-mask, su2-electric-entry, su2-entry, su2-dense, Su2Built, MatrixOf, Weighed};
+ghost use Rattle.even_sets.specs.EvenSets.{su2-states};
+ghost use Rattle.su2_quantum.specs.Dense.{su2-electric-entry, su2-entry, su2-dense, su2-dense-call, MatrixOf};
 ghost use Rattle.matrices.specs.Squares.{energy};
-
-// A factor times the number of edges in a state.
-fn state_energy(factor: f64, state: u64) -> f64
-    ensures { λ r. ⌜ r ≡ energy factor (ones state) ⌝ }
-{
-    energy(factor, u64::count_ones(state) as usize)
-}
 
 // The energy of each state is added on the diagonal.
 fn add_energies(h: &mut [f64], n: usize, factor: f64, states: &[u64])
@@ -44,7 +38,7 @@ fn add_energies(h: &mut [f64], n: usize, factor: f64, states: &[u64])
     ensures { λ _. ⌜ ((f : ℕ → ℕ → Float) (old : List Float) → Matrix f n old (now (h .entry)) → Matrix (passed f (λ i. i) (λ i. energy factor (ones (getD (now (states .entry)) i 0))) n) n old (now (h .exit))) ⌝ }
 {
     for i in 0..n {
-        add_entry(h, n, i, i, state_energy(factor, states[i]));
+        add_entry(h, n, i, i, mask_energy(factor, states[i]));
     }
 }
 
@@ -58,30 +52,7 @@ fn add_flips(h: &mut [f64], n: usize, k: usize, x: f64)
     }
 }
 
-// The place of a triangle's three edges in the list of states.
-fn triangle_place(c: SimplicialComplex, f: Forest, t: usize) -> usize
-    requires { ⌜ LoopsOf (complexOf c) f × (f .count ≤ 20) × (t < c .«n_triangles») ⌝ }
-    ensures { λ r. ⌜ r ≡ mask-place (complexOf c) (triangle-mask (complexOf c) t) ⌝ }
-{
-    let sides = triangle_sides(c, t);
-    let closing = f.closing;
-    let n = f.count;
-    closing_bits(
-        &closing,
-        n,
-        (1 << sides.first) ^ (1 << sides.second) ^ (1 << sides.third),
-    )
-}
-
-// A triangle adds x to each entry of two states that it flips to each other.
-fn add_triangle(h: &mut [f64], n: usize, c: SimplicialComplex, f: Forest, t: usize, x: f64)
-    requires { ⌜ MatrixOf (complexOf c) f n (length (now h)) × (t < c .«n_triangles») ⌝ }
-    ensures { λ _. ⌜ ((p : KSParams) (w : ℕ → Float) (old : List Float) → x ≡ mul binary64 (p .magnetic) (w t) → Matrix (su2-entry (complexOf c) p w t) n old (now (h .entry)) → Matrix (su2-entry (complexOf c) p w (t + 1)) n old (now (h .exit))) ⌝ }
-{
-    add_flips(h, n, triangle_place(c, f, t), x);
-}
-
-// Each triangle adds its magnetic factor × weight.
+// Each triangle adds its magnetic factor × weight to each entry of two states that it flips to each other.
 fn add_triangles(
     h: &mut [f64],
     n: usize,
@@ -91,11 +62,13 @@ fn add_triangles(
     given: bool,
     weights: &[f64],
 )
-    requires { ⌜ MatrixOf (complexOf c) f n (length (now h)) × Weighed (complexOf c) given (now weights) ⌝ }
+    requires { ⌜ MatrixOf (complexOf c) f n (length (now h)) × Weighed (length (complexOf c .triangles)) given (now weights) ⌝ }
     ensures { λ _. ⌜ ((old : List Float) → Matrix (su2-electric-entry (complexOf c) p) n old (now (h .entry)) → Matrix (su2-entry (complexOf c) p (weight given (now (weights .entry))) (length (complexOf c .triangles))) n old (now (h .exit))) ⌝ }
 {
+    let all = all_sides(c);
     for t in 0..c.n_triangles {
-        add_triangle(h, n, c, f, t, p.magnetic * weight_of(given, weights, t));
+        let place = triangle_place(f, sides_at(&all, t));
+        add_flips(h, n, place, p.magnetic * weight_of(given, weights, t));
     }
 }
 
@@ -110,7 +83,7 @@ fn write_matrix(
     weights: &[f64],
     states: &[u64],
 )
-    requires { ⌜ MatrixOf (complexOf c) f n (length (now h)) × Weighed (complexOf c) given (now weights) × ((rest : List ℕ) × (now states ≡ su2-states (complexOf c) ++ rest)) ⌝ }
+    requires { ⌜ MatrixOf (complexOf c) f n (length (now h)) × Weighed (length (complexOf c .triangles)) given (now weights) × ((rest : List ℕ) × (now states ≡ su2-states (complexOf c) ++ rest)) ⌝ }
     ensures { λ _. ⌜ now (h .exit) ≡ front (su2-dense (complexOf c) p (weight given (now (weights .entry)))) (now (h .entry)) ⌝ }
 {
     clear_matrix(h, n);
@@ -126,28 +99,28 @@ pub fn build_su2_hamiltonian(
     weights: &[f64],
     states: &mut [u64],
     result: &mut [f64],
-) -> Enumerated
-    ensures { λ r. ⌜ Su2Built (complexOf c) p given (now (weights .entry)) (now (states .entry)) (now (result .entry)) r (now (states .exit)) (now (result .exit)) ⌝ }
+) -> Answer
+    ensures { λ r. ⌜ Answered (su2-dense-call (complexOf c) p given (now (weights .entry)) (now (states .entry)) (now (result .entry))) (numberAnswer r) (now (states .exit), now (result .exit)) ⌝ }
 {
     let number = judge(c);
     if number != 0 {
-        return Enumerated::Refused(number);
+        return Answer::Refused(number);
     }
     let f = closing_loops(c);
     let count = f.count;
     if 20 < count {
-        return Enumerated::Refused(10);
+        return Answer::Refused(10);
     }
     let other = judge_weights(c.n_triangles, is_su2(p), given, weights);
     if other != 0 {
-        return Enumerated::Refused(other);
+        return Answer::Refused(other);
     }
     let n = 1 << count;
     if (states.len() < n) | (result.len() < n * n) {
-        return Enumerated::Refused(15);
+        return Answer::Refused(15);
     }
     let loops = f.loops;
     write_masks(states, &loops, count);
     write_matrix(result, n, c, f, p, given, weights, states);
-    Enumerated::States(n)
+    Answer::Number(n)
 }

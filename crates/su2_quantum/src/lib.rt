@@ -1,3 +1,3 @@
-// The two-valued truncation of SU(2): even edge sets as masks, and the dense matrix on them.
+// The Hamiltonian of the two-valued truncation of SU(2) as a dense matrix.
 
 pub mod dense;

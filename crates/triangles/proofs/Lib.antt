@@ -1,1 +1,2 @@
 pub mod SidesFound
+pub mod AllSides

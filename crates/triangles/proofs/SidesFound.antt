@@ -2,26 +2,22 @@
 use Prim.Native.Nat.{ℕ, _-_, _*_, _<_, _≤_}
 use mathlib.Core.List.{List, [], _∷_}
 use mathlib.Core.Path.{_≡_, ap, sym, _∙_}
-use mathlib.Core.Bool.{true, cond}
+use mathlib.Core.Bool.{true}
 use native.Mathlib.Omega.{arith}
-use borrow.Author.Tests.{le-leb, lt-leb}
 use lib.ListN.{getD, length}
 use lib.Dec.{leb}
 use Rattle.mathematics.specs.Lists.{same, listed, position}
-use Rattle.mathematics.specs.Refusals.{first, value, refused, outcome}
-use Rattle.mathematics.proofs.Refusals.{refused-outcome}
 use Rattle.complex.specs.declared.SimplicialComplex.{SimplicialComplex}
 use Rattle.complex.specs.Complex.{Simplex, Complex, start, end, entries, complexOf}
 use Rattle.complex.specs.Judge.{refusal, Accepted}
 use Rattle.complex.specs.Numbering.{number, EdgeTable}
 use Rattle.complex.specs.Sides.{sides}
 use Rattle.triangles.specs.declared.Sides.{Sides}
-use Rattle.triangles.specs.Indices.{sides-refusal, sidesOutcome, Sided, sidesIn}
+use Rattle.triangles.specs.Indices.{Sided, sidesIn}
 use Rattle.complex.proofs.Simplices.{simplices-length, simplex-at}
 use Rattle.complex.proofs.Triangles.{Fitting, fits}
 use Rattle.complex.proofs.Accepting.{Counts, counts-own, passed, simplices-sized, triangle-fits}
 use Rattle.complex.proofs.TriangleEdges.{three-sides, triangle-sides}
-use Rattle.complex.proofs.Refusing.{refused-first, accepted-next}
 
 -- the number of a listed edge is one more than its place
 number-is : (s : Simplex) (es : List Simplex) → listed same s es ≡ true → (1 ≤ number same s es) × (number same s es - 1 ≡ position same s es)
@@ -45,22 +41,9 @@ unfolding complexOf entries
 sides-own c t tl = three-sides (complexOf c) t _ _ _ (simplex-at 3 (c .triangles) (c .«n_triangles») t tl)
 
 module _ (c : SimplicialComplex) (t : ℕ) where
-  -- a record that is refused
-  pub record-refused : (k : ℕ) → k ≡ refusal (complexOf c) → (k ≡ 0 → ⊥) → refused k ≡ sidesOutcome (complexOf c) t
-  unfolding sidesOutcome sides-refusal
-  record-refused k e some = rw (refused-first (complexOf c) ((13, leb (length (complexOf c .triangles)) t) ∷ []) k e some) (refused-outcome k (sides (complexOf c) t) some)
-
-  goes-on : refusal (complexOf c) ≡ 0 → sides-refusal (complexOf c) t ≡ cond (leb (c .«n_triangles») t) 13 0
-  unfolding sides-refusal first
-  goes-on h = accepted-next (complexOf c) ((13, leb (length (complexOf c .triangles)) t) ∷ []) h ∙ size
-    where
-      size : _≡_ {A = ℕ} (cond (leb (length (complexOf c .triangles)) t) 13 0) (cond (leb (c .«n_triangles») t) 13 0)
-      size = ap (λ (n : ℕ). cond (leb n t) 13 0) (triangles-long c)
-
-  -- a number that is no triangle's
-  pub number-refused : refusal (complexOf c) ≡ 0 → c .«n_triangles» ≤ t → refused 13 ≡ sidesOutcome (complexOf c) t
-  unfolding sidesOutcome outcome
-  number-refused h past = rw (goes-on h, le-leb (c .«n_triangles») t past)
+  -- the test of a triangle's number, by the record's count
+  pub number-test : leb (length (complexOf c .triangles)) t ≡ leb (c .«n_triangles») t
+  number-test = ap (λ n. leb n t) (triangles-long c)
 
   module _ (h : refusal (complexOf c) ≡ 0) (table : List ℕ) (index : EdgeTable table (complexOf c .edges)) (tl : t < c .«n_triangles») where
     few : Counts (c .«n_vertices») (c .«n_edges») (c .«n_triangles»)
@@ -96,10 +79,6 @@ module _ (c : SimplicialComplex) (t : ℕ) where
         let es = complexOf c .edges in
         rw
         (sides-own c t tl, index .numbers (start s) (end s) (w .a-small) (w .b-small), index .numbers (start s) (getD s 2 0) (w .a-small) (w .c-small), index .numbers (end s) (getD s 2 0) (w .b-small) (w .c-small), number-is (start s ∷ end s ∷ []) es (fit .first-side) .1, number-is (start s ∷ getD s 2 0 ∷ []) es (fit .second-side) .1, number-is (end s ∷ getD s 2 0 ∷ []) es (fit .third-side) .1)
-
-    pub sides-told : value (sidesIn table (entries (c .triangles) (3 * t) 3) .first ∷ sidesIn table (entries (c .triangles) (3 * t) 3) .second ∷ sidesIn table (entries (c .triangles) (3 * t) 3) .third ∷ []) ≡ sidesOutcome (complexOf c) t
-    unfolding sidesOutcome outcome
-    sides-told = rw (goes-on h, lt-leb (c .«n_triangles») t tl, sides-read)
 
 -- the edges of a triangle of an accepted complex are numbers of edges
 pub sides-below : (c : Complex) (t : ℕ) (s : Sides) → sides c t ≡ s .first ∷ s .second ∷ s .third ∷ [] → Accepted c → t < length (c .triangles)

@@ -1,34 +1,48 @@
 -- What tri_edge_indices tells, and how the code finds it.
+use Prim.{Unit}
 use Prim.Native.Nat.{ℕ, _+_, _-_, _*_, _≤_, _<_}
 use mathlib.Core.List.{List, [], _∷_, _++_}
 use mathlib.Core.Bool.{Bool}
-use lib.ListN.{getD, length}
+use mathlib.Core.Path.{_≡_}
+use lib.ListN.{getD, length, set}
 use lib.Dec.{leb}
-use Rattle.mathematics.specs.Refusals.{first, Outcome, value, refused, outcome}
+use Rattle.mathematics.specs.Refusals.{Outcome, value, refused}
+use Rattle.mathematics.specs.Calls.{Call, NoneLent, none-lent}
 use Rattle.triangles.specs.declared.TriEdgeIndices.{TriEdgeIndices}
 use Rattle.triangles.specs.declared.TriEdgeIndices.the-variants.{Indices, Refused}
 use Rattle.triangles.specs.declared.Sides.{Sides}
-use Rattle.complex.specs.Complex.{Simplex, Complex, start, end}
+use Rattle.complex.specs.Complex.{Simplex, Complex, start, end, entries}
 use Rattle.complex.specs.Judge.{complex-tests}
 use Rattle.complex.specs.Sides.{sides}
 
 -- what an answer says
-unfoldable pub sidesAnswer : TriEdgeIndices → Outcome (List ℕ)
-sidesAnswer (Indices i j k) = value (i ∷ j ∷ k ∷ [])
-sidesAnswer (Refused n) = refused n
+unfoldable pub indicesAnswer : TriEdgeIndices → Outcome (List ℕ)
+indicesAnswer (Indices i j k) = value (i ∷ j ∷ k ∷ [])
+indicesAnswer (Refused n) = refused n
 
 -- 4, 7 to 9, then 13 for a number that is no triangle's
-abbrev pub sides-tests : Complex → ℕ → List (ℕ × Bool)
-sides-tests c t =
+abbrev pub indices-tests : Complex → ℕ → List (ℕ × Bool)
+indices-tests c t =
     complex-tests c ++ ((13, leb (length (c .triangles)) t) ∷ [])
 
-unfoldable pub sides-refusal : Complex → ℕ → ℕ
-sides-refusal c t = first (sides-tests c t)
-
-unfoldable pub sidesOutcome : Complex → ℕ → Outcome (List ℕ)
-sidesOutcome c t = outcome (sides-refusal c t) (sides c t)
+-- tri_edge_indices: the numbers of the triangle's three edges are told. It writes no list.
+unfoldable pub indices-call : Complex → ℕ → Call (List ℕ) NoneLent
+indices-call c t = record { tests = indices-tests c t; value = sides c t; before = none-lent; after = none-lent; known = Unit {0} }
 
 -- ---- as the code keeps it
+-- the three edges of triangle t
+pub record SidesOf (c : Complex) (t : ℕ) (s : Sides) : Type 0 where
+  pub number : t < length (c .triangles)
+  pub are : sides c t ≡ s .first ∷ s .second ∷ s .third ∷ []
+
+-- a list of the edges of all triangles, three entries for each
+pub record AllSides (c : Complex) (all : List ℕ) : Type 0 where
+  pub are : (t : ℕ) → t < length (c .triangles) → sides c t ≡ entries all (3 * t) 3
+
+-- a list with three edges at the places of triangle t
+abbrev pub with-sides : List ℕ → ℕ → Sides → List ℕ
+with-sides all t s = set (set (set all (3 * t) (s .first)) (3 * t + 1) (s .second)) (3 * t + 2) (s .third)
+
 -- the vertices of a triangle are below 64, and the table has a number for each of its edges
 pub record Sided (table : List ℕ) (s : Simplex) : Type 0 where
   pub a-small : start s < 64

@@ -13,10 +13,9 @@ use Rattle.cycles.specs.Cycles.{Tables}
 use Rattle.walker.specs.Walker.{sum-of-cycles, lowest-candidate}
 use Rattle.mathematics.proofs.Signed.{size-sum, size-sign}
 use Rattle.gauss_law.proofs.Tree.{Solvable}
-use Rattle.cycles.proofs.Adding.{added-at, zeros-at, gauss-zeros}
+use Rattle.cycles.proofs.Adding.{added-at}
 use Rattle.walker.proofs.Counter.{moved, value}
 use Rattle.walker.proofs.Candidates.{Chosen, chosen-once, added-chosen, moved-length}
-use Rattle.gauss_law.specs.Gauss.{uncharged}
 
 pub chosen-same : (c : Complex) (q : ℕ → ℤ) (xs ys s : List ℤ) → ((j : ℕ) → j < length (free-edges c) → getD xs j (pos 0) ≡ getD ys j (pos 0)) → Chosen c q xs s → Chosen c q ys s
 chosen-same c q xs ys s same h = record { sized = h .sized; free = λ j k. h .free j k ∙ same j k; law = h .law }
@@ -82,18 +81,9 @@ module _ (c : Complex) (q : ℕ → ℤ) (free : List ℕ) (cycle : ℕ → List
       rw (chosen-once c q tree xs s _ k (combined-chosen (λ j. getD xs j (pos 0)) xs (λ j i. refl)))
       (combined-small (λ j. getD xs j (pos 0)) B L b h (length (free-edges c)) (omega arith) e)
 
--- ---- without charges: all values zero, and the candidate with -L on every free edge
-module _ (c : Complex) where
-  pub zeros-chosen : Chosen c uncharged (replicate (length (free-edges c)) (pos 0)) (replicate (length (c .edges)) (pos 0))
-  zeros-chosen =
-      record {
-        sized = length-replicate (length (c .edges)) (pos 0);
-        free = λ j h. zeros-at (length (c .edges)) (getD (free-edges c) j 0) ∙ sym (zeros-at (length (free-edges c)) j);
-        law = λ v h. gauss-zeros (c .edges) (length (c .edges)) v;
-      }
-
-  pub lowest-chosen : (free : List ℕ) (cycle : ℕ → List ℤ) → Tables c free cycle → (L : ℕ) → Chosen c uncharged (replicate (length (free-edges c)) (value L zero)) (lowest-candidate cycle L (length (c .edges)) (length (free-edges c)))
+  -- the candidate with -L on every free edge
+  pub lowest-chosen : (L : ℕ) → Chosen c q (replicate (length (free-edges c)) (value L zero)) (lowest-candidate cycle L p (length (free-edges c)))
   unfolding lowest-candidate
-  lowest-chosen free cycle tables L =
-      combined-chosen c uncharged free cycle tables (replicate (length (c .edges)) (pos 0)) zeros-chosen (λ j. negℤ (pos L)) (replicate (length (free-edges c)) (value L zero))
+  lowest-chosen L =
+      combined-chosen (λ j. negℤ (pos L)) (replicate (length (free-edges c)) (value L zero))
       (λ j h. sym (getD-replicate (length (free-edges c)) j (value L zero) (pos 0) h ∙ +ℤ-idl (negℤ (pos L))))

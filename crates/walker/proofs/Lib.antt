@@ -5,7 +5,7 @@ pub mod Combined
 pub mod Interval
 pub mod BlockValues
 pub mod Walk
-pub mod Uncharged
+pub mod Begun
 pub mod Stepping
 pub mod Narrowing
 pub mod BlockRows

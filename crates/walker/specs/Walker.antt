@@ -5,7 +5,7 @@ use mathlib.Core.Bool.{cond}
 use lib.Dec.{leb}
 use lib.IntN.{ℤ, pos, _-ℤ_, _*ℤ_, negℤ, natAbs}
 use lib.Signed.{ltZ}
-use lib.ListN.{getD, length, replicate}
+use lib.ListN.{getD, length}
 use Rattle.mathematics.specs.Integers.{equal}
 use Rattle.mathematics.specs.Counting.{below, applied}
 use Rattle.cycles.specs.Cycles.{with-cycle}
@@ -26,9 +26,9 @@ unfoldable pub sum-of-cycles : (ℕ → List ℤ) → (ℕ → ℤ) → List ℤ
 sum-of-cycles cycle x p zero = p
 sum-of-cycles cycle x p (suc n) = with-cycle (sum-of-cycles cycle x p n) (x n) (cycle n)
 
--- the candidate with -L on each of n free edges, for m edges and no charges
-unfoldable pub lowest-candidate : (ℕ → List ℤ) → ℕ → ℕ → ℕ → List ℤ
-lowest-candidate cycle L m n = sum-of-cycles cycle (λ j. negℤ (pos L)) (replicate m (pos 0)) n
+-- from an assignment with 0 on each of n free edges to the candidate with -L on each
+unfoldable pub lowest-candidate : (ℕ → List ℤ) → ℕ → List ℤ → ℕ → List ℤ
+lowest-candidate cycle L p n = sum-of-cycles cycle (λ j. negℤ (pos L)) p n
 
 -- how far a is above b, 0 where it is not
 unfoldable pub excess : ℤ → ℤ → ℕ

@@ -1,37 +1,35 @@
 // A block: the candidates that differ on the first free edge alone. Those within the bounds are an interval.
-use crate::steps::minus;
-use crate::steps::plus;
-use crate::steps::signed;
-use crate::steps::wide;
+use crate::steps::negative;
+use crate::steps::plus_times;
+use numbers::i8_to_i32;
+use numbers::larger;
+use numbers::smaller;
+use numbers::usize_to_i32;
 ghost use mathlib.Core.Path.{_≡_};
-ghost use Prim.Native.Nat.{_+_, _*_, _-_, _^_, _<_, _≤_, min, max};
+ghost use Prim.Native.Nat.{_+_, _*_, _-_, _^_, _<_, _≤_};
 ghost use lib.ListN.{length};
 ghost use lib.Dec.{leb};
 ghost use mathlib.Core.List.{flatten};
 ghost use lib.IntN.{pos, natAbs, _*ℤ_};
 ghost use Rattle.mathematics.specs.Integers.{equal};
-ghost use Rattle.walker.specs.Walker.{excess, block-rows};
+ghost use Rattle.walker.specs.Walker.{width, excess, block-rows};
 ghost use Rattle.walker.specs.Steps.{Small, Addable};
 ghost use Rattle.cycles.specs.Cycles.{with-cycle};
 ghost use Rattle.mathematics.specs.Writing.{put};
 ghost use Rattle.walker.specs.Blocks.{Narrowed, SpanOfBlock};
 
+// The number of candidates in a block.
+pub fn width(n_free: usize, lambda: usize) -> usize
+    requires { ⌜ lambda ≤ 1000 ⌝ }
+    ensures { λ r. ⌜ r ≡ width lambda «n_free» ⌝ }
+{
+    if n_free == 0 { 1 } else { 2 * lambda + 1 }
+}
+
 // The numbers from one to before another.
 pub struct Span {
     pub from: usize,
     pub to: usize,
-}
-
-fn larger(a: usize, b: usize) -> usize
-    ensures { λ r. ⌜ r ≡ max a b ⌝ }
-{
-    if a < b { b } else { a }
-}
-
-fn smaller(a: usize, b: usize) -> usize
-    ensures { λ r. ⌜ r ≡ min a b ⌝ }
-{
-    if a < b { a } else { b }
 }
 
 // How far a is above b, 0 where it is not.
@@ -49,7 +47,7 @@ pub fn within(x: i32, lambda: usize) -> bool
     requires { ⌜ lambda ≤ 1000 ⌝ }
     ensures { λ r. ⌜ r ≡ leb (natAbs x) lambda ⌝ }
 {
-    (minus(lambda) <= x) & (x <= signed(lambda))
+    (negative(lambda) <= x) & (x <= usize_to_i32(lambda))
 }
 
 fn is_zero(sign: i8) -> bool
@@ -63,7 +61,7 @@ fn turn(sign: i8, x: i32) -> i32
     requires { ⌜ (natAbs sign ≤ 1) × (natAbs x ≤ 2 ^ 24) ⌝ }
     ensures { λ r. ⌜ r ≡ sign *ℤ x ⌝ }
 {
-    wide(sign) * x
+    i8_to_i32(sign) * x
 }
 
 // A span narrowed by one entry, to which its sign is added.
@@ -82,8 +80,8 @@ fn narrow(span: Span, x: i32, sign: i8, lambda: usize, width: usize) -> Span
     }
     let y = turn(sign, x);
     Span {
-        from: larger(span.from, excess(minus(lambda), y)),
-        to: smaller(span.to, excess(signed(lambda + 1), y)),
+        from: larger(span.from, excess(negative(lambda), y)),
+        to: smaller(span.to, excess(usize_to_i32(lambda + 1), y)),
     }
 }
 
@@ -117,9 +115,9 @@ fn write_row(states: &mut [i32], at: usize, config: &[i32], cycle: &[i8], times:
     requires { ⌜ Addable (now config) (pos times) (now cycle) × (times ≤ 2 ^ 20) × (at + length (now config) ≤ length (now states)) ⌝ }
     ensures { λ _. ⌜ now (states .exit) ≡ put (now (states .entry)) at (with-cycle (now (config .entry)) (pos times) (now (cycle .entry))) ⌝ }
 {
-    let t = signed(times);
+    let t = usize_to_i32(times);
     for e in 0..config.len() {
-        states[at + e] = plus(config[e], t, cycle[e]);
+        states[at + e] = plus_times(config[e], t, cycle[e]);
     }
 }
 

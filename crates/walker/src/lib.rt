@@ -1,7 +1,6 @@
-// The walk over all states of a complex, and the list that it gives.
+// The walk over all states of a complex: its tables, its steps and its blocks.
 
 pub mod blocks;
 pub mod row;
-pub mod states;
 pub mod steps;
 pub mod tables;

@@ -44,12 +44,8 @@ impl Fields {
         self.n_edges.holds(&[complex.edges.len() as u64])?;
         self.n_triangles.holds(&[complex.triangles.len() as u64])?;
         self.lambda.holds(&[sheet.lambda])?;
-        let filled_up = |mut flat: Vec<u8>, len: usize| {
-            flat.resize(len, 0);
-            flat
-        };
-        self.edges.holds(&filled_up(complex.flat_edges(), port::EDGE_BYTES))?;
-        self.triangles.holds(&filled_up(complex.flat_triangles(), port::TRIANGLE_BYTES))
+        self.edges.holds(&complex.flat_edges())?;
+        self.triangles.holds(&complex.flat_triangles())
     }
 
     fn unchanged(&self) -> Result<(), String> {

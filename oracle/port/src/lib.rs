@@ -115,6 +115,7 @@ mod raw {
             result: *mut f64,
             result_len: usize,
         ) -> i64;
+        pub fn zibrotka_refusal_text(number: u64, text: *mut u8, text_len: usize) -> i64;
     }
 }
 
@@ -303,4 +304,9 @@ pub fn build_su2_hamiltonian(
             result.len(),
         )
     }
+}
+
+/// The sentence of a refusal; answers how many bytes were written.
+pub fn refusal_text(number: u64, text: &mut [u8]) -> i64 {
+    unsafe { raw::zibrotka_refusal_text(number, text.as_mut_ptr(), text.len()) }
 }

@@ -2,87 +2,65 @@ use Rattle.complex.proofs.Triangles.{first-falls, second-falls, third-past, sid
 use borrow.Author.Needs.{needs}
 use Rattle.acceptance.proofs.triangle_fits.Statement.{statement}
 use Rattle.acceptance.proofs.triangle_fits.Tie as tie
-use Rattle.acceptance.proofs.triangle_fits.Reads as reads
-use Rattle.acceptance.proofs.triangle_fits.Lts as lts
-use Rattle.complex.proofs.numbering.byte.Reads as byte-reads
-use Rattle.acceptance.proofs.edge_number.Reads as edge-number-reads
 
--- src/judge.rt:80:28
 mul-byte : tie.Need-mul-byte
 mul-byte c = search needs
 
--- src/judge.rt:80:18
 element-copy-out-byte : tie.Need-element-copy-out-byte
 element-copy-out-byte c = search needs
 
--- src/judge.rt:80:9
 byte-requires : tie.Need-byte-requires
 byte-requires c κs = search needs
 
--- src/judge.rt:81:28
 mul-byte-2 : tie.Need-mul-byte-2
 mul-byte-2 c = search needs
 
--- src/judge.rt:81:28
 add-byte : tie.Need-add-byte
 add-byte c = search needs
 
--- src/judge.rt:81:18
 element-copy-out-byte-2 : tie.Need-element-copy-out-byte-2
 element-copy-out-byte-2 c = search needs
 
--- src/judge.rt:81:9
 byte-requires-2 : tie.Need-byte-requires-2
 byte-requires-2 c κs = search needs
 
--- src/judge.rt:82:28
 mul-byte-3 : tie.Need-mul-byte-3
 mul-byte-3 c = search needs
 
--- src/judge.rt:82:28
 add-byte-2 : tie.Need-add-byte-2
 add-byte-2 c = search needs
 
--- src/judge.rt:82:18
 element-copy-out-byte-3 : tie.Need-element-copy-out-byte-3
 element-copy-out-byte-3 c = search needs
 
--- src/judge.rt:82:9
 byte-requires-3 : tie.Need-byte-requires-3
 byte-requires-3 c κs = search needs
 
--- src/judge.rt:84:9
 returns : tie.Need-returns
 returns c =
     let b = c .before in
     let s = c .before .before .before .before .before .before .before in
     λ es i. first-falls _ _ _ _ _ (b .before .before .before .before .byte .ensures) (b .before .before .byte2 .ensures) (b .byte3 .ensures) _ es (c .if1 .taken)
 
--- src/judge.rt:87:9
 returns-2 : tie.Need-returns-2
 returns-2 c =
     let b = c .before .before in
     λ es i. second-falls _ _ _ _ _ (b .before .before .before .before .byte .ensures) (b .before .before .byte2 .ensures) (b .byte3 .ensures) _ es (c .before .if1 .left) (c .if2 .taken)
 
--- src/judge.rt:90:9
 returns-3 : tie.Need-returns-3
 returns-3 c =
     let b = c .before .before .before in
     λ es i. third-past _ _ _ _ _ (b .before .before .before .before .byte .ensures) (b .before .before .byte2 .ensures) (b .byte3 .ensures) _ es (c .before .before .if1 .left) (c .before .if2 .left) (c .if3 .taken)
 
--- src/judge.rt:92:6
 edge-number-requires : tie.Need-edge-number-requires
 edge-number-requires c κs = search needs
 
--- src/judge.rt:92:41
 edge-number-requires-2 : tie.Need-edge-number-requires-2
 edge-number-requires-2 c κs = search needs
 
--- src/judge.rt:92:75
 edge-number-requires-3 : tie.Need-edge-number-requires-3
 edge-number-requires-3 c κs = search needs
 
--- src/judge.rt:76:1
 returns-4 : tie.Need-returns-4
 returns-4 c =
     let e = c .before .before .before in

@@ -4,52 +4,37 @@ use Rattle.complex.proofs.Triangles.{known-first, known-number, key-is}
 use borrow.Author.Needs.{needs}
 use Rattle.acceptance.proofs.triangle_key.Statement.{statement}
 use Rattle.acceptance.proofs.triangle_key.Tie as tie
-use Rattle.acceptance.proofs.triangle_key.Reads as reads
-use Rattle.acceptance.proofs.triangle_key.Lts as lts
-use Rattle.complex.proofs.numbering.byte.Reads as byte-reads
-use Rattle.acceptance.proofs.edge_number.Reads as edge-number-reads
 
--- src/judge.rt:110:28
 mul-byte : tie.Need-mul-byte
 mul-byte c = search needs
 
--- src/judge.rt:110:18
 element-copy-out-byte : tie.Need-element-copy-out-byte
 element-copy-out-byte c = search needs
 
--- src/judge.rt:110:9
 byte-requires : tie.Need-byte-requires
 byte-requires c κs = search needs
 
--- src/judge.rt:111:28
 mul-byte-2 : tie.Need-mul-byte-2
 mul-byte-2 c = search needs
 
--- src/judge.rt:111:28
 add-byte : tie.Need-add-byte
 add-byte c = search needs
 
--- src/judge.rt:111:18
 element-copy-out-byte-2 : tie.Need-element-copy-out-byte-2
 element-copy-out-byte-2 c = search needs
 
--- src/judge.rt:111:9
 byte-requires-2 : tie.Need-byte-requires-2
 byte-requires-2 c κs = search needs
 
--- src/judge.rt:112:28
 mul-byte-3 : tie.Need-mul-byte-3
 mul-byte-3 c = search needs
 
--- src/judge.rt:112:28
 add-byte-2 : tie.Need-add-byte-2
 add-byte-2 c = search needs
 
--- src/judge.rt:112:18
 element-copy-out-byte-3 : tie.Need-element-copy-out-byte-3
 element-copy-out-byte-3 c = search needs
 
--- src/judge.rt:112:9
 byte-requires-3 : tie.Need-byte-requires-3
 byte-requires-3 c κs = search needs
 
@@ -66,25 +51,20 @@ number-at c =
     rw (c .edge-number .ensures)
     (known-number (s .args .triangles .now) (s .args .t) (b .before .before .before .before .byte .result) (b .before .before .byte2 .result) (b .byte3 .result) (b .before .before .before .before .byte .ensures) (b .before .before .byte2 .ensures) (b .byte3 .ensures) (s .args .table .now) (s .pre .1))
 
--- src/judge.rt:113:11
 edge-number-requires : tie.Need-edge-number-requires
 edge-number-requires c κs =
     let bytes = known-at c in
     (bytes .0, bytes .1)
 
--- src/judge.rt:113:11
 sub-result : tie.Need-sub-result
 sub-result c = omega (arith, number-at c)
 
--- src/judge.rt:113:5
 mul-result : tie.Need-mul-result
 mul-result c = omega (arith, number-at c)
 
--- src/judge.rt:113:5
 add-result : tie.Need-add-result
 add-result c = omega (arith, number-at c, known-at (c .before))
 
--- src/judge.rt:106:1
 returns : tie.Need-returns
 returns c =
     let b = c .before in

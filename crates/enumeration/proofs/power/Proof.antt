@@ -16,8 +16,8 @@ abbrev μ-loop : tie.MeasureT-loop
 loop-holds : tie.Need-loop-holds Inv-loop μ-loop
 loop-holds c = (omega arith, limited-one (c .args .base))
 
-grow-requires : tie.Need-grow-requires Inv-loop μ-loop
-grow-requires c κs = (c .before .loop .inv .1 .bound, c .before .before .pre .1)
+with-factor-requires : tie.Need-with-factor-requires Inv-loop μ-loop
+with-factor-requires c κs = (c .before .loop .inv .1 .bound, c .before .before .pre .1)
 
 add-j : tie.Need-add-j Inv-loop μ-loop
 add-j c = search needs
@@ -29,7 +29,7 @@ loop-again : tie.Need-loop-again Inv-loop μ-loop
 loop-again c =
     let at-loop = c .before .before in
     let start = at-loop .before in
-    (omega arith, rw (c .grow .ensures) (limited-more (start .args .base) (start .pre .0) (start .pre .1) (at-loop .loop .j) (at-loop .loop .product) (at-loop .loop .inv .1)))
+    (omega arith, rw (c .with-factor .ensures) (limited-more (start .args .base) (start .pre .0) (start .pre .1) (at-loop .loop .j) (at-loop .loop .product) (at-loop .loop .inv .1)))
 
 returns : tie.Need-returns Inv-loop μ-loop
 returns c =
@@ -39,4 +39,4 @@ returns c =
 pub power-spec : {M : Type 1} → statement M
 power-spec =
     tie.close
-    (tie.spec Inv-loop μ-loop loop-holds grow-requires add-j loop-less loop-again returns)
+    (tie.spec Inv-loop μ-loop loop-holds with-factor-requires add-j loop-less loop-again returns)

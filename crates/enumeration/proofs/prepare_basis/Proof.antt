@@ -30,7 +30,7 @@ returns : tie.Need-returns
 returns c = record-refused _ _ _ (c .before .before .judge-truncated .ensures) (c .before .if1 .taken) _ (c .unprepared .ensures)
 
 prepare-requires : tie.Need-prepare-requires
-prepare-requires c κs = accepted c .0
+prepare-requires c κs = accepted c
 
 too-many-requires : tie.Need-too-many-requires
 too-many-requires c κs = accepted (c .before) .1

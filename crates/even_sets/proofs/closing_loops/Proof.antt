@@ -37,41 +37,26 @@ loop-holds : tie.Need-loop-holds Inv-loop μ-loop
 unfolding grown separate
 loop-holds c = (omega arith, omega arith, separate-kept _ (c .separate .ensures))
 
-mul-byte : tie.Need-mul-byte Inv-loop μ-loop
-mul-byte c = let h = few c in search needs
+edge-start-requires : tie.Need-edge-start-requires Inv-loop μ-loop
+edge-start-requires c κs = few (c .before)
 
-array-read-byte : tie.Need-array-read-byte Inv-loop μ-loop
-array-read-byte c = omega (arith, few c)
-
-byte-requires : tie.Need-byte-requires Inv-loop μ-loop
-byte-requires c κs = search needs
-
-mul-byte-2 : tie.Need-mul-byte-2 Inv-loop μ-loop
-mul-byte-2 c = let h = few (c .before) in search needs
-
-add-byte : tie.Need-add-byte Inv-loop μ-loop
-add-byte c = let h = few (c .before) in search needs
-
-array-read-byte-2 : tie.Need-array-read-byte-2 Inv-loop μ-loop
-array-read-byte-2 c = omega (arith, few (c .before))
-
-byte-requires-2 : tie.Need-byte-requires-2 Inv-loop μ-loop
-byte-requires-2 c κs = search needs
+edge-end-requires : tie.Need-edge-end-requires Inv-loop μ-loop
+edge-end-requires c κs = few (c .before .before .before)
 
 grow-requires : tie.Need-grow-requires Inv-loop μ-loop
 unfolding entries
 grow-requires c κs =
     let at-b = c .before .before .before .before in
-    let at-a = at-b .before in
-    let turn = at-a .before in
+    let at-a = at-b .before .before in
+    let turn = at-a .before .before in
     let e = turn .before .loop .e in
     let r = turn .before .before .before .before .args .c in
     let ends = rw (simplex-at 2 (r .edges) (r .«n_edges») e (omega arith)) at (searchable turn .ends e (rw (simplices-length 2 (r .edges) (r .«n_edges»)) (omega arith))) in (
       keeps-sized _ _ (turn .before .loop .inv .2),
       turn .before .loop .inv .1,
       few turn,
-      rw (at-a .byte .ensures) (omega (arith, ends .0, ends .1)),
-      rw (at-b .byte2 .ensures) (ends .1),
+      rw (at-a .edge-start .ensures) (omega (arith, ends .0, ends .1)),
+      rw (at-b .edge-end .ensures) (ends .1),
       searchable turn .vertices-fit,
     )
 
@@ -85,13 +70,13 @@ loop-again : tie.Need-loop-again Inv-loop μ-loop
 unfolding grown entries
 loop-again c =
     let at-b = c .before .before .before .before .before in
-    let at-a = at-b .before in
-    let turn = at-a .before in
+    let at-a = at-b .before .before in
+    let turn = at-a .before .before in
     let e = turn .before .loop .e in
     let r = turn .before .before .before .before .args .c in
     let es = simplices 2 (r .edges) (r .«n_edges») in
-    let one : getD es e [] ≡ at-a .byte .result ∷ at-b .byte2 .result ∷ [] =
-    simplex-at 2 (r .edges) (r .«n_edges») e (omega arith) ∙ rw (at-a .byte .ensures, at-b .byte2 .ensures) in
+    let one : getD es e [] ≡ at-a .edge-start .result ∷ at-b .edge-end .result ∷ [] =
+    simplex-at 2 (r .edges) (r .«n_edges») e (omega arith) ∙ rw (at-a .edge-start .ensures, at-b .edge-end .ensures) in
     let within = grown-within (r .«n_vertices») es (searchable turn .ends) e (rw (simplices-length 2 (r .edges) (r .«n_edges»)) (turn .before .loop .inv .0)) in (
       omega arith,
       omega (arith, c .grow .ensures .few, turn .before .loop .inv .1),
@@ -112,13 +97,8 @@ closing-loops-spec =
     μ-loop
     separate-requires
     loop-holds
-    mul-byte
-    array-read-byte
-    byte-requires
-    mul-byte-2
-    add-byte
-    array-read-byte-2
-    byte-requires-2
+    edge-start-requires
+    edge-end-requires
     grow-requires
     add-e
     loop-less

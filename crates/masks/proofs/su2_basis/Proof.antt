@@ -1,16 +1,26 @@
 use Prim.Native.Nat.{_*_, _%_, _^_, _≤_}
-use mathlib.Core.Path.{_≡_, sym, _∙_}
+use mathlib.Core.Path.{_≡_, refl, sym, _∙_}
 use native.Mathlib.Omega.{arith}
+use borrow.Author.Tests.{ne-eqb, lt-ltb, le-ltb}
 use Rattle.mathematics.proofs.Bits.{power-shifted}
 use Rattle.complex.specs.Complex.{complexOf}
 use Rattle.complex.specs.Judge.{refusal}
-use Rattle.masks.proofs.Telling.{record-refused, limit-refused, room-refused, states-listed}
+use Rattle.complex.proofs.Refusing.{record-refuses}
+use Rattle.mathematics.proofs.Calls.{none, here, past, refuses, ends}
+use Rattle.answers.specs.Answer.{numberAnswer}
+use Rattle.masks.specs.Place.{LoopsOf}
+use Rattle.masks.specs.Basis.{su2-basis-call}
+use Rattle.masks.proofs.Placing.{loops-of, states-number}
+use Rattle.masks.proofs.Telling.{limit-refuses, past-masks, masks-known, masks-written}
 use borrow.Author.Needs.{needs}
 use Rattle.masks.proofs.su2_basis.Statement.{statement}
 use Rattle.masks.proofs.su2_basis.Tie as tie
 
 good : (c : tie.Else1) → refusal (complexOf (c .before .before .before .args .c)) ≡ 0
 good c = sym (c .before .judge .ensures) ∙ c .if1 .left
+
+loops : (c : tie.After-closing-loops) → LoopsOf (complexOf (c .before .before .before .before .args .c)) (c .closing-loops .result)
+loops c = loops-of _ (good (c .before)) _ (c .closing-loops .ensures)
 
 few : (c : tie.Else2) → c .before .closing-loops .result .count ≤ 20
 few c = omega arith
@@ -23,21 +33,25 @@ judge-requires : tie.Need-judge-requires
 judge-requires c κs = search needs
 
 returns : tie.Need-returns
-returns c = record-refused _ _ _ (c .before .judge .ensures) (c .if1 .taken)
+unfolding su2-basis-call numberAnswer
+returns c = refuses _ (record-refuses _ (c .before .judge .ensures) (c .if1 .taken) _) (ne-eqb _ 0 (c .if1 .taken))
 
 closing-loops-requires : tie.Need-closing-loops-requires
 closing-loops-requires c κs = search needs
 
 returns-2 : tie.Need-returns-2
-returns-2 c = limit-refused _ _ (good (c .before .before)) _ (c .before .closing-loops .ensures) (c .if2 .taken)
+unfolding su2-basis-call numberAnswer
+returns-2 c = refuses _ (limit-refuses (good (c .before .before)) (loops (c .before)) (c .if2 .taken) _) refl
 
 shl-count : tie.Need-shl-count
 shl-count c = search needs
 
 returns-3 : tie.Need-returns-3
+unfolding su2-basis-call numberAnswer
 returns-3 c =
     let small = c .before in
-    room-refused _ _ (good (small .before .before)) _ (small .before .closing-loops .ensures) (few small) (rw (number small) at (c .if3 .taken))
+    let of = loops (small .before) in
+    refuses _ (past-masks (good (small .before .before)) of (few small) (here (rw (states-number _ _ of) (lt-ltb _ _ (rw (number small) at (c .if3 .taken)))))) refl
 
 write-masks-requires : tie.Need-write-masks-requires
 write-masks-requires c κs =
@@ -48,10 +62,14 @@ same-length : tie.Need-same-length
 same-length c = search needs
 
 returns-4 : tie.Need-returns-4
+unfolding su2-basis-call numberAnswer
 returns-4 c =
     let small = c .before .before .before .before .before .before .before in
     let enough = c .before .before .before .before .before .before in
-    states-listed _ _ (good (small .before .before)) _ (small .before .closing-loops .ensures) (few small) (rw (number small) at (enough .if3 .left)) _ _ (number small) (c .before .before .write-masks .ensures)
+    let right = good (small .before .before) in
+    let of = loops (small .before) in
+    ends _ (past-masks right of (few small) (past (rw (states-number _ _ of) (le-ltb _ _ (rw (number small) at (enough .if3 .left)))) none))
+    (number small ∙ sym (states-number _ _ of)) (masks-written right of _ _ (c .before .before .write-masks .ensures)) (masks-known right of (few small))
 
 pub su2-basis-spec : {M : Type 1} → statement M
 su2-basis-spec =

@@ -15,11 +15,6 @@ use Rattle.sheet.proofs.Headers.{mark-test}
 use borrow.Author.Needs.{needs}
 use Rattle.sheet.proofs.judge_header.Statement.{statement}
 use Rattle.sheet.proofs.judge_header.Tie as tie
-use Rattle.sheet.proofs.judge_header.Reads as reads
-use Rattle.sheet.proofs.judge_header.Lts as lts
-use Rattle.complex.proofs.numbering.byte.Reads as byte-reads
-use Rattle.acceptance.proofs.counts_right.Reads as counts-right-reads
-use Rattle.sheet.proofs.word.Reads as word-reads
 
 -- the bytes that are judged
 abbrev to-1 : tie.Else2 → tie.Else1
@@ -69,103 +64,81 @@ few c =
     let k = counts _ _ _ (passed-4 (to-4 c)) in
     (rw (to-4 c .before .before .before .before .before .byte .ensures) (k .edges), rw (to-4 c .before .before .before .before .word2 .ensures .0) (k .triangles))
 
--- src/lib.rt:51:9
 returns : tie.Need-returns
 unfolding first header-tests
 returns c = rw (lt-ltb _ _ (c .if1 .taken))
 
--- src/lib.rt:53:11
 shared-slice-read-if2 : tie.Need-shared-slice-read-if2
 shared-slice-read-if2 c = search needs
 
--- src/lib.rt:53:27
 shared-slice-read-if2-2 : tie.Need-shared-slice-read-if2-2
 shared-slice-read-if2-2 c = search needs
 
--- src/lib.rt:53:42
 shared-slice-read-if2-3 : tie.Need-shared-slice-read-if2-3
 shared-slice-read-if2-3 c = search needs
 
--- src/lib.rt:54:9
 returns-2 : tie.Need-returns-2
 unfolding first header-tests
 returns-2 c = rw (passed-1 (c .before .before .before .before), failed-2 c)
 
--- src/lib.rt:56:8
 word-requires : tie.Need-word-requires
 word-requires c κs = search needs
 
--- src/lib.rt:57:9
 returns-3 : tie.Need-returns-3
 unfolding first header-tests
 returns-3 c = rw (passed-1 (to-1 (c .before .before)), passed-2 (c .before .before), ← c .before .word .ensures .0, ne-eqb _ _ (c .if3 .taken))
 
--- src/lib.rt:59:18
 shared-slice-read-byte : tie.Need-shared-slice-read-byte
 shared-slice-read-byte c = search needs
 
--- src/lib.rt:59:9
 byte-requires : tie.Need-byte-requires
 byte-requires c κs = search needs
 
--- src/lib.rt:60:9
 word-requires-2 : tie.Need-word-requires-2
 word-requires-2 c κs = search needs
 
--- src/lib.rt:61:27
 shared-slice-read-byte-2 : tie.Need-shared-slice-read-byte-2
 shared-slice-read-byte-2 c = search needs
 
--- src/lib.rt:61:22
 byte-requires-2 : tie.Need-byte-requires-2
 byte-requires-2 c κs = search needs
 
--- src/lib.rt:61:9
 counts-right-requires : tie.Need-counts-right-requires
 counts-right-requires c κs = search needs
 
--- src/lib.rt:62:9
 returns-4 : tie.Need-returns-4
 unfolding first header-tests
 returns-4 c =
     let e = c .before .before .before .before .before .before .before in
     rw (passed-1 (to-1 (to-2 e)), passed-2 (to-2 e), passed-3 e, counted (c .before), not-true (c .before .counts-right .result) (c .if4 .taken))
 
--- src/lib.rt:64:15
 word-requires-3 : tie.Need-word-requires-3
 word-requires-3 c κs = search needs
 
--- src/lib.rt:65:9
 returns-5 : tie.Need-returns-5
 unfolding first header-tests
 returns-5 c =
     let e = c .before .before in
     rw (passed-1 (to-1 (to-2 (to-3 e))), passed-2 (to-2 (to-3 e)), passed-3 (to-3 e), passed-4 e, ← c .before .word3 .ensures .0, lt-ltb _ _ (c .if5 .taken))
 
--- src/lib.rt:67:24
 mul-if6 : tie.Need-mul-if6
 mul-if6 c = omega (arith, few c)
 
--- src/lib.rt:67:19
 add-if6 : tie.Need-add-if6
 add-if6 c = omega (arith, few c)
 
--- src/lib.rt:67:32
 mul-if6-2 : tie.Need-mul-if6-2
 mul-if6-2 c = search needs
 
--- src/lib.rt:67:19
 add-if6-2 : tie.Need-add-if6-2
 add-if6-2 c = omega (arith, few c)
 
--- src/lib.rt:68:9
 returns-6 : tie.Need-returns-6
 unfolding first header-tests
 returns-6 c =
     let e = to-4 (c .before) in
     rw (passed-1 (to-1 (to-2 (to-3 e))), passed-2 (to-2 (to-3 e)), passed-3 (to-3 e), passed-4 e, passed-5 (c .before), ← e .before .before .before .before .before .byte .ensures, ← e .before .before .before .before .word2 .ensures .0, ne-eqb _ _ (c .if6 .taken))
 
--- src/lib.rt:47:1
 returns-7 : tie.Need-returns-7
 unfolding first header-tests
 returns-7 c =

@@ -7,20 +7,12 @@ use Rattle.sheet.proofs.Sheets.{header-refused, shape-refused, read-acc
 use borrow.Author.Needs.{needs}
 use Rattle.sheet.proofs.read_sheet.Statement.{statement}
 use Rattle.sheet.proofs.read_sheet.Tie as tie
-use Rattle.sheet.proofs.read_sheet.Reads as reads
-use Rattle.sheet.proofs.read_sheet.Lts as lts
-use Rattle.acceptance.proofs.judge.Reads as judge-reads
-use Rattle.sheet.proofs.judge_header.Reads as judge-header-reads
-use Rattle.sheet.proofs.refused.Reads as refused-reads
-use Rattle.sheet.proofs.sheet_in.Reads as sheet-in-reads
 
--- src/lib.rt:129:9
 judge-header-requires : tie.Need-judge-header-requires
 judge-header-requires c κs = search needs
 
--- src/lib.rt:131:9
-refused-requires : tie.Need-refused-requires
-refused-requires c κs = search needs
+refused-sheet-requires : tie.Need-refused-sheet-requires
+refused-sheet-requires c κs = search needs
 
 -- the header is right
 none : (c : tie.Else1) → first (header-tests (c .before .before .before .args .b .now)) ≡ 0
@@ -30,28 +22,22 @@ none c = sym (c .before .judge-header .ensures) ∙ c .if1 .left
 judged : (c : tie.After-judge) → c .judge .result ≡ refusal (complexOf (sheetIn (c .before .before .before .before .before .before .args .b .now) .complex))
 judged c = c .judge .ensures ∙ ap (λ s. refusal (complexOf (s .complex))) (c .before .before .sheet-in .ensures)
 
--- src/lib.rt:131:9
 returns : tie.Need-returns
-returns c = read-told _ _ (c .refused .ensures ∙ header-refused _ _ (c .before .before .judge-header .ensures) (c .before .if1 .taken))
+returns c = read-told _ _ (c .refused-sheet .ensures ∙ header-refused _ _ (c .before .before .judge-header .ensures) (c .before .if1 .taken))
 
--- src/lib.rt:133:9
 sheet-in-requires : tie.Need-sheet-in-requires
 sheet-in-requires c κs = none c
 
--- src/lib.rt:135:9
 judge-requires : tie.Need-judge-requires
 judge-requires c κs = search needs
 
--- src/lib.rt:137:9
-refused-requires-2 : tie.Need-refused-requires-2
-refused-requires-2 c κs = search needs
+refused-sheet-requires-2 : tie.Need-refused-sheet-requires-2
+refused-sheet-requires-2 c κs = search needs
 
--- src/lib.rt:137:9
 returns-2 : tie.Need-returns-2
 returns-2 c =
-    read-told _ _ (c .refused2 .ensures ∙ shape-refused _ (none (c .before .before .before .before .before)) _ (judged (c .before .before)) (c .before .if2 .taken))
+    read-told _ _ (c .refused-sheet2 .ensures ∙ shape-refused _ (none (c .before .before .before .before .before)) _ (judged (c .before .before)) (c .before .if2 .taken))
 
--- src/lib.rt:126:1
 returns-3 : tie.Need-returns-3
 returns-3 c =
     let e = c .before .before .before in
@@ -62,10 +48,10 @@ read-sheet-spec =
     tie.close
     (tie.spec
     judge-header-requires
-    refused-requires
+    refused-sheet-requires
     returns
     sheet-in-requires
     judge-requires
-    refused-requires-2
+    refused-sheet-requires-2
     returns-2
     returns-3)

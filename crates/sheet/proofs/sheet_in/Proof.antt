@@ -8,12 +8,6 @@ use Rattle.sheet.proofs.Sheets.{Header, header-of}
 use borrow.Author.Needs.{needs}
 use Rattle.sheet.proofs.sheet_in.Statement.{statement}
 use Rattle.sheet.proofs.sheet_in.Tie as tie
-use Rattle.sheet.proofs.sheet_in.Reads as reads
-use Rattle.sheet.proofs.sheet_in.Lts as lts
-use Rattle.complex.proofs.numbering.byte.Reads as byte-reads
-use Rattle.sheet.proofs.edges_in.Reads as edges-in-reads
-use Rattle.sheet.proofs.triangles_in.Reads as triangles-in-reads
-use Rattle.sheet.proofs.word.Reads as word-reads
 
 -- the first eleven bytes were judged
 head : (c : tie.Start) → Header (c .args .b .now)
@@ -31,55 +25,42 @@ sizes c =
     let triangles = c .word .ensures .0 in
     (omega arith, omega arith, omega arith)
 
--- src/lib.rt:108:18
 shared-slice-read-byte : tie.Need-shared-slice-read-byte
 shared-slice-read-byte c = omega (arith, head (c .before .before) .long)
 
--- src/lib.rt:108:9
 byte-requires : tie.Need-byte-requires
 byte-requires c κs = search needs
 
--- src/lib.rt:109:18
 shared-slice-read-byte-2 : tie.Need-shared-slice-read-byte-2
 shared-slice-read-byte-2 c = let h = head (c .before .before .before .before) .long in search needs
 
--- src/lib.rt:109:9
 byte-requires-2 : tie.Need-byte-requires-2
 byte-requires-2 c κs = search needs
 
--- src/lib.rt:110:9
 word-requires : tie.Need-word-requires
 word-requires c κs = omega (arith, head (c .before .before .before .before .before) .long)
 
--- src/lib.rt:111:9
 word-requires-2 : tie.Need-word-requires-2
 word-requires-2 c κs = omega (arith, head (c .before .before .before .before .before .before) .long)
 
--- src/lib.rt:112:33
 mul-edges-in : tie.Need-mul-edges-in
 mul-edges-in c = omega (arith, sizes (c .before))
 
--- src/lib.rt:112:9
 edges-in-requires : tie.Need-edges-in-requires
 edges-in-requires c κs = omega (arith, sizes (c .before))
 
--- src/lib.rt:113:42
 mul-triangles-in : tie.Need-mul-triangles-in
 mul-triangles-in c = omega (arith, sizes (c .before .before))
 
--- src/lib.rt:113:37
 add-triangles-in : tie.Need-add-triangles-in
 add-triangles-in c = omega (arith, sizes (c .before .before))
 
--- src/lib.rt:113:49
 mul-triangles-in-2 : tie.Need-mul-triangles-in-2
 mul-triangles-in-2 c = omega (arith, sizes (c .before .before))
 
--- src/lib.rt:113:9
 triangles-in-requires : tie.Need-triangles-in-requires
 triangles-in-requires c κs = omega (arith, sizes (c .before .before))
 
--- src/lib.rt:104:1
 returns : tie.Need-returns
 unfolding sheetIn
 returns c =

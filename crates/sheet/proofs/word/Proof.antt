@@ -4,27 +4,19 @@ use Rattle.sheet.specs.Sheet.{word}
 use borrow.Author.Needs.{needs}
 use Rattle.sheet.proofs.word.Statement.{statement}
 use Rattle.sheet.proofs.word.Tie as tie
-use Rattle.sheet.proofs.word.Reads as reads
-use Rattle.sheet.proofs.word.Lts as lts
-use Rattle.complex.proofs.numbering.byte.Reads as byte-reads
 
--- src/lib.rt:43:10
 shared-slice-read-byte : tie.Need-shared-slice-read-byte
 shared-slice-read-byte c = search needs
 
--- src/lib.rt:43:5
 byte-requires : tie.Need-byte-requires
 byte-requires c κs = search needs
 
--- src/lib.rt:43:31
 add-byte : tie.Need-add-byte
 add-byte c = search needs
 
--- src/lib.rt:43:29
 shared-slice-read-byte-2 : tie.Need-shared-slice-read-byte-2
 shared-slice-read-byte-2 c = search needs
 
--- src/lib.rt:43:24
 byte-requires-2 : tie.Need-byte-requires-2
 byte-requires-2 c κs = search needs
 
@@ -35,15 +27,12 @@ first-byte c = omega (arith, c .byte .ensures, c .before .shared-slice-known2 .g
 second-byte : (c : tie.After-byte2) → c .byte2 .result < 256
 second-byte c = omega (arith, c .byte2 .ensures, c .before .shared-slice-known3 .given (c .before .before .before .before .before .args .i + 1))
 
--- src/lib.rt:43:18
 mul-result : tie.Need-mul-result
 mul-result c = omega (arith, second-byte c)
 
--- src/lib.rt:43:5
 add-result : tie.Need-add-result
 add-result c = omega (arith, second-byte c, first-byte (c .before .before))
 
--- src/lib.rt:39:1
 returns : tie.Need-returns
 unfolding word
 returns c = (rw (c .before .before .byte .ensures, c .byte2 .ensures), omega (arith, second-byte c, first-byte (c .before .before)))

@@ -1,14 +1,14 @@
 use Prim.Native.Nat.{_-_, _<_, _≤_}
 use mathlib.Core.Bool.{false, _||_}
-use mathlib.Core.Path.{_≡_, sym, ap, _∙_}
+use mathlib.Core.Path.{_≡_, refl, sym, ap, _∙_}
 use native.Mathlib.Omega.{arith}
 use lib.Dec.{ltb}
 use lib.IntN.{pos, natAbs, _+ℤ_}
 use lib.ListN.{length, take, getD}
 use mir.Syntax.{w32}
 use mir.Val.{toZ, ofZ}
-use borrow.Author.Tests.{not-true, not-false, leb-true, ltb-false}
-use Rattle.mathematics.specs.Refusals.{first}
+use borrow.Author.Tests.{eq-eqb, ne-eqb, le-leb, lt-leb, not-true, not-false, leb-true, ltb-false}
+use Rattle.mathematics.proofs.Calls.{none, here, past, both}
 use Rattle.mathematics.proofs.Tests.{or-fell}
 use Rattle.mathematics.proofs.Signed.{back32}
 use Rattle.complex.specs.Complex.{complexOf}
@@ -16,17 +16,17 @@ use Rattle.complex.proofs.Accepting.{accepted}
 use Rattle.gauss_law.specs.Shifts.{raised, shifted}
 use Rattle.gauss_law.proofs.Shifts.{shifted-length}
 use Rattle.gauss_law.proofs.Spanned.{edges-long}
-use Rattle.enumeration.specs.Enumeration.{basis-tests, short, BasisWalks}
-use Rattle.enumeration.proofs.Enumerating.{short-told}
+use Rattle.enumeration.specs.Enumeration.{short, BasisWalks}
+use Rattle.enumeration.proofs.Enumerating.{basis-refuses, past-basis, basis-not-17, short-told}
 use Rattle.hilbert.specs.Basis.{in-basis}
 use Rattle.gauss_law.specs.Gauss.{within}
-use Rattle.shifts.proofs.Shifting.{basis-refused, length-refused, edge-refused, room-refused, band-refused, unlisted, placed, row-front}
+use Rattle.hilbert.proofs.Order.{in-basis-at}
+use Rattle.hilbert.proofs.Indexing.{index-refused, unlisted, indexed}
+use Rattle.shifts.specs.Shift.{shift-call}
+use Rattle.shifts.proofs.Shifting.{row-front, shifted-front}
 use borrow.Author.Needs.{needs}
 use Rattle.shifts.proofs.apply_shift.Statement.{statement}
 use Rattle.shifts.proofs.apply_shift.Tie as tie
-
-none : (c : tie.Else1) → first (basis-tests (complexOf (c .before .before .args .c)) (c .before .before .args .lambda)) ≡ 0
-none c = sym (c .before .prepare-basis .ensures .refusal) ∙ c .if1 .left
 
 basis : (c : tie.Else1) → BasisWalks (complexOf (c .before .before .args .c)) (c .before .before .args .lambda) (c .before .prepare-basis .result .walker) (c .before .prepare-basis .result .blocks)
 basis c = c .before .prepare-basis .ensures .basis (c .if1 .left)
@@ -73,27 +73,33 @@ prepare-basis-requires : tie.Need-prepare-basis-requires
 prepare-basis-requires c κs = search needs
 
 returns : tie.Need-returns
-returns c = basis-refused _ _ _ _ _ _ _ _ (c .before .prepare-basis .ensures .refusal) (c .if1 .taken)
+unfolding shift-call
+returns c =
+    let p = c .before .prepare-basis .ensures in
+    index-refused _ (basis-refuses p (c .if1 .taken) _) (ne-eqb _ 0 (c .if1 .taken)) (basis-not-17 p)
 
 returns-2 : tie.Need-returns-2
+unfolding shift-call
 returns-2 c =
     let judged = c .before in
-    length-refused _ _ _ _ _ _ _ (none judged) (λ z. c .if2 .taken (z ∙ edges-long (judged .before .before .args .c)))
+    index-refused _ (past-basis (judged .before .prepare-basis .ensures) (judged .if1 .left) (here (rw (ne-eqb _ _ (λ z. c .if2 .taken (z ∙ edges-long (judged .before .before .args .c))))))) refl refl
 
 returns-3 : tie.Need-returns-3
+unfolding shift-call
 returns-3 c =
     let long = c .before in
-    edge-refused _ _ _ _ _ _ _ (none (long .before)) (sized long) (rw (edges-long (long .before .before .before .args .c)) (c .if3 .taken))
+    let start = long .before .before .before in
+    index-refused _ (past-basis (long .before .before .prepare-basis .ensures) (long .before .if1 .left) (past (rw (eq-eqb _ _ (sized long))) (here (le-leb (length (complexOf (start .args .c) .edges)) (start .args .edge) (rw (edges-long (start .args .c)) (c .if3 .taken)))))) refl refl
 
 too-short-requires : tie.Need-too-short-requires
 too-short-requires c κs = basis (c .before .before .before) .fit
 
 returns-4 : tie.Need-returns-4
+unfolding shift-call
 returns-4 c =
     let edge-is = c .before .before .before in
     let long = edge-is .before in
-    let start = long .before .before .before in
-    room-refused _ _ _ _ _ _ _ (none (long .before)) (sized long) (edge edge-is) (rooms (c .before) ∙ c .if4 .taken)
+    index-refused _ (past-basis (long .before .before .prepare-basis .ensures) (long .before .if1 .left) (past (rw (eq-eqb _ _ (sized long))) (past (lt-leb _ _ (edge edge-is)) (here (rooms (c .before) ∙ c .if4 .taken))))) refl refl
 
 mul-sum-within : tie.Need-mul-sum-within
 mul-sum-within c = search needs
@@ -105,11 +111,12 @@ sum-within-requires : tie.Need-sum-within-requires
 sum-within-requires c κs = basis (c .before .before .before .before .before .before) .truncation
 
 returns-5 : tie.Need-returns-5
+unfolding shift-call
 returns-5 c =
     let enough = c .before .before .before in
     let edge-is = enough .before .before .before in
     let long = edge-is .before in
-    band-refused _ _ _ _ _ _ _ (none (long .before)) (sized long) (edge edge-is) (room enough) (band-told (c .before) ∙ not-true _ (c .if5 .taken))
+    index-refused _ (past-basis (long .before .before .prepare-basis .ensures) (long .before .if1 .left) (past (rw (eq-eqb _ _ (sized long))) (past (lt-leb _ _ (edge edge-is)) (past (room enough) (here (rw (band-told (c .before) ∙ not-true _ (c .if5 .taken)))))))) refl refl
 
 mul-sum : tie.Need-mul-sum
 mul-sum c = search needs
@@ -171,14 +178,15 @@ in-basis-requires c κs =
     (accepted _ .1 (basis (long .before) .walks .accepted), basis (long .before) .truncation, rw (row made) (shifted-length (start .args .configuration .now) (start .args .edge) (start .args .delta) ∙ long .if2 .left))
 
 returns-6 : tie.Need-returns-6
+unfolding shift-call
 returns-6 c =
     let made = c .before .before .before .before in
     let band = made .before .before .before in
     let enough = band .before .before .before in
     let edge-is = enough .before .before .before in
     let long = edge-is .before in
-    unlisted _ _ _ _ _ _ _ (none (long .before)) (sized long) (edge edge-is) (room enough) (band-told (band .before) ∙ not-false _ (band .if5 .left))
-    (ap (in-basis _ _) (sym (row made)) ∙ sym (c .before .in-basis .ensures) ∙ not-true _ (c .if6 .taken))
+    unlisted _ (past-basis (long .before .before .prepare-basis .ensures) (long .before .if1 .left) (past (rw (eq-eqb _ _ (sized long))) (past (lt-leb _ _ (edge edge-is)) (past (room enough) (past (rw (band-told (band .before) ∙ not-false _ (band .if5 .left)))
+    (here (rw (ap (in-basis _ _) (sym (row made)) ∙ sym (c .before .in-basis .ensures) ∙ not-true _ (c .if6 .taken)))))))))
 
 write-shifted-requires : tie.Need-write-shifted-requires
 write-shifted-requires c κs =
@@ -220,7 +228,7 @@ same-length-2 : tie.Need-same-length-2
 same-length-2 c = search needs
 
 returns-7 : tie.Need-returns-7
-unfolding shifted
+unfolding shifted shift-call
 returns-7 c =
     let shown = c .before .before .before .before .before .before .before .before in
     let made = shown .before .before .before .before in
@@ -228,11 +236,14 @@ returns-7 c =
     let enough = band .before .before .before in
     let edge-is = enough .before .before .before in
     let long = edge-is .before in
-    let found = c .before .list-and-find .ensures _ (basis (long .before)) in
-    placed _ _ _ _ _ _ _ (none (long .before)) (sized long) (edge edge-is) (room enough) (band-told (band .before) ∙ not-false _ (band .if5 .left)) (basis (long .before))
-    (ap (in-basis _ _) (sym (row made)) ∙ sym (shown .before .in-basis .ensures) ∙ not-false _ (shown .if6 .left))
-    _ _ (rw (row made) at found)
-    _ (c .before .before .before .before .before .before .write-shifted .ensures ∙ rw (value (made .before)))
+    let start = row-start made in
+    let found = rw (row made) at (c .before .list-and-find .ensures _ (basis (long .before))) in
+    let sized-too = shifted-length (start .args .configuration .now) (start .args .edge) (start .args .delta) ∙ sized long in
+    let listed = ap (in-basis _ _) (sym (row made)) ∙ sym (shown .before .in-basis .ensures) ∙ not-false _ (shown .if6 .left) in
+    indexed _ (past-basis (long .before .before .prepare-basis .ensures) (long .before .if1 .left) (past (rw (eq-eqb _ _ (sized long))) (past (lt-leb _ _ (edge edge-is)) (past (room enough) (past (rw (band-told (band .before) ∙ not-false _ (band .if5 .left))) (past (rw listed) none))))))
+    (found .found (sized-too, listed))
+    (both (found .list) (shifted-front (start .args .configuration .now) (start .args .edge) (start .args .delta) (start .args .result .now) _ (c .before .before .before .before .before .before .write-shifted .ensures ∙ rw (value (made .before)))))
+    (record { found = in-basis-at _ (basis (long .before) .walks .accepted) _ _ sized-too listed; few = basis (long .before) .few })
 
 pub apply-shift-spec : {M : Type 1} → statement M
 apply-shift-spec =

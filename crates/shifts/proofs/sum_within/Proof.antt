@@ -11,12 +11,12 @@ use borrow.Author.Needs.{needs}
 use Rattle.shifts.proofs.sum_within.Statement.{statement}
 use Rattle.shifts.proofs.sum_within.Tie as tie
 
-wide-requires : tie.Need-wide-requires
-wide-requires c κs = search needs
+i32-to-i64-requires : tie.Need-i32-to-i64-requires
+i32-to-i64-requires c κs = search needs
 
 -- the first value, and the sum
-value : (c : tie.After-wide) → toZ w64 (ofZ w64 (c .wide .result)) ≡ c .before .args .x
-value c = back64 (c .wide .result) (c .wide .ok) ∙ c .wide .ensures ∙ back32 (c .before .args .x) (c .before .fits .x .sfits)
+value : (c : tie.After-i32-to-i64) → toZ w64 (ofZ w64 (c .i32-to-i64 .result)) ≡ c .before .args .x
+value c = back64 (c .i32-to-i64 .result) (c .i32-to-i64 .ok) ∙ c .i32-to-i64 .ensures ∙ back32 (c .before .args .x) (c .before .fits .x .sfits)
 
 plus-requires : tie.Need-plus-requires
 plus-requires c κs = rw (value c) (omega (arith, size-within (c .before .args .x) (c .before .fits .x .sfits)))
@@ -24,17 +24,17 @@ plus-requires c κs = rw (value c) (omega (arith, size-within (c .before .args .
 sum : (c : tie.After-plus) → toZ w64 (ofZ w64 (c .plus .result)) ≡ _+ℤ_ (c .before .before .args .x) (c .before .before .args .delta)
 sum c = back64 (c .plus .result) (c .plus .ok) ∙ c .plus .ensures ∙ rw (value (c .before), back32 (c .before .before .args .delta) (c .before .before .fits .delta .sfits))
 
-signed-requires : tie.Need-signed-requires
-signed-requires c κs = search needs
+usize-to-i32-requires : tie.Need-usize-to-i32-requires
+usize-to-i32-requires c κs = search needs
 
-wide-requires-2 : tie.Need-wide-requires-2
-wide-requires-2 c κs = search needs
+i32-to-i64-requires-2 : tie.Need-i32-to-i64-requires-2
+i32-to-i64-requires-2 c κs = search needs
 
 -- the limit, and what is below it
-limit : (c : tie.After-wide2) → toZ w64 (ofZ w64 (c .wide2 .result)) ≡ pos (c .before .before .before .before .args .lambda)
-limit c = back64 (c .wide2 .result) (c .wide2 .ok) ∙ c .wide2 .ensures ∙ back32 (c .before .signed .result) (c .before .signed .ok) ∙ c .before .signed .ensures
+limit : (c : tie.After-i32-to-i642) → toZ w64 (ofZ w64 (c .i32-to-i642 .result)) ≡ pos (c .before .before .before .before .args .lambda)
+limit c = back64 (c .i32-to-i642 .result) (c .i32-to-i642 .ok) ∙ c .i32-to-i642 .ensures ∙ back32 (c .before .usize-to-i32 .result) (c .before .usize-to-i32 .ok) ∙ c .before .usize-to-i32 .ensures
 
-minus-limit : (c : tie.After-wide2) → pos 0 -ℤ toZ w64 (ofZ w64 (c .wide2 .result)) ≡ negℤ (pos (c .before .before .before .before .args .lambda))
+minus-limit : (c : tie.After-i32-to-i642) → pos 0 -ℤ toZ w64 (ofZ w64 (c .i32-to-i642 .result)) ≡ negℤ (pos (c .before .before .before .before .args .lambda))
 minus-limit c = rw (limit c) (+ℤ-idl _)
 
 sub-result : tie.Need-sub-result
@@ -51,4 +51,4 @@ returns c =
 pub sum-within-spec : {M : Type 1} → statement M
 sum-within-spec =
     tie.close
-    (tie.spec wide-requires plus-requires signed-requires wide-requires-2 sub-result returns)
+    (tie.spec i32-to-i64-requires plus-requires usize-to-i32-requires i32-to-i64-requires-2 sub-result returns)

@@ -9,7 +9,6 @@ use Rattle.triangles.proofs.sides_of.Statement.{statement}
 use Rattle.triangles.proofs.sides_of.Tie as tie
 use Rattle.triangles.proofs.sides_of.Reads as reads
 use Rattle.triangles.proofs.sides_of.Lts as lts
-use Rattle.complex.proofs.numbering.byte.Reads as byte-reads
 use Rattle.acceptance.proofs.edge_number.Reads as edge-number-reads
 
 -- src/triangle.rt:23:28

@@ -1,21 +1,17 @@
 use borrow.Author.Needs.{needs}
-use Prim.Native.Nat.{ℕ, _<_, _≤_, _-_, _+_}
-use mathlib.Core.List.{List, _++_}
-use mathlib.Core.Path.{_≡_, refl, sym, subst}
+use Prim.Native.Nat.{ℕ, _<_, _≤_, _-_}
+use mathlib.Core.List.{List}
+use mathlib.Core.Path.{_≡_, refl}
 use native.Mathlib.Omega.{arith}
 use lib.ListN.{length, getD, take}
 use lib.Seq.{take-length}
 use lib.Dec.{eqb}
-use Rattle.mathematics.specs.Lists.{noted, notedAll}
+use Rattle.mathematics.specs.Lists.{notedAll}
 use Rattle.mathematics.proofs.Lists.{notedAll-last}
 use Rattle.mathematics.proofs.Front.{take-next}
 use Rattle.complex.specs.Numbering.{Numbered}
 use Rattle.complex.proofs.numbering.note_all.Statement.{statement}
 use Rattle.complex.proofs.numbering.note_all.Tie as tie
-use Rattle.complex.proofs.numbering.note_all.Reads as reads
-use Rattle.complex.proofs.numbering.note_all.Lts as lts
-use Rattle.complex.proofs.numbering.note.Reads as note-reads
-use Rattle.complex.proofs.numbering.wide.Reads as wide-reads
 
 abbrev Inv-loop : tie.InvT-loop
 Inv-loop table₀ keys₀ limit count new so-far₀ i₀ i-end table keys so-far i = (i ≤ length new) × (i-end ≡ length new) × ((l : List ℕ) → Numbered limit table₀ keys₀ count l → Numbered limit table keys so-far (notedAll eqb l (take i new)))
@@ -23,48 +19,39 @@ Inv-loop table₀ keys₀ limit count new so-far₀ i₀ i-end table keys so-far
 abbrev μ-loop : tie.MeasureT-loop
 μ-loop table₀ keys₀ limit count new so-far₀ i₀ i-end table keys so-far i = length new - i
 
--- src/numbering.rt:36:5
 loop-holds : tie.Need-loop-holds Inv-loop μ-loop
 unfolding notedAll
 loop-holds c = (omega arith, refl, λ l n. n)
 
--- src/numbering.rt:37:56
-mul-wide : tie.Need-mul-wide Inv-loop μ-loop
-mul-wide c = search needs
+mul-u16-to-usize : tie.Need-mul-u16-to-usize Inv-loop μ-loop
+mul-u16-to-usize c = search needs
 
--- src/numbering.rt:37:56
-shared-slice-read-wide : tie.Need-shared-slice-read-wide Inv-loop μ-loop
-shared-slice-read-wide c = search needs
+shared-slice-read-u16-to-usize : tie.Need-shared-slice-read-u16-to-usize Inv-loop μ-loop
+shared-slice-read-u16-to-usize c = search needs
 
--- src/numbering.rt:37:51
-wide-requires : tie.Need-wide-requires Inv-loop μ-loop
-wide-requires c κs = search needs
+u16-to-usize-requires : tie.Need-u16-to-usize-requires Inv-loop μ-loop
+u16-to-usize-requires c κs = search needs
 
--- src/numbering.rt:37:9
 note-requires : tie.Need-note-requires Inv-loop μ-loop
 note-requires c κs =
     let at-loop = c .before .before .before .before .before in
     let here : at-loop .loop .i < length (at-loop .before .before .args .new .now) = omega arith in
-    (rw (c .wide .ensures) (at-loop .before .before .pre .1 (at-loop .loop .i) here), at-loop .before .before .pre .0)
+    (rw (c .u16-to-usize .ensures) (at-loop .before .before .pre .1 (at-loop .loop .i) here), at-loop .before .before .pre .0)
 
--- src/numbering.rt:36:9
 add-i : tie.Need-add-i Inv-loop μ-loop
 add-i c = search needs
 
--- src/numbering.rt:36:5
 loop-less : tie.Need-loop-less Inv-loop μ-loop
 loop-less c = search needs
 
--- src/numbering.rt:36:5
 loop-again : tie.Need-loop-again Inv-loop μ-loop
 loop-again c =
     let at-loop = c .before .before .before .before .before .before in
     let new = at-loop .before .before .args .new .now in
     let i = at-loop .loop .i in
     let here : i < length new = omega arith in
-    (omega arith, at-loop .loop .inv .1, λ l n. rw (take-next new i 0 here, notedAll-last eqb l (take i new) (getD new i 0), ← c .before .wide .ensures) (c .note .ensures (notedAll eqb l (take i new)) (at-loop .loop .inv .2 l n)))
+    (omega arith, at-loop .loop .inv .1, λ l n. rw (take-next new i 0 here, notedAll-last eqb l (take i new) (getD new i 0), ← c .before .u16-to-usize .ensures) (c .note .ensures (notedAll eqb l (take i new)) (at-loop .loop .inv .2 l n)))
 
--- src/numbering.rt:31:1
 returns : tie.Need-returns Inv-loop μ-loop
 returns c =
     let new = c .before .before .before .args .new .now in
@@ -78,9 +65,9 @@ note-all-spec =
     Inv-loop
     μ-loop
     loop-holds
-    mul-wide
-    shared-slice-read-wide
-    wide-requires
+    mul-u16-to-usize
+    shared-slice-read-u16-to-usize
+    u16-to-usize-requires
     note-requires
     add-i
     loop-less

@@ -1,44 +1,44 @@
-use Prim.Native.Nat.{_+_, _<_}
-use mathlib.Core.Path.{_∙_}
+use Prim.Native.Nat.{_+_, _/_, _<_}
+use mathlib.Core.Path.{_≡_}
 use native.Mathlib.Omega.{arith}
-use borrow.Author.Tests.{not-true, not-false}
 use borrow.Author.Needs.{needs}
-use Rattle.complex.proofs.Trees.{touches-at, look-passed, look-inside, look-kept, look-room, look-grown}
+use lib.ListN.{getD}
+use Rattle.complex.specs.Tree.{opposite}
+use Rattle.complex.proofs.Trees.{look-inside, look-kept, look-room, look-grown}
 use Rattle.complex.proofs.search.look.Statement.{statement}
 use Rattle.complex.proofs.search.look.Tie as tie
 
-inside : (c : tie.After-byte) → c .byte .result < c .before .before .before .before .args .n-vertices
+is : (c : tie.After-byte) → c .byte .result ≡ getD (c .before .before .before .args .edges .now) (opposite (c .before .before .before .args .d)) 0
+is c = rw (c .before .before .opposite .ensures) at (c .byte .ensures)
+
+inside : (c : tie.After-byte) → c .byte .result < c .before .before .before .args .n-vertices
 inside c =
-    let start = c .before .before .before .before in
-    look-inside _ _ _ (start .pre .0) _ (start .pre .1) _ _ _ (start .pre .2) (c .byte .ensures ∙ c .before .across .ensures)
+    let start = c .before .before .before in
+    look-inside _ _ _ (start .pre .0) _ (start .pre .1) _ _ (start .pre .2) (is c)
 
-room : (c : tie.Else2) → c .before .before .before .before .before .before .args .found + 1 < c .before .before .before .before .before .before .args .n-vertices
+room : (c : tie.Else1) → c .before .before .before .before .before .args .found + 1 < c .before .before .before .before .before .args .n-vertices
 room c =
-    let start = c .before .before .before .before .before .before in
-    look-room _ _ _ (start .pre .0) _ (start .pre .1) _ _ _ (start .pre .2) (c .before .before .byte .ensures ∙ c .before .before .before .across .ensures) (c .if2 .left)
+    let start = c .before .before .before .before .before in
+    look-room _ _ _ (start .pre .0) _ (start .pre .1) _ _ (start .pre .2) (is (c .before .before)) (c .if1 .left)
 
-touches-requires : tie.Need-touches-requires
-touches-requires c κs = search needs
+opposite-requires : tie.Need-opposite-requires
+opposite-requires c κs = search needs
 
-returns : tie.Need-returns
-returns c =
-    let start = c .before .before in
-    let apart = touches-at _ _ _ _ _ _ (start .pre .2) (c .before .touches .ensures) (not-true _ (c .if1 .taken)) in
-    look-passed _ _ _ _ (start .pre .1) _ _ apart
-
-across-requires : tie.Need-across-requires
-across-requires c κs = search needs
+element-copy-out-w : tie.Need-element-copy-out-w
+element-copy-out-w c =
+    let half : c .before .args .d / 2 < 63 = omega arith in
+    omega arith
 
 byte-requires : tie.Need-byte-requires
 byte-requires c κs = search needs
 
-element-copy-out-if2 : tie.Need-element-copy-out-if2
-element-copy-out-if2 c = omega (arith, inside c)
+element-copy-out-if1 : tie.Need-element-copy-out-if1
+element-copy-out-if1 c = omega (arith, inside c)
 
-returns-2 : tie.Need-returns-2
-returns-2 c =
-    let start = c .before .before .before .before .before .before in
-    look-kept _ _ _ (start .pre .0) _ (start .pre .1) _ _ _ (start .pre .2) (c .before .before .byte .ensures ∙ c .before .before .before .across .ensures) (c .if2 .taken)
+returns : tie.Need-returns
+returns c =
+    let start = c .before .before .before .before .before in
+    look-kept _ _ _ (start .pre .0) _ (start .pre .1) _ _ (start .pre .2) (is (c .before .before)) (c .if1 .taken)
 
 add-next : tie.Need-add-next
 add-next c = search needs
@@ -55,26 +55,24 @@ element-write-tree-edges c = omega (arith, room c)
 element-write-visited : tie.Need-element-write-visited
 element-write-visited c = omega (arith, inside (c .before .before))
 
-returns-3 : tie.Need-returns-3
-returns-3 c =
-    let start = c .before .before .before .before .before .before in
-    let touch = touches-at _ _ _ _ _ _ (start .pre .2) (c .before .before .before .before .before .touches .ensures) (not-false _ (c .before .before .before .before .if1 .left)) in
+returns-2 : tie.Need-returns-2
+returns-2 c =
+    let start = c .before .before .before .before .before in
     rw (← c .before .before .byte .ensures)
-    (look-grown _ _ _ (start .pre .0) _ (start .pre .1) _ _ _ (start .pre .2) (c .before .before .byte .ensures ∙ c .before .before .before .across .ensures) (c .if2 .left) touch)
+    (look-grown _ _ _ (start .pre .0) _ (start .pre .1) _ _ (start .pre .2) (is (c .before .before)) (c .if1 .left))
 
 pub look-spec : {M : Type 1} → statement M
 look-spec =
     tie.close
     (tie.spec
-    touches-requires
-    returns
-    across-requires
+    opposite-requires
+    element-copy-out-w
     byte-requires
-    element-copy-out-if2
-    returns-2
+    element-copy-out-if1
+    returns
     add-next
     element-write-queue
     cast-tree-edges
     element-write-tree-edges
     element-write-visited
-    returns-3)
+    returns-2)

@@ -18,11 +18,11 @@ abbrev μ-loop : tie.MeasureT-loop
 loop-holds : tie.Need-loop-holds Inv-loop μ-loop
 loop-holds c = (omega arith, refl, refl)
 
-element-copy-out-word : tie.Need-element-copy-out-word Inv-loop μ-loop
-element-copy-out-word c = search needs
+element-copy-out-u8-to-u32 : tie.Need-element-copy-out-u8-to-u32 Inv-loop μ-loop
+element-copy-out-u8-to-u32 c = search needs
 
-word-requires : tie.Need-word-requires Inv-loop μ-loop
-word-requires c κs = tt
+u8-to-u32-requires : tie.Need-u8-to-u32-requires Inv-loop μ-loop
+u8-to-u32-requires c κs = tt
 
 mul-to : tie.Need-mul-to Inv-loop μ-loop
 mul-to c = search needs
@@ -45,7 +45,7 @@ loop-again c =
     let here : i < length from = omega arith in
     let room : i < length to = omega arith in
     let full : length (take i from) ≡ i = length-take-le i from (omega arith) in
-    (omega arith, simp length-set (at-loop .loop .inv .1), rw (at-loop .loop .inv .2, c .word .ensures, take-next from i 0 here) (store (take i from) to i (getD from i 0) 0 full room))
+    (omega arith, simp length-set (at-loop .loop .inv .1), rw (at-loop .loop .inv .2, c .u8-to-u32 .ensures, take-next from i 0 here) (store (take i from) to i (getD from i 0) 0 full room))
 
 same-length : tie.Need-same-length Inv-loop μ-loop
 same-length c = search needs
@@ -62,8 +62,8 @@ copy-first-spec =
     Inv-loop
     μ-loop
     loop-holds
-    element-copy-out-word
-    word-requires
+    element-copy-out-u8-to-u32
+    u8-to-u32-requires
     mul-to
     slice-write-to
     add-i

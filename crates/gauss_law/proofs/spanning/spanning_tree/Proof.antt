@@ -1,12 +1,16 @@
 use Prim.Native.Nat.{_≤_}
 use denote.Ref.{now}
 use lib.ListN.{length}
-use mathlib.Core.Path.{_≡_, sym, _∙_}
+use mathlib.Core.Path.{_≡_, refl, sym, _∙_}
+use borrow.Author.Tests.{ne-eqb}
+use Rattle.mathematics.proofs.Calls.{none, here, past, refuses, ends, both}
+use Rattle.answers.specs.Answer.{numberAnswer}
 use Rattle.complex.specs.Complex.{complexOf}
 use Rattle.complex.specs.Judge.{refusal}
-use Rattle.gauss_law.specs.Spanning.{Spanned}
+use Rattle.complex.proofs.Refusing.{record-refuses, past-record}
+use Rattle.gauss_law.specs.Spanning.{Spanned, tree-call}
 use Rattle.gauss_law.proofs.Spanned.{accepted-searchable, searched-spanned}
-use Rattle.gauss_law.proofs.TreeTold.{long-enough, record-refused, room-refused, tree-told}
+use Rattle.gauss_law.proofs.TreeTold.{long-enough, room-told, tree-written, free-written}
 use borrow.Author.Needs.{needs}
 use Rattle.gauss_law.proofs.spanning.spanning_tree.Statement.{statement}
 use Rattle.gauss_law.proofs.spanning.spanning_tree.Tie as tie
@@ -15,7 +19,8 @@ judge-requires : tie.Need-judge-requires
 judge-requires c κs = search needs
 
 returns : tie.Need-returns
-returns c = record-refused _ _ _ _ (c .before .judge .ensures) (c .if1 .taken)
+unfolding tree-call numberAnswer
+returns c = refuses _ (record-refuses _ (c .before .judge .ensures) (c .if1 .taken) _) (ne-eqb _ 0 (c .if1 .taken))
 
 -- the record is accepted, and searched
 accepted : (c : tie.Else1) → refusal (complexOf (c .before .before .before .before .args .t1)) ≡ 0
@@ -31,9 +36,11 @@ free-edges-requires : tie.Need-free-edges-requires
 free-edges-requires c κs = spanned c
 
 returns-2 : tie.Need-returns-2
+unfolding tree-call numberAnswer
 returns-2 c =
     let freed = c .before in
-    room-refused _ _ _ _ (spanned (freed .before)) _ (freed .free-edges .ensures) (c .if2 .taken)
+    let s = spanned (freed .before) in
+    refuses _ (past-record _ (s .accepted) (here (room-told _ _ s _ (freed .free-edges .ensures) _ _ ∙ c .if2 .taken))) refl
 
 room : (c : tie.Else2) → (c .before .before .search .result .found ≤ length (now (c .before .before .before .before .before .before .before .before .before .args .tree)))
     × (c .before .free-edges .result .count ≤ length (now (c .before .before .before .before .before .before .before .before .before .args .free)))
@@ -58,11 +65,15 @@ same-length-2 : tie.Need-same-length-2
 same-length-2 c = search needs
 
 returns-3 : tie.Need-returns-3
+unfolding tree-call numberAnswer
 returns-3 c =
     let decided = c .before .before .before .before .before .before .before .before .before .before .before .before in
     let freed = decided .before in
-    let first = c .before .before .before .before .before .before .before .before .copy-first .ensures in
-    rw (first, c .before .before .copy-first2 .ensures) (tree-told _ _ _ _ (spanned (freed .before)) _ (freed .free-edges .ensures) (decided .if2 .left))
+    let s = spanned (freed .before) in
+    let f = freed .free-edges .ensures in
+    ends _ (past-record _ (s .accepted) (past (room-told _ _ s _ f _ _ ∙ decided .if2 .left) none)) (f .count)
+    (both (c .before .before .before .before .before .before .before .before .copy-first .ensures ∙ tree-written _ _ s _ f _) (c .before .before .copy-first2 .ensures ∙ free-written _ _ s _ f _))
+    (rw (← (f .count)) (f .few))
 
 pub spanning-tree-spec : {M : Type 1} → statement M
 spanning-tree-spec =

@@ -2,26 +2,26 @@ use Prim.Native.Nat.{_*_, _≤_}
 use mathlib.Core.Bool.{_||_}
 use mathlib.Core.Path.{_≡_, refl, sym, ap, _∙_}
 use native.Mathlib.Nat.{mul-le-mul}
-use borrow.Author.Tests.{ltb-false}
+use borrow.Author.Tests.{ne-eqb, ltb-false}
 use lib.Dec.{ltb}
 use lib.ListN.{length}
 use Rattle.mathematics.specs.Refusals.{first}
 use Rattle.mathematics.proofs.Tests.{or-fell}
+use Rattle.mathematics.proofs.Calls.{none, here, past, refuses, ends, both}
 use Rattle.complex.specs.Complex.{complexOf}
-use Rattle.enumeration.specs.Enumeration.{basis-tests, short, BasisWalks}
+use Rattle.enumeration.specs.Enumeration.{short, BasisWalks}
 use Rattle.gauss_law.specs.Listing.{states}
-use Rattle.enumeration.proofs.Enumerating.{short-told, basis-written}
+use Rattle.enumeration.proofs.Enumerating.{basis-refuses, past-basis, short-told, basis-written}
 use Rattle.matrices.specs.Coupling.{u1-right}
 use Rattle.matrices.specs.Weights.{weights-tests}
 use Rattle.triangles.proofs.SidesFound.{triangles-long}
-use Rattle.matrices.proofs.Weighing.{weights-fit}
-use Rattle.hamiltonian.proofs.DenseTelling.{basis-refused, weights-refused, room-refused, built, basis-listed}
+use Rattle.matrices.proofs.Weighing.{weights-fit, weights-refuse, past-weights}
+use Rattle.answers.specs.Answer.{numberAnswer}
+use Rattle.hamiltonian.specs.Dense.{u1-dense-call}
+use Rattle.plaquettes.proofs.Listed.{basis-listed}
 use borrow.Author.Needs.{needs}
 use Rattle.hamiltonian.proofs.dense.build_hamiltonian.Statement.{statement}
 use Rattle.hamiltonian.proofs.dense.build_hamiltonian.Tie as tie
-
-none : (c : tie.Else1) → first (basis-tests (complexOf (c .before .before .before .before .args .c)) (c .before .before .before .before .args .lambda)) ≡ 0
-none c = sym (c .before .prepare-basis .ensures .refusal) ∙ c .if1 .left
 
 -- the weights and the coupling are judged by the paper's own tests
 weighed : (c : tie.After-judge-weights) → c .judge-weights .result ≡ first (weights-tests (length (complexOf (c .before .before .before .before .before .before .args .c) .triangles)) (u1-right (c .before .before .before .before .before .before .args .p)) (c .before .before .before .before .before .before .args .given) (c .before .before .before .before .before .before .args .weights .now))
@@ -59,7 +59,8 @@ prepare-basis-requires : tie.Need-prepare-basis-requires
 prepare-basis-requires c κs = search needs
 
 returns : tie.Need-returns
-returns c = basis-refused _ _ _ _ _ _ _ _ (c .before .prepare-basis .ensures .refusal) (c .if1 .taken)
+unfolding u1-dense-call numberAnswer
+returns c = refuses _ (basis-refuses (c .before .prepare-basis .ensures) (c .if1 .taken) _) (ne-eqb _ 0 (c .if1 .taken))
 
 is-u1-requires : tie.Need-is-u1-requires
 is-u1-requires c κs = search needs
@@ -68,7 +69,10 @@ judge-weights-requires : tie.Need-judge-weights-requires
 judge-weights-requires c κs = search needs
 
 returns-2 : tie.Need-returns-2
-returns-2 c = weights-refused _ _ _ _ _ _ _ (none (c .before .before .before)) _ (weighed (c .before)) (c .if2 .taken)
+unfolding u1-dense-call numberAnswer
+returns-2 c =
+    let judged = c .before .before .before in
+    refuses _ (past-basis (judged .before .prepare-basis .ensures) (judged .if1 .left) (weights-refuse _ _ _ _ (weighed (c .before)) (c .if2 .taken) _)) (ne-eqb _ 0 (c .if2 .taken))
 
 count-states-requires : tie.Need-count-states-requires
 count-states-requires c κs = basis (c .before) .fit
@@ -80,7 +84,10 @@ mul-if3-2 : tie.Need-mul-if3-2
 mul-if3-2 c = let h = sizes c in search needs
 
 returns-3 : tie.Need-returns-3
-returns-3 c = room-refused _ _ _ _ _ _ _ (none (passed (c .before) .before .before .before)) (right (passed (c .before))) (rw (no-room (c .before)) (c .if3 .taken))
+unfolding u1-dense-call numberAnswer
+returns-3 c =
+    let judged = passed (c .before) in
+    refuses _ (past-basis (judged .before .before .before .before .prepare-basis .ensures) (judged .before .before .before .if1 .left) (past-weights _ _ _ _ (right judged) (here (no-room (c .before) ∙ c .if3 .taken)))) refl
 
 -- both lists are long enough
 room : (c : tie.Else3) → (c .before .before .count-states .result * passed (c .before) .before .before .before .before .prepare-basis .result .walker .«n_edges» ≤ length (start (passed (c .before)) .args .states .now)) × (c .before .before .count-states .result * c .before .before .count-states .result ≤ length (start (passed (c .before)) .args .result .now))
@@ -101,7 +108,7 @@ write-dense-requires c κs =
     let enough = listed .before .before .before in
     let here = passed (enough .before) in (
       basis-listed _ _ _ _ (basis here) _ _ _ (listed .write-states .ensures) _ refl,
-      λ g. weights-fit _ _ _ _ (right here) g ∙ triangles-long (start here .args .c),
+      weights-fit _ _ _ _ (right here),
       rw (number listed) (room enough .1),
     )
 
@@ -112,13 +119,14 @@ same-length-2 : tie.Need-same-length-2
 same-length-2 c = search needs
 
 returns-4 : tie.Need-returns-4
+unfolding u1-dense-call numberAnswer
 returns-4 c =
     let listed = c .before .before .before .before .before .before .before in
     let enough = listed .before .before .before in
-    let here = passed (enough .before) in
+    let judged = passed (enough .before) in
     let many = counted (enough .before) in
-    built _ _ _ _ _ _ _ (none (here .before .before .before)) (right here) (no-room (enough .before) ∙ enough .if3 .left) (basis here .few) _ _ _ many
-    (basis-written _ _ _ _ (basis here) _ _ _ (listed .write-states .ensures) .1) (c .before .before .write-dense .ensures)
+    ends _ (past-basis (judged .before .before .before .before .prepare-basis .ensures) (judged .before .before .before .if1 .left) (past-weights _ _ _ _ (right judged) (past (no-room (enough .before) ∙ enough .if3 .left) none)))
+    many (both (basis-written _ _ _ _ (basis judged) _ _ _ (listed .write-states .ensures) .1) (c .before .before .write-dense .ensures)) (basis judged .few)
 
 pub build-hamiltonian-spec : {M : Type 1} → statement M
 build-hamiltonian-spec =

@@ -1,6 +1,7 @@
 use Rattle.matrices.specs.Weights.{weight}
 use Rattle.triangles.proofs.SidesFound.{triangles-long}
-use Rattle.hamiltonian.proofs.DenseWritten.{small-rows, electric-written, dense-written}
+use Rattle.plaquettes.proofs.Listed.{small-rows}
+use Rattle.hamiltonian.proofs.DenseWritten.{electric-written, dense-written}
 use borrow.Author.Needs.{needs}
 use Rattle.hamiltonian.proofs.dense.write_dense.Statement.{statement}
 use Rattle.hamiltonian.proofs.dense.write_dense.Tie as tie

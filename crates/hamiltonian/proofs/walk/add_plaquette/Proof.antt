@@ -3,7 +3,8 @@ use mathlib.Core.Path.{_≡_, refl, _∙_}
 use native.Mathlib.Omega.{arith}
 use lib.ListN.{length}
 use Rattle.complex.specs.Complex.{Complex}
-use Rattle.plaquettes.specs.Targets.{BasisList, SidesOf}
+use Rattle.plaquettes.specs.Targets.{BasisList}
+use Rattle.triangles.specs.Indices.{SidesOf}
 use Rattle.hamiltonian.proofs.Plaquettes.{Way, hit-below, way-begun, way-on, way-ended}
 use borrow.Author.Needs.{needs}
 use Rattle.hamiltonian.proofs.walk.add_plaquette.Statement.{statement}

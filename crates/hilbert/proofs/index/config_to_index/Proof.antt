@@ -1,20 +1,19 @@
 use mathlib.Core.Bool.{false}
-use mathlib.Core.Path.{_≡_, sym, _∙_}
+use mathlib.Core.Path.{_≡_, refl, sym, _∙_}
 use lib.ListN.{length}
-use borrow.Author.Tests.{not-true, not-false}
-use Rattle.mathematics.specs.Refusals.{first}
+use borrow.Author.Tests.{eq-eqb, ne-eqb, not-true, not-false}
+use Rattle.mathematics.proofs.Calls.{none, here, past}
 use Rattle.complex.specs.Complex.{complexOf}
 use Rattle.complex.proofs.Accepting.{accepted}
 use Rattle.gauss_law.proofs.Spanned.{edges-long}
-use Rattle.enumeration.specs.Enumeration.{basis-tests, short, BasisWalks}
-use Rattle.enumeration.proofs.Enumerating.{short-told}
-use Rattle.hilbert.proofs.Indexing.{basis-refused, length-refused, room-refused, unlisted, indexed}
+use Rattle.enumeration.specs.Enumeration.{short, BasisWalks}
+use Rattle.enumeration.proofs.Enumerating.{basis-refuses, past-basis, basis-not-17, short-told}
+use Rattle.hilbert.specs.Index.{index-call}
+use Rattle.hilbert.proofs.Order.{in-basis-at}
+use Rattle.hilbert.proofs.Indexing.{index-refused, unlisted, indexed}
 use borrow.Author.Needs.{needs}
 use Rattle.hilbert.proofs.index.config_to_index.Statement.{statement}
 use Rattle.hilbert.proofs.index.config_to_index.Tie as tie
-
-none : (c : tie.Else1) → first (basis-tests (complexOf (c .before .before .args .c)) (c .before .before .args .lambda)) ≡ 0
-none c = sym (c .before .prepare-basis .ensures .refusal) ∙ c .if1 .left
 
 basis : (c : tie.Else1) → BasisWalks (complexOf (c .before .before .args .c)) (c .before .before .args .lambda) (c .before .prepare-basis .result .walker) (c .before .prepare-basis .result .blocks)
 basis c = c .before .prepare-basis .ensures .basis (c .if1 .left)
@@ -29,21 +28,26 @@ prepare-basis-requires : tie.Need-prepare-basis-requires
 prepare-basis-requires c κs = search needs
 
 returns : tie.Need-returns
-returns c = basis-refused _ _ _ _ _ (c .before .prepare-basis .ensures .refusal) (c .if1 .taken)
+unfolding index-call
+returns c =
+    let p = c .before .prepare-basis .ensures in
+    index-refused _ (basis-refuses p (c .if1 .taken) _) (ne-eqb _ 0 (c .if1 .taken)) (basis-not-17 p)
 
 returns-2 : tie.Need-returns-2
+unfolding index-call
 returns-2 c =
     let judged = c .before .before in
-    length-refused _ _ _ _ (none judged) (λ z. c .if2 .taken (z ∙ edges-long (judged .before .before .args .c)))
+    index-refused _ (past-basis (judged .before .prepare-basis .ensures) (judged .if1 .left) (here (rw (ne-eqb _ _ (λ z. c .if2 .taken (z ∙ edges-long (judged .before .before .args .c))))))) refl refl
 
 too-short-requires : tie.Need-too-short-requires
 too-short-requires c κs = basis (c .before .before .before) .fit
 
 returns-3 : tie.Need-returns-3
+unfolding index-call
 returns-3 c =
     let long = c .before .before .before in
     let judged = long .before .before in
-    room-refused _ _ _ _ (none judged) (sized long) (short-told _ _ _ _ (basis judged) _ ∙ sym (c .before .too-short .ensures) ∙ c .if3 .taken)
+    index-refused _ (past-basis (judged .before .prepare-basis .ensures) (judged .if1 .left) (past (rw (eq-eqb _ _ (sized long))) (here (short-told _ _ _ _ (basis judged) _ ∙ sym (c .before .too-short .ensures) ∙ c .if3 .taken)))) refl refl
 
 in-basis-requires : tie.Need-in-basis-requires
 in-basis-requires c κs =
@@ -51,11 +55,12 @@ in-basis-requires c κs =
     (accepted _ .1 (basis judged .walks .accepted), basis judged .truncation, c .before .before .before .if2 .left)
 
 returns-4 : tie.Need-returns-4
+unfolding index-call
 returns-4 c =
     let enough = c .before .before in
     let long = enough .before .before .before in
     let judged = long .before .before in
-    unlisted _ _ _ _ (none judged) (sized long) (room enough) (sym (c .before .in-basis .ensures) ∙ not-true _ (c .if4 .taken))
+    unlisted _ (past-basis (judged .before .prepare-basis .ensures) (judged .if1 .left) (past (rw (eq-eqb _ _ (sized long))) (past (room enough) (here (rw (sym (c .before .in-basis .ensures) ∙ not-true _ (c .if4 .taken)))))))
 
 list-and-find-requires : tie.Need-list-and-find-requires
 list-and-find-requires c κs =
@@ -73,13 +78,16 @@ same-length : tie.Need-same-length
 same-length c = search needs
 
 returns-5 : tie.Need-returns-5
+unfolding index-call
 returns-5 c =
     let shown = c .before .before .before in
     let enough = shown .before .before in
     let long = enough .before .before .before in
     let judged = long .before .before in
-    indexed _ _ _ _ (none judged) (sized long) (room enough) (basis judged) (sym (shown .before .in-basis .ensures) ∙ not-false _ (shown .if4 .left)) _ _
-    (c .before .list-and-find .ensures _ (basis judged))
+    let found = c .before .list-and-find .ensures _ (basis judged) in
+    let listed = sym (shown .before .in-basis .ensures) ∙ not-false _ (shown .if4 .left) in
+    indexed _ (past-basis (judged .before .prepare-basis .ensures) (judged .if1 .left) (past (rw (eq-eqb _ _ (sized long))) (past (room enough) (past (rw listed) none))))
+    (found .found (sized long, listed)) (found .list) (record { found = in-basis-at _ (basis judged .walks .accepted) _ _ (sized long) listed; few = basis judged .few })
 
 pub config-to-index-spec : {M : Type 1} → statement M
 config-to-index-spec =

@@ -1,7 +1,7 @@
 use mathlib.Core.Path.{_≡_, ap, _∙_}
 use mathlib.Core.Bool.{not}
-use Rattle.gauss_law.specs.declared.law.Finding.{Finding}
-use Rattle.gauss_law.proofs.Findings.{finding-lawful}
+use Rattle.law_check.specs.declared.Finding.{Finding}
+use Rattle.law_check.proofs.Findings.{finding-lawful}
 use Rattle.hilbert.specs.Basis.{in-basis}
 use borrow.Author.Needs.{needs}
 use Rattle.hilbert.proofs.index.in_basis.Statement.{statement}

@@ -3,14 +3,16 @@ use mathlib.Core.Path.{_≡_, refl, sym, ap, _∙_}
 use native.Mathlib.Nat.{sub-zero, mul-le-mul}
 use native.Mathlib.Omega.{arith}
 use borrow.Author.Tests.{not-true, not-false}
+use lib.IntN.{pos}
 use lib.ListN.{length, take}
 use Rattle.complex.specs.Complex.{Complex}
 use Rattle.hilbert.specs.Search.{row}
 use Rattle.hilbert.proofs.Searching.{row-part}
 use Rattle.plaquettes.specs.Triangle.{shifted-state, sides-within, Shiftable}
-use Rattle.plaquettes.specs.Targets.{BasisList, SidesOf}
-use Rattle.plaquettes.proofs.TriangleRows.{shifted-row-long}
-use Rattle.plaquettes.proofs.Targets.{edges-few, row-within, row-long, list-rows, target-shiftable, target-front, target-band, target-none, target-sized, target-ranked}
+use Rattle.plaquettes.specs.Targets.{BasisList}
+use Rattle.triangles.specs.Indices.{SidesOf}
+use Rattle.plaquettes.proofs.TriangleRows.{moved-row-long}
+use Rattle.plaquettes.proofs.Targets.{edges-few, row-within, row-long, list-rows, target-shiftable, target-front, target-band, target-out, target-sized, target-ranked}
 use borrow.Author.Needs.{needs}
 use Rattle.plaquettes.proofs.target.find_target.Statement.{statement}
 use Rattle.plaquettes.proofs.target.find_target.Tie as tie
@@ -41,12 +43,12 @@ shiftable c =
 shifted-front : (c : tie.After-shift-row) (complex : Complex) (t : ℕ) → BasisList complex (start c .args .list .now) (start c .args .s) (start c .args .free .now) → SidesOf complex t (start c .args .sides)
     → take (start c .args .s .edges) (c .shift-row .last .0) ≡ shifted-state complex (start c .args .s .lambda) t (start c .args .place)
 shifted-front c complex t basis of =
-    ap (λ r. take (start c .args .s .edges) r) (c .shift-row .ensures) ∙ target-front complex _ _ _ basis t _ of _ (start c .pre .1) (c .before .before .copy-state .last .0) (front (c .before .before))
+    ap (λ r. take (start c .args .s .edges) r) (c .shift-row .ensures) ∙ target-front complex _ _ _ basis t _ of _ (start c .pre .1) (c .before .before .copy-state .last .0) (front (c .before .before)) (pos 1)
 
 band-told : (c : tie.After-three-within) (complex : Complex) (t : ℕ) → BasisList complex (start (c .before .before) .args .list .now) (start (c .before .before) .args .s) (start (c .before .before) .args .free .now) → SidesOf complex t (start (c .before .before) .args .sides)
     → sides-within complex (start (c .before .before) .args .s .lambda) t (shifted-state complex (start (c .before .before) .args .s .lambda) t (start (c .before .before) .args .place)) ≡ c .three-within .result
 band-told c complex t basis of =
-    target-band complex _ _ _ basis t _ of _ (start (c .before .before) .pre .1) (c .before .before .shift-row .last .0) (shifted-front (c .before .before) complex t basis of)
+    target-band complex _ _ _ basis t _ of _ (start (c .before .before) .pre .1) (pos 1) (c .before .before .shift-row .last .0) (shifted-front (c .before .before) complex t basis of)
     ∙ sym (c .three-within .ensures)
 
 -- the part that is sought
@@ -85,10 +87,10 @@ three-within-requires : tie.Need-three-within-requires
 three-within-requires c κs =
     let made = c .before in
     let ready = shiftable (made .before .before) in
-    (rw (made .shift-row .ensures) (shifted-row-long _ _ ready), start made .pre .0 .basis .truncation, ready .first-below, ready .second-below, ready .third-below)
+    (rw (made .shift-row .ensures) (moved-row-long _ _ ready (pos 1)), start made .pre .0 .basis .truncation, ready .first-below, ready .second-below, ready .third-below)
 
 returns : tie.Need-returns
-returns c complex t basis of h = target-none complex _ _ _ basis t _ of _ (start (c .before .before .before) .pre .1) (band-told (c .before) complex t basis of ∙ not-true _ (c .if1 .taken))
+returns c complex t basis of h = target-out complex _ _ _ basis t _ of _ (start (c .before .before .before) .pre .1) (pos 1) (band-told (c .before) complex t basis of ∙ not-true _ (c .if1 .taken))
 
 sub-advance : tie.Need-sub-advance
 sub-advance c = search needs
@@ -101,7 +103,7 @@ part-advance-end c =
     let made = c .before .before .before .before in
     let few = edges-few _ _ _ _ (start made .pre .0 .basis) in
     let ready = shiftable (made .before .before) in
-    let long : length (made .shift-row .last .0) ≡ 63 = rw (made .shift-row .ensures) (shifted-row-long _ _ ready) in
+    let long : length (made .shift-row .last .0) ≡ 63 = rw (made .shift-row .ensures) (moved-row-long _ _ ready (pos 1)) in
     search needs
 
 advance-requires : tie.Need-advance-requires
@@ -110,14 +112,14 @@ advance-requires c κs =
     let made = inside .before .before .before in
     let pre = start made .pre in
     let band = band-told (inside .before) _ _ (pre .0 .basis) (pre .0 .of) ∙ not-false _ (inside .if1 .left) in
-    (rw (part made _ _ (pre .0 .basis) (pre .0 .of)) (list-rows _ _ _ _ (pre .0 .basis) _ (target-sized _ _ _ _ (pre .0 .basis) _ _ (pre .0 .of) _ (pre .1) band)), pre .2)
+    (rw (part made _ _ (pre .0 .basis) (pre .0 .of)) (list-rows _ _ _ _ (pre .0 .basis) _ (target-sized _ _ _ _ (pre .0 .basis) _ _ (pre .0 .of) _ (pre .1) (pos 1) band)), pre .2)
 
 returns-2 : tie.Need-returns-2
 returns-2 c complex t basis of h =
     let inside = c .before .before .before in
     let made = inside .before .before .before in
     let band = band-told (inside .before) complex t basis of ∙ not-false _ (inside .if1 .left) in
-    c .advance .ensures _ (rw (part made complex t basis of) (target-ranked complex _ _ _ basis t _ of _ (start made .pre .1) band)) h
+    c .advance .ensures _ (rw (part made complex t basis of) (target-ranked complex _ _ _ basis t _ of _ (start made .pre .1) (pos 1) band)) h
 
 pub find-target-spec : {M : Type 1} → statement M
 find-target-spec =

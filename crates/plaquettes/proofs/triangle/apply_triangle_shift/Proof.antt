@@ -2,27 +2,29 @@ use Prim.Native.Nat.{_-_, _*_, _<_, _≤_}
 use native.Mathlib.Nat.{sub-zero, mul-le-mul}
 use mathlib.Core.Bool.{false, _||_}
 use mathlib.Core.List.{[]}
-use mathlib.Core.Path.{_≡_, sym, ap, _∙_}
+use mathlib.Core.Path.{_≡_, refl, sym, ap, _∙_}
 use lib.Dec.{leb}
+use lib.IntN.{pos}
 use lib.ListN.{length, take, getD}
-use borrow.Author.Tests.{not-true, not-false, leb-false, lt-ltb, le-ltb}
-use Rattle.mathematics.specs.Refusals.{first}
+use borrow.Author.Tests.{ne-eqb, not-true, not-false, leb-false, lt-ltb, le-ltb}
+use Rattle.mathematics.proofs.Calls.{none, here, past, refuses, ends}
 use Rattle.mathematics.proofs.Tests.{or-fell}
+use Rattle.answers.specs.Answer.{numberAnswer}
 use Rattle.complex.specs.Complex.{complexOf}
 use Rattle.complex.proofs.Accepting.{accepted}
 use Rattle.triangles.proofs.SidesFound.{triangles-long, sides-below}
 use Rattle.gauss_law.proofs.Spanned.{edges-long}
-use Rattle.enumeration.specs.Enumeration.{basis-tests, short, BasisWalks}
+use Rattle.enumeration.specs.Enumeration.{short, BasisWalks}
+use Rattle.enumeration.proofs.Enumerating.{basis-refuses, past-basis}
+use Rattle.hilbert.proofs.Order.{in-basis-at}
 use Rattle.gauss_law.specs.Listing.{states}
-use Rattle.plaquettes.specs.Triangle.{shifted-state, sides-within, Shiftable}
-use Rattle.plaquettes.proofs.TriangleRows.{front-shifted, three-told, row-shiftable, shifted-row-long}
-use Rattle.plaquettes.proofs.TriangleTelling.{basis-refused, number-refused, room-refused, band-refused, placed, state-there, listed-sought}
+use Rattle.plaquettes.specs.Triangle.{moved-state, shifted-state, sides-within, triangle-call, Shiftable}
+use Rattle.plaquettes.proofs.TriangleRows.{front-moved, three-told, row-shiftable, moved-row-long}
+use Rattle.plaquettes.proofs.TriangleTelling.{state-there, shifted-listed}
+use Rattle.plaquettes.proofs.Demands.{shift-demanded}
 use borrow.Author.Needs.{needs}
 use Rattle.plaquettes.proofs.triangle.apply_triangle_shift.Statement.{statement}
 use Rattle.plaquettes.proofs.triangle.apply_triangle_shift.Tie as tie
-
-none : (c : tie.Else1) → first (basis-tests (complexOf (c .before .before .args .c)) (c .before .before .args .lambda)) ≡ 0
-none c = sym (c .before .prepare-basis .ensures .refusal) ∙ c .if1 .left
 
 basis : (c : tie.Else1) → BasisWalks (complexOf (c .before .before .args .c)) (c .before .before .args .lambda) (c .before .prepare-basis .result .walker) (c .before .prepare-basis .result .blocks)
 basis c = c .before .prepare-basis .ensures .basis (c .if1 .left)
@@ -53,15 +55,17 @@ prepare-basis-requires : tie.Need-prepare-basis-requires
 prepare-basis-requires c κs = search needs
 
 returns : tie.Need-returns
-returns c = basis-refused _ _ _ _ _ _ (c .before .prepare-basis .ensures .refusal) (c .if1 .taken)
+unfolding triangle-call numberAnswer
+returns c = shift-demanded _ _ _ _ _ _ _ (refuses _ (basis-refuses (c .before .prepare-basis .ensures) (c .if1 .taken) _) (ne-eqb _ 0 (c .if1 .taken)))
 
 count-states-requires : tie.Need-count-states-requires
 count-states-requires c κs = basis (c .before) .fit
 
 returns-2 : tie.Need-returns-2
+unfolding triangle-call numberAnswer
 returns-2 c =
-    let start = c .before .before .before .before .before .before in
-    number-refused _ _ _ _ _ (none (c .before .before .before .before)) (rw (triangles-long (start .args .c), ← (counted (c .before .before))) (c .if2 .taken))
+    let first = c .before .before .before .before in
+    shift-demanded _ _ _ _ _ _ _ (refuses _ (past-basis (first .before .prepare-basis .ensures) (first .if1 .left) (here (rw (triangles-long (first .before .before .args .c), ← (counted (c .before .before))) (c .if2 .taken)))) refl)
 
 mul-if3 : tie.Need-mul-if3
 mul-if3 c =
@@ -77,10 +81,10 @@ front c =
     rw (← (b .walks .edges), ← (b .listed)) (c .state-at .ensures .1)
 
 returns-3 : tie.Need-returns-3
-unfolding short
+unfolding short triangle-call numberAnswer
 returns-3 c =
-    let here = c .before in
-    room-refused _ _ _ _ _ (none (judged here)) (numbers here) (rw (edges-long (at-start here .args .c), ← (counted (here .before .before))) (lt-ltb _ _ (c .if3 .taken)))
+    let found = c .before in
+    shift-demanded _ _ _ _ _ _ _ (refuses _ (past-basis (judged found .before .prepare-basis .ensures) (judged found .if1 .left) (past (numbers found) (here (rw (edges-long (at-start found .args .c), ← (counted (found .before .before))) (lt-ltb _ _ (c .if3 .taken)))))) refl)
 
 room : (c : tie.Else3) → short (complexOf (at-start (c .before) .args .c)) (at-start (c .before) .args .lambda) (length (at-start (c .before) .args .states .now)) ≡ false
 unfolding short
@@ -111,21 +115,21 @@ three-within-requires : tie.Need-three-within-requires
 three-within-requires c κs =
     let made = c .before in
     let ready = shiftable (made .before .before) in
-    (rw (made .shift-row .ensures) (shifted-row-long _ _ ready), basis (judged (made .before .before .before .before .before)) .truncation, ready .first-below, ready .second-below, ready .third-below)
+    (rw (made .shift-row .ensures) (moved-row-long _ _ ready (pos 1)), basis (judged (made .before .before .before .before .before)) .truncation, ready .first-below, ready .second-below, ready .third-below)
 
 abbrev row-start : tie.After-shift-row → tie.Start
 row-start c = at-start (c .before .before .before .before .before)
 
 -- the front of the shifted row is the shifted state
 shifted-front : (c : tie.After-shift-row) → take (length (complexOf (row-start c .args .c) .edges)) (c .shift-row .last .0) ≡ shifted-state (complexOf (row-start c .args .c)) (row-start c .args .lambda) (row-start c .args .triangle) (row-start c .args .state)
-unfolding shifted-state
+unfolding moved-state
 shifted-front c =
     let here = c .before .before .before .before .before in
     let start = row-start c in
     let three = c .before .before .before .triangle-sides in
     let below = sides-below (complexOf (start .args .c)) (start .args .triangle) (three .result) (three .ensures) (basis (judged here) .walks .accepted) (there here .0) in
     rw (c .shift-row .ensures)
-    (front-shifted (complexOf (start .args .c)) (start .args .triangle) (three .result) (three .ensures) (c .before .before .state-at .result) _ (length (complexOf (start .args .c) .edges)) (below .0) (below .1) (below .2) (front (c .before .before)))
+    (front-moved (complexOf (start .args .c)) (start .args .triangle) (three .result) (three .ensures) (pos 1) (c .before .before .state-at .result) _ (length (complexOf (start .args .c) .edges)) (below .0) (below .1) (below .2) (front (c .before .before)))
 
 -- the test of the row is that of the state
 band-told : (c : tie.After-three-within) → sides-within (complexOf (row-start (c .before .before) .args .c)) (row-start (c .before .before) .args .lambda) (row-start (c .before .before) .args .triangle)
@@ -141,10 +145,11 @@ band-told c =
     ∙ sym (c .three-within .ensures)
 
 returns-4 : tie.Need-returns-4
+unfolding triangle-call numberAnswer
 returns-4 c =
     let enough = c .before .before .before .before .before .before .before in
-    let here = enough .before in
-    band-refused _ _ _ _ _ (none (judged here)) (numbers here) (room enough) (band-told (c .before) ∙ not-true _ (c .if4 .taken))
+    let found = enough .before in
+    shift-demanded _ _ _ _ _ _ _ (refuses _ (past-basis (judged found .before .prepare-basis .ensures) (judged found .if1 .left) (past (numbers found) (past (room enough) (here (rw (band-told (c .before) ∙ not-true _ (c .if4 .taken))))))) refl)
 
 sub-list-and-find : tie.Need-sub-list-and-find
 sub-list-and-find c = search needs
@@ -156,7 +161,7 @@ part-list-and-find-end : tie.Need-part-list-and-find-end
 part-list-and-find-end c =
     let made = c .before .before .before .before in
     let few = edges-few (judged (made .before .before .before .before .before)) in
-    let long : length (made .shift-row .last .0) ≡ 63 = rw (made .shift-row .ensures) (shifted-row-long _ _ (shiftable (made .before .before))) in
+    let long : length (made .shift-row .last .0) ≡ 63 = rw (made .shift-row .ensures) (moved-row-long _ _ (shiftable (made .before .before)) (pos 1)) in
     search needs
 
 -- the part that is sought
@@ -171,21 +176,26 @@ list-and-find-requires c κs =
     let here = enough .before in
     let start = row-start made in
     let b = basis (judged here) in
+    let listed = shifted-listed (complexOf (start .args .c)) (b .walks .accepted) (start .args .lambda) (start .args .triangle) (start .args .state) (there here .0) (there here .1) in
     rw (part made)
-    (listed-sought (complexOf (start .args .c)) (start .args .lambda) (start .args .triangle) (start .args .state) _ _ b (there here .0) (there here .1) (band-told (shown .before) ∙ not-false _ (shown .if4 .left)) _ (room enough))
+    (record { complex = complexOf (start .args .c); basis = b; sized = listed .0; listed = listed .1 (band-told (shown .before) ∙ not-false _ (shown .if4 .left)); long = room enough })
 
 same-length : tie.Need-same-length
 same-length c = search needs
 
 returns-5 : tie.Need-returns-5
+unfolding triangle-call numberAnswer
 returns-5 c =
     let shown = c .before .before .before .before .before in
     let made = shown .before .before .before in
     let enough = made .before .before .before .before in
-    let here = enough .before in
-    let b = basis (judged here) in
-    let found = c .before .list-and-find .ensures _ b in
-    placed _ _ _ _ _ (none (judged here)) (numbers here) (room enough) b (there here .0) (there here .1) (band-told (shown .before) ∙ not-false _ (shown .if4 .left)) _ _ (rw (part made) at found)
+    let found = enough .before in
+    let b = basis (judged found) in
+    let band = band-told (shown .before) ∙ not-false _ (shown .if4 .left) in
+    let listed = shifted-listed _ (b .walks .accepted) _ _ _ (there found .0) (there found .1) in
+    let placed = rw (part made) at (c .before .list-and-find .ensures _ b) in
+    shift-demanded _ _ _ _ _ _ _ (ends _ (past-basis (judged found .before .prepare-basis .ensures) (judged found .if1 .left) (past (numbers found) (past (room enough) (past (rw band) none))))
+    (placed .found (listed .0, listed .1 band)) (placed .list) (record { found = in-basis-at _ (b .walks .accepted) _ _ (listed .0) (listed .1 band); few = b .few }))
 
 pub apply-triangle-shift-spec : {M : Type 1} → statement M
 apply-triangle-shift-spec =

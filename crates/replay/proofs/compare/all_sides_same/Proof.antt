@@ -5,8 +5,7 @@ use mathlib.Core.Path.{_≡_, sym}
 use native.Mathlib.Omega.{arith}
 use Rattle.mathematics.specs.Tests.{every}
 use Rattle.complex.specs.Complex.{complexOf, entries}
-use Rattle.triangles.specs.Indices.{sidesOutcome}
-use Rattle.replay.specs.Comparing.{agrees}
+use Rattle.replay.specs.Comparing.{sidesOutcome, agrees}
 use Rattle.replay.proofs.compare.all_sides_same.Statement.{statement}
 use Rattle.replay.proofs.compare.all_sides_same.Tie as tie
 

@@ -18,14 +18,14 @@ abbrev μ-loop : tie.MeasureT-loop
 loop-holds : tie.Need-loop-holds Inv-loop μ-loop
 loop-holds c = (omega arith, padded-none 1275 (drop (c .before .args .start) (c .before .args .list .now)))
 
-add-wide : tie.Need-add-wide Inv-loop μ-loop
-add-wide c = search needs
+add-u8-to-u64 : tie.Need-add-u8-to-u64 Inv-loop μ-loop
+add-u8-to-u64 c = search needs
 
-shared-slice-read-wide : tie.Need-shared-slice-read-wide Inv-loop μ-loop
-shared-slice-read-wide c = search needs
+shared-slice-read-u8-to-u64 : tie.Need-shared-slice-read-u8-to-u64 Inv-loop μ-loop
+shared-slice-read-u8-to-u64 c = search needs
 
-wide-requires : tie.Need-wide-requires Inv-loop μ-loop
-wide-requires c κs = search needs
+u8-to-u64-requires : tie.Need-u8-to-u64-requires Inv-loop μ-loop
+u8-to-u64-requires c κs = search needs
 
 mul-vertices : tie.Need-mul-vertices Inv-loop μ-loop
 mul-vertices c = search needs
@@ -46,7 +46,7 @@ loop-again c =
     let a = s .args in
     let i = at-loop .loop .i in
     let here : i < length (drop (a .start) (a .list .now)) = omega (arith, s .pre .0, length-drop (a .start) (a .list .now)) in
-    (omega arith, rw (at-loop .loop .inv .1) (padded-next 1275 (drop (a .start) (a .list .now)) i _ (omega arith) here (c .wide .ensures ∙ sym (getD-drop (a .start) (a .list .now) i 0))))
+    (omega arith, rw (at-loop .loop .inv .1) (padded-next 1275 (drop (a .start) (a .list .now)) i _ (omega arith) here (c .u8-to-u64 .ensures ∙ sym (getD-drop (a .start) (a .list .now) i 0))))
 
 returns : tie.Need-returns Inv-loop μ-loop
 returns c =
@@ -60,9 +60,9 @@ pentachora-in-spec =
     Inv-loop
     μ-loop
     loop-holds
-    add-wide
-    shared-slice-read-wide
-    wide-requires
+    add-u8-to-u64
+    shared-slice-read-u8-to-u64
+    u8-to-u64-requires
     mul-vertices
     array-write-vertices
     add-i

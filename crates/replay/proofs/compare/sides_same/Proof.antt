@@ -40,12 +40,12 @@ returns : tie.Need-returns
 returns c =
     let start = c .before .before .before .before .before .before .before .before .before .before .before in
     let known = c .before .before .before .before .before .before .before in
-    numbers-agree (start .args .list .now) (start .args .at) _ _ (known .before .before .tri-edge-indices .ensures) _ _ _ _ _ _ (known .answer .given .1) (c .before .before .before .before .byte .ensures) (c .before .before .byte2 .ensures) (c .byte3 .ensures)
+    numbers-agree (start .args .list .now) (start .args .at) _ _ _ (known .before .before .tri-edge-indices .ensures) _ _ _ _ _ _ (known .answer .given .1) (c .before .before .before .before .byte .ensures) (c .before .before .byte2 .ensures) (c .byte3 .ensures)
 
 returns-2 : tie.Need-returns-2
 returns-2 c =
     let start = c .before .before .before .before in
-    refusal-differs (start .args .list .now) (start .args .at) _ _ (c .before .before .tri-edge-indices .ensures) _ (c .enum-told .given .1)
+    refusal-differs (start .args .list .now) (start .args .at) _ _ _ (c .before .before .tri-edge-indices .ensures) _ (c .enum-told .given .1)
 
 pub sides-same-spec : {M : Type 1} → statement M
 sides-same-spec =

@@ -21,14 +21,14 @@ abbrev μ-loop : tie.MeasureT-loop
 loop-holds : tie.Need-loop-holds Inv-loop μ-loop
 loop-holds c = (omega arith, refl, λ f old m. matrix-same _ _ _ old _ (λ i j h k. passed-none f _ _ i j) m)
 
-mul-state-energy : tie.Need-mul-state-energy Inv-loop μ-loop
-mul-state-energy c = search needs
+mul-mask-energy : tie.Need-mul-mask-energy Inv-loop μ-loop
+mul-mask-energy c = search needs
 
-shared-slice-read-state-energy : tie.Need-shared-slice-read-state-energy Inv-loop μ-loop
-shared-slice-read-state-energy c = search needs
+shared-slice-read-mask-energy : tie.Need-shared-slice-read-mask-energy Inv-loop μ-loop
+shared-slice-read-mask-energy c = search needs
 
-state-energy-requires : tie.Need-state-energy-requires Inv-loop μ-loop
-state-energy-requires c κs = search needs
+mask-energy-requires : tie.Need-mask-energy-requires Inv-loop μ-loop
+mask-energy-requires c κs = search needs
 
 add-entry-requires : tie.Need-add-entry-requires Inv-loop μ-loop
 add-entry-requires c κs =
@@ -53,7 +53,7 @@ loop-again c =
       added .kept .0 ∙ at-loop .loop .inv .1,
       λ f old m.
           let room : n * n ≤ length old = rw (← (m .long)) (start .pre .1) in
-          rw (added .ensures, c .before .before .before .state-energy .ensures)
+          rw (added .ensures, c .before .before .before .mask-energy .ensures)
           (passed-more f (λ j. j) (λ j. mul binary64 (start .args .factor) (float-of (ones (getD (start .args .states .now) j 0)))) n old (at-loop .loop .h) i (at-loop .loop .inv .2 f old m) room (omega arith) (omega arith)),
     )
 
@@ -72,9 +72,9 @@ add-energies-spec =
     Inv-loop
     μ-loop
     loop-holds
-    mul-state-energy
-    shared-slice-read-state-energy
-    state-energy-requires
+    mul-mask-energy
+    shared-slice-read-mask-energy
+    mask-energy-requires
     add-entry-requires
     add-i
     loop-less

@@ -1,20 +1,28 @@
 use Prim.Native.Nat.{ℕ, _*_, _%_, _^_, _≤_}
 use mathlib.Core.Bool.{false, _||_}
-use mathlib.Core.Path.{_≡_, sym, _∙_}
+use mathlib.Core.Path.{_≡_, refl, sym, _∙_}
 use native.Mathlib.Nat.{mul-le-mul}
 use native.Mathlib.Omega.{arith}
+use borrow.Author.Tests.{ne-eqb}
 use lib.Dec.{ltb}
 use lib.ListN.{length}
 use lib.Pow.{pow-mono}
 use Rattle.mathematics.specs.Refusals.{first}
 use Rattle.mathematics.proofs.Bits.{power-shifted}
+use Rattle.mathematics.proofs.Calls.{none, here, past, refuses, ends, both}
 use Rattle.complex.specs.Complex.{complexOf}
 use Rattle.complex.specs.Judge.{refusal}
+use Rattle.complex.proofs.Refusing.{record-refuses}
 use Rattle.matrices.specs.Coupling.{su2-right}
 use Rattle.matrices.specs.Weights.{weights-tests}
 use Rattle.masks.specs.Place.{LoopsOf}
-use Rattle.masks.proofs.Placing.{loops-of, masks-are}
-use Rattle.su2_quantum.proofs.DenseTelling.{weights-many, long-enough, record-refused, limit-refused, weights-refused, room-refused, matrix-built}
+use Rattle.triangles.proofs.SidesFound.{triangles-long}
+use Rattle.answers.specs.Answer.{numberAnswer}
+use Rattle.matrices.proofs.Weighing.{weights-fit, weights-refuse, past-weights}
+use Rattle.masks.proofs.Placing.{loops-of, states-number, masks-are}
+use Rattle.masks.proofs.Telling.{limit-refuses, past-masks, masks-known, masks-written}
+use Rattle.su2_quantum.specs.Dense.{su2-dense-call}
+use Rattle.su2_quantum.proofs.DenseTelling.{long-enough}
 use borrow.Author.Needs.{needs}
 use Rattle.su2_quantum.proofs.dense.build_su2_hamiltonian.Statement.{statement}
 use Rattle.su2_quantum.proofs.dense.build_su2_hamiltonian.Tie as tie
@@ -35,8 +43,12 @@ number c = power-shifted (c .before .closing-loops .result .count) (omega (arith
 abbrev at-start : tie.Else3 → tie.Start
 at-start c = c .before .before .before .before .before .before .before .before .before .before
 
-weighed : (c : tie.Else3) → first (weights-tests (at-start c .args .c .«n_triangles») (su2-right (at-start c .args .p)) (at-start c .args .given) (at-start c .args .weights .now)) ≡ 0
-weighed c = sym (rw (c .before .before .is-su2 .ensures) at (c .before .judge-weights .ensures)) ∙ c .if3 .left
+-- the weights and the coupling are judged by the paper's own tests
+judged : (c : tie.After-judge-weights) → c .judge-weights .result ≡ first (weights-tests (length (complexOf (c .before .before .before .before .before .before .before .before .before .args .c) .triangles)) (su2-right (c .before .before .before .before .before .before .before .before .before .args .p)) (c .before .before .before .before .before .before .before .before .before .args .given) (c .before .before .before .before .before .before .before .before .before .args .weights .now))
+judged c = rw (triangles-long (c .before .before .before .before .before .before .before .before .before .args .c), ← (c .before .is-su2 .ensures)) (c .judge-weights .ensures)
+
+weighed : (c : tie.Else3) → first (weights-tests (length (complexOf (at-start c .args .c) .triangles)) (su2-right (at-start c .args .p)) (at-start c .args .given) (at-start c .args .weights .now)) ≡ 0
+weighed c = sym (judged (c .before)) ∙ c .if3 .left
 
 abbrev states : tie.Else3 → ℕ
 states c = 2 ^ c .before .before .before .before .closing-loops .result .count
@@ -51,15 +63,17 @@ judge-requires : tie.Need-judge-requires
 judge-requires c κs = search needs
 
 returns : tie.Need-returns
-returns c = record-refused _ _ _ _ _ _ _ (c .before .judge .ensures) (c .if1 .taken)
+unfolding su2-dense-call numberAnswer
+returns c = refuses _ (record-refuses _ (c .before .judge .ensures) (c .if1 .taken) _) (ne-eqb _ 0 (c .if1 .taken))
 
 closing-loops-requires : tie.Need-closing-loops-requires
 closing-loops-requires c κs = search needs
 
 returns-2 : tie.Need-returns-2
+unfolding su2-dense-call numberAnswer
 returns-2 c =
     let made = c .before in
-    limit-refused _ _ _ _ _ _ _ (loops-of _ (good (made .before)) _ (made .closing-loops .ensures)) (c .if2 .taken)
+    refuses _ (limit-refuses (good (made .before)) (loops-of _ (good (made .before)) _ (made .closing-loops .ensures)) (c .if2 .taken) _) refl
 
 is-su2-requires : tie.Need-is-su2-requires
 is-su2-requires c κs = search needs
@@ -68,9 +82,10 @@ judge-weights-requires : tie.Need-judge-weights-requires
 judge-weights-requires c κs = search needs
 
 returns-3 : tie.Need-returns-3
+unfolding su2-dense-call numberAnswer
 returns-3 c =
     let small = c .before .before .before in
-    weights-refused _ _ _ _ _ _ _ (loops small) (few small) _ (rw (c .before .before .is-su2 .ensures) at (c .before .judge-weights .ensures)) (c .if3 .taken)
+    refuses _ (past-masks (good (small .before .before)) (loops small) (few small) (weights-refuse _ _ _ _ (judged (c .before)) (c .if3 .taken) _)) (ne-eqb _ 0 (c .if3 .taken))
 
 shl-n : tie.Need-shl-n
 shl-n c = search needs
@@ -83,10 +98,11 @@ mul-if4 c =
     rw (number small) (search needs)
 
 returns-4 : tie.Need-returns-4
+unfolding su2-dense-call numberAnswer
 returns-4 c =
     let right = c .before in
     let small = right .before .before .before in
-    room-refused _ _ _ _ _ _ _ (loops small) (few small) (weighed right) (rw (number small) at (c .if4 .taken))
+    refuses _ (past-masks (good (small .before .before)) (loops small) (few small) (past-weights _ _ _ _ (weighed right) (here (rw (states-number _ _ (loops small)) (rw (number small) at (c .if4 .taken)))))) refl
 
 write-masks-requires : tie.Need-write-masks-requires
 write-masks-requires c κs =
@@ -100,7 +116,7 @@ write-matrix-requires c κs =
     let right = enough .before in
     let small = right .before .before .before in (
       record { loops = loops small; few = few small; states = number small; long = rw (number small) (room enough .1) },
-      weights-many _ _ _ _ (weighed right),
+      weights-fit _ _ _ _ (weighed right),
       (_, rw (masks-are _ _ (loops small)) at (c .before .before .before .before .write-masks .ensures)),
     )
 
@@ -111,11 +127,17 @@ same-length-2 : tie.Need-same-length-2
 same-length-2 c = search needs
 
 returns-5 : tie.Need-returns-5
+unfolding su2-dense-call numberAnswer
 returns-5 c =
     let enough = c .before .before .before .before .before .before .before .before .before .before .before in
     let right = enough .before in
     let small = right .before .before .before in
-    matrix-built _ _ _ _ _ _ _ (loops small) (few small) (weighed right) (not-short enough) _ _ _ (number small) (rw (masks-are _ _ (loops small)) at (c .before .before .before .before .before .before .before .write-masks .ensures)) (c .before .before .write-matrix .ensures)
+    let fine = good (small .before .before) in
+    let of = loops small in
+    ends _ (past-masks fine of (few small) (past-weights _ _ _ _ (weighed right) (past (rw (states-number _ _ of) (not-short enough)) none)))
+    (number small ∙ sym (states-number _ _ of))
+    (both (masks-written fine of _ _ (c .before .before .before .before .before .before .before .write-masks .ensures)) (c .before .before .write-matrix .ensures))
+    (masks-known fine of (few small) .few)
 
 pub build-su2-hamiltonian-spec : {M : Type 1} → statement M
 build-su2-hamiltonian-spec =

@@ -33,11 +33,11 @@ y-small c =
     let pre = start .pre in
     rw (y-back c, *ℤ-comm (start .args .sign) (start .args .x)) (omega (arith, size-sign (start .args .x) (start .args .sign) (pre .2)))
 
-low-back : (c : tie.After-minus) → toZ w32 (ofZ w32 (c .minus .result)) ≡ negℤ (pos (c .before .before .before .before .args .lambda))
-low-back c = back32 (c .minus .result) (c .minus .ok) ∙ c .minus .ensures
+low-back : (c : tie.After-negative) → toZ w32 (ofZ w32 (c .negative .result)) ≡ negℤ (pos (c .before .before .before .before .args .lambda))
+low-back c = back32 (c .negative .result) (c .negative .ok) ∙ c .negative .ensures
 
-above-back : (c : tie.After-signed) → toZ w32 (ofZ w32 (c .signed .result)) ≡ pos (c .before .before .before .before .before .before .before .args .lambda + 1)
-above-back c = back32 (c .signed .result) (c .signed .ok) ∙ c .signed .ensures
+above-back : (c : tie.After-usize-to-i32) → toZ w32 (ofZ w32 (c .usize-to-i32 .result)) ≡ pos (c .before .before .before .before .before .before .before .args .lambda + 1)
+above-back c = back32 (c .usize-to-i32 .result) (c .usize-to-i32 .ok) ∙ c .usize-to-i32 .ensures
 
 is-zero-requires : tie.Need-is-zero-requires
 is-zero-requires c κs = search needs
@@ -63,8 +63,8 @@ returns-2 c =
 turn-requires : tie.Need-turn-requires
 turn-requires c κs = let start = c .before .before in let pre = start .pre in rw (sign-back start, x-back start) (pre .2, omega arith)
 
-minus-requires : tie.Need-minus-requires
-minus-requires c κs = search needs
+negative-requires : tie.Need-negative-requires
+negative-requires c κs = search needs
 
 excess-requires : tie.Need-excess-requires
 excess-requires c κs =
@@ -75,11 +75,11 @@ excess-requires c κs =
 larger-requires-2 : tie.Need-larger-requires-2
 larger-requires-2 c κs = search needs
 
-add-signed : tie.Need-add-signed
-add-signed c = search needs
+add-usize-to-i32 : tie.Need-add-usize-to-i32
+add-usize-to-i32 c = search needs
 
-signed-requires : tie.Need-signed-requires
-signed-requires c κs = search needs
+usize-to-i32-requires : tie.Need-usize-to-i32-requires
+usize-to-i32-requires c κs = search needs
 
 excess-requires-2 : tie.Need-excess-requires-2
 excess-requires-2 c κs =
@@ -108,11 +108,11 @@ narrow-spec =
     larger-requires
     returns-2
     turn-requires
-    minus-requires
+    negative-requires
     excess-requires
     larger-requires-2
-    add-signed
-    signed-requires
+    add-usize-to-i32
+    usize-to-i32-requires
     excess-requires-2
     smaller-requires
     returns-3)

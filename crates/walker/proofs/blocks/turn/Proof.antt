@@ -9,13 +9,13 @@ use borrow.Author.Needs.{needs}
 use Rattle.walker.proofs.blocks.turn.Statement.{statement}
 use Rattle.walker.proofs.blocks.turn.Tie as tie
 
-is : (c : tie.After-wide) → toZ w32 (ofZ w32 (c .wide .result)) *ℤ toZ w32 (ofZ w32 (c .before .args .x)) ≡ c .before .args .x *ℤ c .before .args .sign
+is : (c : tie.After-i8-to-i32) → toZ w32 (ofZ w32 (c .i8-to-i32 .result)) *ℤ toZ w32 (ofZ w32 (c .before .args .x)) ≡ c .before .args .x *ℤ c .before .args .sign
 is c =
-    ap₂ _*ℤ_ (back32 (c .wide .result) (c .wide .ok) ∙ c .wide .ensures ∙ back8 (c .before .args .sign) (c .before .fits .sign .sfits)) (back32 (c .before .args .x) (c .before .fits .x .sfits))
+    ap₂ _*ℤ_ (back32 (c .i8-to-i32 .result) (c .i8-to-i32 .ok) ∙ c .i8-to-i32 .ensures ∙ back8 (c .before .args .sign) (c .before .fits .sign .sfits)) (back32 (c .before .args .x) (c .before .fits .x .sfits))
     ∙ *ℤ-comm (c .before .args .sign) (c .before .args .x)
 
-wide-requires : tie.Need-wide-requires
-wide-requires c κs = search needs
+i8-to-i32-requires : tie.Need-i8-to-i32-requires
+i8-to-i32-requires c κs = search needs
 
 mul-result : tie.Need-mul-result
 mul-result c =
@@ -28,4 +28,4 @@ returns : tie.Need-returns
 returns c = toZ-ofZ (mul-result c) ∙ is c ∙ *ℤ-comm (c .before .args .x) (c .before .args .sign)
 
 pub turn-spec : {M : Type 1} → statement M
-turn-spec = tie.close (tie.spec wide-requires mul-result returns)
+turn-spec = tie.close (tie.spec i8-to-i32-requires mul-result returns)

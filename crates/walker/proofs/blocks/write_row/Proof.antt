@@ -22,36 +22,36 @@ abbrev μ-loop : tie.MeasureT-loop
 μ-loop states₀ at config cycle times t e₀ e-end states e = length config - e
 
 abbrev In : Type 0
-In = tie.After-plus-arg2 Inv-loop μ-loop
+In = tie.After-plus-times-arg2 Inv-loop μ-loop
 
 abbrev start : In → tie.Start Inv-loop μ-loop
 start c = c .before .before .before .before .before
 
 x-back : (c : In) → toZ w32 (ofZ w32 (getD (start c .args .config .now) (c .before .before .before .loop .e) (pos 0))) ≡ getD (start c .args .config .now) (c .before .before .before .loop .e) (pos 0)
-x-back c = back32 _ (c .before .plus-arg .given)
+x-back c = back32 _ (c .before .plus-times-arg .given)
 
 s-back : (c : In) → toZ w8 (ofZ w8 (getD (start c .args .cycle .now) (c .before .before .before .loop .e) (pos 0))) ≡ getD (start c .args .cycle .now) (c .before .before .before .loop .e) (pos 0)
-s-back c = back8 _ (c .plus-arg2 .given)
+s-back c = back8 _ (c .plus-times-arg2 .given)
 
-signed-requires : tie.Need-signed-requires Inv-loop μ-loop
-signed-requires c κs = omega (arith, c .pre .1)
+usize-to-i32-requires : tie.Need-usize-to-i32-requires Inv-loop μ-loop
+usize-to-i32-requires c κs = omega (arith, c .pre .1)
 
 loop-holds : tie.Need-loop-holds Inv-loop μ-loop
 loop-holds c =
     let s = c .before in
-    (omega arith, refl, back32 (c .signed .result) (c .signed .ok) ∙ c .signed .ensures, refl, paste-zero (s .args .states .now) (s .args .at) (with-cycle (s .args .config .now) (pos (s .args .times)) (s .args .cycle .now)))
+    (omega arith, refl, back32 (c .usize-to-i32 .result) (c .usize-to-i32 .ok) ∙ c .usize-to-i32 .ensures, refl, paste-zero (s .args .states .now) (s .args .at) (with-cycle (s .args .config .now) (pos (s .args .times)) (s .args .cycle .now)))
 
-mul-plus : tie.Need-mul-plus Inv-loop μ-loop
-mul-plus c = search needs
+mul-plus-times : tie.Need-mul-plus-times Inv-loop μ-loop
+mul-plus-times c = search needs
 
-shared-slice-copy-out-plus : tie.Need-shared-slice-copy-out-plus Inv-loop μ-loop
-shared-slice-copy-out-plus c = search needs
+shared-slice-copy-out-plus-times : tie.Need-shared-slice-copy-out-plus-times Inv-loop μ-loop
+shared-slice-copy-out-plus-times c = search needs
 
-shared-slice-copy-out-plus-2 : tie.Need-shared-slice-copy-out-plus-2 Inv-loop μ-loop
-shared-slice-copy-out-plus-2 c = omega (arith, c .before .before .before .before .pre .0 .sized)
+shared-slice-copy-out-plus-times-2 : tie.Need-shared-slice-copy-out-plus-times-2 Inv-loop μ-loop
+shared-slice-copy-out-plus-times-2 c = omega (arith, c .before .before .before .before .pre .0 .sized)
 
-plus-requires : tie.Need-plus-requires Inv-loop μ-loop
-plus-requires c κs =
+plus-times-requires : tie.Need-plus-times-requires Inv-loop μ-loop
+plus-times-requires c κs =
     let pre = start c .pre .0 in
     let e = c .before .before .before .loop .e in
     rw (x-back c, c .before .before .before .loop .inv .2, s-back c) (pre .values e, pre .times, pre .signs e)
@@ -78,8 +78,8 @@ loop-again c =
     let row = with-cycle (s .args .config .now) (pos (s .args .times)) (s .args .cycle .now) in
     let e = at-loop .loop .e in
     let room = s .pre .2 in
-    let v : toZ w32 (ofZ w32 (c .plus .result)) ≡ getD row e (pos 0) =
-    back32 (c .plus .result) (c .plus .ok) ∙ c .plus .ensures
+    let v : toZ w32 (ofZ w32 (c .plus-times .result)) ≡ getD row e (pos 0) =
+    back32 (c .plus-times .result) (c .plus-times .ok) ∙ c .plus-times .ensures
     ∙ rw (x-back (c .before), at-loop .loop .inv .2, s-back (c .before)) (sym (added-at (s .args .config .now) _ (s .args .cycle .now) e (s .pre .0 .sized))) in (
       omega arith,
       refl,
@@ -105,12 +105,12 @@ write-row-spec =
     (tie.spec
     Inv-loop
     μ-loop
-    signed-requires
+    usize-to-i32-requires
     loop-holds
-    mul-plus
-    shared-slice-copy-out-plus
-    shared-slice-copy-out-plus-2
-    plus-requires
+    mul-plus-times
+    shared-slice-copy-out-plus-times
+    shared-slice-copy-out-plus-times-2
+    plus-times-requires
     add-t16
     mul-t17
     slice-set-from-states

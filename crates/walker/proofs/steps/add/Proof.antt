@@ -21,7 +21,7 @@ abbrev μ-loop : tie.MeasureT-loop
 μ-loop config₀ cycle times e₀ e-end config e = length config₀ - e
 
 abbrev In : Type 0
-In = tie.After-plus-arg2 Inv-loop μ-loop
+In = tie.After-plus-times-arg2 Inv-loop μ-loop
 
 abbrev start : In → tie.Start Inv-loop μ-loop
 start c = c .before .before .before .before
@@ -31,27 +31,27 @@ times-back c = back32 (c .args .times) (c .fits .times .sfits)
 
 x-back : (c : In) → toZ w32 (ofZ w32 (getD (c .before .before .before .loop .config) (c .before .before .before .loop .e) (pos 0))) ≡ getD (start c .args .config .now) (c .before .before .before .loop .e) (pos 0)
 x-back c =
-    back32 _ (c .before .plus-arg .given)
+    back32 _ (c .before .plus-times-arg .given)
     ∙ front-read (start c .args .config .now) _ (c .before .before .before .loop .config) (c .before .before .before .loop .e) (pos 0)
     (added-length (start c .args .config .now) _ (start c .args .cycle .now)) (c .before .before .before .loop .inv .3) (omega arith)
 
 s-back : (c : In) → toZ w8 (ofZ w8 (getD (start c .args .cycle .now) (c .before .before .before .loop .e) (pos 0))) ≡ getD (start c .args .cycle .now) (c .before .before .before .loop .e) (pos 0)
-s-back c = back8 _ (c .plus-arg2 .given)
+s-back c = back8 _ (c .plus-times-arg2 .given)
 
 loop-holds : tie.Need-loop-holds Inv-loop μ-loop
 loop-holds c = (omega arith, refl, refl, refl)
 
-mul-plus : tie.Need-mul-plus Inv-loop μ-loop
-mul-plus c = search needs
+mul-plus-times : tie.Need-mul-plus-times Inv-loop μ-loop
+mul-plus-times c = search needs
 
-slice-copy-out-plus : tie.Need-slice-copy-out-plus Inv-loop μ-loop
-slice-copy-out-plus c = search needs
+slice-copy-out-plus-times : tie.Need-slice-copy-out-plus-times Inv-loop μ-loop
+slice-copy-out-plus-times c = search needs
 
-shared-slice-copy-out-plus : tie.Need-shared-slice-copy-out-plus Inv-loop μ-loop
-shared-slice-copy-out-plus c = omega (arith, c .before .before .before .pre .sized)
+shared-slice-copy-out-plus-times : tie.Need-shared-slice-copy-out-plus-times Inv-loop μ-loop
+shared-slice-copy-out-plus-times c = omega (arith, c .before .before .before .pre .sized)
 
-plus-requires : tie.Need-plus-requires Inv-loop μ-loop
-plus-requires c κs =
+plus-times-requires : tie.Need-plus-times-requires Inv-loop μ-loop
+plus-times-requires c κs =
     let pre = start c .pre in
     let e = c .before .before .before .loop .e in
     rw (x-back c, times-back (start c), s-back c) (pre .values e, pre .times, pre .signs e)
@@ -77,7 +77,7 @@ loop-again c =
       refl,
       simp length-set (at-loop .loop .inv .2),
       front-more (s .args .config .now) new (at-loop .loop .config) (at-loop .loop .e) (pos 0) (added-length (s .args .config .now) _ (s .args .cycle .now)) (at-loop .loop .inv .3) _ (omega arith)
-          (back32 (c .plus .result) (c .plus .ok) ∙ c .plus .ensures ∙ rw (x-back (c .before), s-back (c .before)) (sym (added-at (s .args .config .now) _ (s .args .cycle .now) (at-loop .loop .e) (s .pre .sized)))),
+          (back32 (c .plus-times .result) (c .plus-times .ok) ∙ c .plus-times .ensures ∙ rw (x-back (c .before), s-back (c .before)) (sym (added-at (s .args .config .now) _ (s .args .cycle .now) (at-loop .loop .e) (s .pre .sized)))),
     )
 
 same-length : tie.Need-same-length Inv-loop μ-loop
@@ -96,10 +96,10 @@ add-spec =
     Inv-loop
     μ-loop
     loop-holds
-    mul-plus
-    slice-copy-out-plus
-    shared-slice-copy-out-plus
-    plus-requires
+    mul-plus-times
+    slice-copy-out-plus-times
+    shared-slice-copy-out-plus-times
+    plus-times-requires
     mul-t13
     slice-set-from-config
     add-e

@@ -1,5 +1,5 @@
-use Prim.Native.Nat.{ℕ, _≤_, _<_, _+_, _*_, _-_}
-use mathlib.Core.Path.{_≡_, refl, sym, ap, subst, _∙_}
+use Prim.Native.Nat.{ℕ, _≤_, _<_, _+_, _*_, _-_, _^_}
+use mathlib.Core.Path.{_≡_, refl, sym, ap, _∙_}
 use native.Mathlib.Omega.{arith}
 use lib.IntN.{pos, negℤ, natAbs}
 use lib.ListN.{length, getD}
@@ -8,14 +8,13 @@ use mir.Val.{toZ, ofZ}
 use Rattle.mathematics.proofs.Signed.{size-neg, back32}
 use Rattle.cycles.specs.Cycles.{row, with-cycle}
 use Rattle.walker.specs.Walker.{sum-of-cycles, lowest-candidate}
-use Rattle.cycles.proofs.Adding.{zeros-at}
 use Rattle.walker.proofs.Stepping.{cycle-long, cycle-signs, cycle-addable, added-small, combined-next}
 use borrow.Author.Needs.{needs}
 use Rattle.walker.proofs.steps.begin.Statement.{statement}
 use Rattle.walker.proofs.steps.begin.Tie as tie
 
 abbrev Inv-loop : tie.InvT-loop
-Inv-loop config₀ cycles n-free lambda m low j₀ config j = (j ≤ n-free) × (m ≡ length config₀) × (toZ w32 low ≡ negℤ (pos lambda)) × (length config ≡ length config₀) × (config ≡ sum-of-cycles (row (length config₀) cycles) (λ i. negℤ (pos lambda)) config₀ j) × ((e : ℕ) → natAbs (getD config e (pos 0)) ≤ j * 1000)
+Inv-loop config₀ cycles n-free lambda m low j₀ config j = (j ≤ n-free) × (m ≡ length config₀) × (toZ w32 low ≡ negℤ (pos lambda)) × (length config ≡ length config₀) × (config ≡ sum-of-cycles (row (length config₀) cycles) (λ i. negℤ (pos lambda)) config₀ j) × ((e : ℕ) → natAbs (getD config e (pos 0)) ≤ 2 ^ 13 + j * 1000)
 
 abbrev μ-loop : tie.MeasureT-loop
 μ-loop config₀ cycles n-free lambda m low j₀ config j = n-free - j
@@ -23,20 +22,19 @@ abbrev μ-loop : tie.MeasureT-loop
 low-small : (L : ℕ) → L ≤ 1000 → natAbs (negℤ (pos L)) ≤ 1000
 low-small L h = omega (arith, size-neg (pos L))
 
-minus-requires : tie.Need-minus-requires Inv-loop μ-loop
-minus-requires c κs = omega (arith, c .pre .1 .truncation)
+negative-requires : tie.Need-negative-requires Inv-loop μ-loop
+negative-requires c κs = omega (arith, c .pre .1 .truncation)
 
 loop-holds : tie.Need-loop-holds Inv-loop μ-loop
 unfolding sum-of-cycles
 loop-holds c =
-    let start = c .before in
-    let s = start .args .config .now in (
+    let start = c .before in (
       omega arith,
       refl,
-      back32 (c .minus .result) (c .minus .ok) ∙ c .minus .ensures,
+      back32 (c .negative .result) (c .negative .ok) ∙ c .negative .ensures,
       refl,
       refl,
-      λ e. subst (λ l. natAbs (getD l e (pos 0)) ≤ 0) (sym (start .pre .0)) (rw (zeros-at (length s) e) (omega arith)),
+      λ e. omega (arith, start .pre .0 e),
     )
 
 mul-add : tie.Need-mul-add Inv-loop μ-loop
@@ -65,7 +63,7 @@ add-requires c κs =
     let m = length (start .args .config .now) in
     let j = at-loop .loop .j in
     let e : 63 * j + m - 63 * j ≡ m = omega arith in
-    let small : natAbs (toZ w32 (ofZ w32 (at-loop .before .minus .result))) ≤ 1000 = rw (at-loop .loop .inv .2) (low-small (start .args .lambda) (fit .truncation)) in
+    let small : natAbs (toZ w32 (ofZ w32 (at-loop .before .negative .result))) ≤ 1000 = rw (at-loop .loop .inv .2) (low-small (start .args .lambda) (fit .truncation)) in
     rw e
     (cycle-addable m (start .args .n-free) (start .args .lambda) (start .args .cycles .now) fit j (omega arith) (at-loop .loop .config) _ (at-loop .loop .inv .3)
     (λ i. omega (arith, at-loop .loop .inv .5 i, fit .free-few)) (omega arith))
@@ -96,7 +94,7 @@ loop-again c =
           rw made
           (omega (
             arith,
-            added-small (at-loop .loop .config) (negℤ (pos (start .args .lambda))) (row m cycles j) (j * 1000) 1000 (cycle-long m (start .args .n-free) (start .args .lambda) cycles fit j inside ∙ sym (at-loop .loop .inv .3))
+            added-small (at-loop .loop .config) (negℤ (pos (start .args .lambda))) (row m cycles j) (2 ^ 13 + j * 1000) 1000 (cycle-long m (start .args .n-free) (start .args .lambda) cycles fit j inside ∙ sym (at-loop .loop .inv .3))
                 (at-loop .loop .inv .5) (low-small (start .args .lambda) (fit .truncation)) (cycle-signs m (start .args .n-free) (start .args .lambda) cycles fit j inside) i,
           )),
     )
@@ -109,8 +107,7 @@ unfolding lowest-candidate
 returns c =
     let start = c .before .before .before in
     let past : c .before .loop .j ≡ start .args .n-free = omega arith in
-    let made = rw past at (c .before .loop .inv .4) in
-    made ∙ ap (λ s. sum-of-cycles (row (length (start .args .config .now)) (start .args .cycles .now)) (λ i. negℤ (pos (start .args .lambda))) s (start .args .n-free)) (start .pre .0)
+    rw past at (c .before .loop .inv .4)
 
 pub begin-spec : {M : Type 1} → statement M
 begin-spec =
@@ -118,7 +115,7 @@ begin-spec =
     (tie.spec
     Inv-loop
     μ-loop
-    minus-requires
+    negative-requires
     loop-holds
     mul-add
     mul-add-2

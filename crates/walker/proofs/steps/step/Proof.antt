@@ -45,7 +45,7 @@ place c =
     rw (c .byte .ensures) (omega (arith, start at-loop .pre .1 .inside (at-loop .loop .j) (omega arith), at-loop .loop .inv .3))
 
 test : (c : tie.After-x Inv-loop μ-loop) (b : Bool)
-    → ltZ (toZ w32 (ofZ w32 (getD (c .before .before .before .before .loop .config) (c .before .byte .result) (pos 0)))) (toZ w32 (ofZ w32 (c .before .before .before .before .before .before .signed .result))) ≡ b
+    → ltZ (toZ w32 (ofZ w32 (getD (c .before .before .before .before .loop .config) (c .before .byte .result) (pos 0)))) (toZ w32 (ofZ w32 (c .before .before .before .before .before .before .usize-to-i32 .result))) ≡ b
     → ltZ (digit (c .before .before .before .before)) (pos (start (c .before .before .before .before) .args .lambda)) ≡ b
 test c b t =
     let at-loop = c .before .before .before .before in
@@ -63,21 +63,21 @@ addable : (c : Loop) → c .loop .j < start c .args .n-free → (t : ℤ) → na
 addable c h t few =
     cycle-addable _ (start c .args .n-free) (start c .args .lambda) (start c .args .cycles .now) (start c .pre .0) (c .loop .j) h (c .loop .config) t (c .loop .inv .3) (room c h) few
 
-signed-requires : tie.Need-signed-requires Inv-loop μ-loop
-signed-requires c κs = omega (arith, c .pre .0 .truncation)
+usize-to-i32-requires : tie.Need-usize-to-i32-requires Inv-loop μ-loop
+usize-to-i32-requires c κs = omega (arith, c .pre .0 .truncation)
 
-mul-minus : tie.Need-mul-minus Inv-loop μ-loop
-mul-minus c = let h = c .before .pre .0 .truncation in search needs
+mul-negative : tie.Need-mul-negative Inv-loop μ-loop
+mul-negative c = let h = c .before .pre .0 .truncation in search needs
 
-minus-requires : tie.Need-minus-requires Inv-loop μ-loop
-minus-requires c κs = omega (arith, c .before .pre .0 .truncation)
+negative-requires : tie.Need-negative-requires Inv-loop μ-loop
+negative-requires c κs = omega (arith, c .before .pre .0 .truncation)
 
 loop-holds : tie.Need-loop-holds Inv-loop μ-loop
 loop-holds c =
     let s = c .before .before in (
       refl,
-      back32 (c .before .signed .result) (c .before .signed .ok) ∙ c .before .signed .ensures,
-      back32 (c .minus .result) (c .minus .ok) ∙ c .minus .ensures,
+      back32 (c .before .usize-to-i32 .result) (c .before .usize-to-i32 .ok) ∙ c .before .usize-to-i32 .ensures,
+      back32 (c .negative .result) (c .negative .ok) ∙ c .negative .ensures,
       refl,
       refl,
       λ e. omega (arith, s .pre .2 e),
@@ -153,7 +153,7 @@ part-add-end-2 c = search needs
 add-requires-2 : tie.Need-add-requires-2 Inv-loop μ-loop
 add-requires-2 c κs =
     let at-loop = c .before .before .before .before .before .before .before in
-    let few : natAbs (toZ w32 (ofZ w32 (at-loop .before .minus .result))) ≤ 2000 = rw (at-loop .loop .inv .2) (back-small (start at-loop .args .lambda) (start at-loop .pre .0 .truncation)) in
+    let few : natAbs (toZ w32 (ofZ w32 (at-loop .before .negative .result))) ≤ 2000 = rw (at-loop .loop .inv .2) (back-small (start at-loop .args .lambda) (start at-loop .pre .0 .truncation)) in
     rw (part (at-loop .loop .j) (length (start at-loop .args .config .now))) (addable at-loop (omega arith) _ (omega arith))
 
 add-j : tie.Need-add-j Inv-loop μ-loop
@@ -205,9 +205,9 @@ step-spec =
     (tie.spec
     Inv-loop
     μ-loop
-    signed-requires
-    mul-minus
-    minus-requires
+    usize-to-i32-requires
+    mul-negative
+    negative-requires
     loop-holds
     element-copy-out-byte
     byte-requires

@@ -1,4 +1,3 @@
-use mathlib.Core.Path.{_∙_}
 use borrow.Author.Needs.{needs}
 use Rattle.matrices.proofs.coupling.KSParams.u1.Statement.{statement}
 use Rattle.matrices.proofs.coupling.KSParams.u1.Tie as tie
@@ -10,7 +9,7 @@ checked-requires : tie.Need-checked-requires
 checked-requires c κs = search needs
 
 returns : tie.Need-returns
-returns c = c .checked .ensures ∙ rw (c .before .u1-params .ensures)
+returns c = rw (c .before .u1-params .ensures) at (c .checked .ensures)
 
 pub u1-spec : {M : Type 1} → statement M
 u1-spec = tie.close (tie.spec u1-params-requires checked-requires returns)

@@ -1,4 +1,0 @@
-mod Prints
-mod BlockLines
-mod Answers
-mod Cut

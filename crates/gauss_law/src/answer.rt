@@ -1,7 +1,0 @@
-// What a call answers that lists states.
-
-// The number of states.
-pub enum Enumerated {
-    States(usize),
-    Refused(u8),
-}

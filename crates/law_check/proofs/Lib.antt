@@ -1,0 +1,4 @@
+pub mod Summed
+pub mod Findings
+pub mod LawTold
+pub mod Examples

@@ -1,0 +1,5 @@
+mod Parts
+mod Turning
+mod Whole
+mod Answers
+mod Cut

@@ -1,0 +1,11 @@
+pub mod Pairs
+pub mod Judging
+pub mod Summing
+pub mod Validity
+pub mod Columns
+pub mod Sorting
+pub mod Shifting
+pub mod Examples
+pub mod Merging
+pub mod Inserting
+pub mod Joining
