@@ -9,3 +9,4 @@ pub mod Examples
 pub mod Merging
 pub mod Inserting
 pub mod Joining
+pub mod RowsWritten

@@ -1,3 +1,4 @@
 pub mod Entries
 pub mod Product
 pub mod Row
+pub mod RowLists

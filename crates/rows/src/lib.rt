@@ -1,4 +1,5 @@
-// A sparse matrix as row lists: its product with a vector, and a row made of entries in any order.
+// A sparse matrix as row lists: its product with a vector, a row made of entries in any order, and rows written one after the other.
 
+pub mod lists;
 pub mod product;
 pub mod row;
