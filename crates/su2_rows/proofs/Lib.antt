@@ -1,0 +1,5 @@
+pub mod KeptDiagonals
+pub mod RowLengths
+pub mod TableRows
+pub mod RowSteps
+pub mod Examples

@@ -1,0 +1,126 @@
+use Prim.Native.Nat.{ℕ, _+_, _-_, _<_, _≤_}
+use mathlib.Core.List.{List, flatMap}
+use mathlib.Core.Path.{_≡_, refl, sym, _∙_}
+use native.Mathlib.Omega.{arith}
+use lib.ListN.{length, length-set}
+use Rattle.mathematics.specs.Counting.{below}
+use Rattle.rows.specs.RowLists.{rows-to, RowsWritten}
+use Rattle.rows.proofs.RowsWritten.{rows-length-next, none-written}
+use Rattle.su2_rows.specs.Rows.{table-row}
+use Rattle.su2_rows.proofs.RowSteps.{fits-at, added-next, added-written}
+use borrow.Author.Needs.{needs}
+use Rattle.su2_rows.proofs.fill.write_rows.Statement.{statement}
+use Rattle.su2_rows.proofs.fill.write_rows.Tie as tie
+
+abbrev Inv-loop : tie.InvT-loop
+Inv-loop n electric states places terms n-triangles starts₀ columns₀ values₀ row-columns₀ row-values₀ at₀ i₀ starts columns values row-columns row-values at i =
+    (i ≤ n) × (length starts ≡ length starts₀) × (length columns ≡ length columns₀) × (length values ≡ length values₀) × (length row-columns ≡ 257) × (length row-values ≡ 257)
+    × (at ≡ length (rows-to (table-row electric states places terms n-triangles n) i))
+    × ((old : List ℕ) → length starts₀ ≡ length old → RowsWritten (table-row electric states places terms n-triangles n) 0 0 old columns₀ values₀ starts₀ columns₀ values₀ → RowsWritten (table-row electric states places terms n-triangles n) i at old columns₀ values₀ starts columns values)
+
+abbrev μ-loop : tie.MeasureT-loop
+μ-loop n electric states places terms n-triangles starts₀ columns₀ values₀ row-columns₀ row-values₀ at₀ i₀ starts columns values row-columns row-values at i = n - i
+
+slice-write-starts : tie.Need-slice-write-starts Inv-loop μ-loop
+slice-write-starts c = let fits = c .before .before .before .before .before .before .pre .starts-fit in search needs
+
+loop-holds : tie.Need-loop-holds Inv-loop μ-loop
+unfolding rows-to below flatMap
+loop-holds c = (omega arith, refl, refl, refl, refl, refl, refl, λ old h w. w)
+
+mul-mask-energy : tie.Need-mul-mask-energy Inv-loop μ-loop
+mul-mask-energy c = search needs
+
+shared-slice-read-mask-energy : tie.Need-shared-slice-read-mask-energy Inv-loop μ-loop
+shared-slice-read-mask-energy c = let fits = c .before .before .before .before .before .before .before .before .before .pre .states-long in search needs
+
+mask-energy-requires : tie.Need-mask-energy-requires Inv-loop μ-loop
+mask-energy-requires c κs = search needs
+
+slice-aggregate-add-row : tie.Need-slice-aggregate-add-row Inv-loop μ-loop
+slice-aggregate-add-row c = search needs
+
+slice-aggregate-add-row-2 : tie.Need-slice-aggregate-add-row-2 Inv-loop μ-loop
+slice-aggregate-add-row-2 c = search needs
+
+add-row-requires : tie.Need-add-row-requires Inv-loop μ-loop
+add-row-requires c κs =
+    let at-loop = c .before .before .before .before .before .before .before .before in
+    let inv = at-loop .loop .inv in
+    let start = c .before .before .before .before .before .before .before .before .before .before .before .before .before .before .before in
+    let pre = start .pre in
+    let inside : at-loop .loop .i < start .args .n = c .before .before .before .before .before .before .before .loop-test .taken in (
+      omega (arith, pre .few, inside),
+      omega (arith, inv .4, pre .few-triangles),
+      inv .4 ∙ sym (inv .5),
+      pre .places-long,
+      pre .terms-long,
+      omega (arith, inv .1, length-set (start .args .starts .now) 0 0, pre .starts-fit, inside),
+      rw (c .before .before .before .before .before .mask-energy .ensures, inv .2, inv .3) (fits-at pre (at-loop .loop .i) (at-loop .loop .at) inside (inv .6)),
+    )
+
+add-i : tie.Need-add-i Inv-loop μ-loop
+add-i c = search needs
+
+loop-less : tie.Need-loop-less Inv-loop μ-loop
+loop-less c = search needs
+
+loop-again : tie.Need-loop-again Inv-loop μ-loop
+loop-again c =
+    let at-loop = c .before .before .before .before .before .before .before .before .before .before .before .before .before .before .before .before .before in
+    let inv = at-loop .loop .inv in
+    let start = c .before .before .before .before .before .before .before .before .before .before .before .before .before .before .before .before .before .before .before .before .before .before .before .before in
+    let inside : at-loop .loop .i < start .args .n = c .before .before .before .before .before .before .before .before .before .before .before .before .before .before .before .before .loop-test .taken in
+    let added = c .before .before .before .before .before .before .before .before .add-row in
+    let row = rw (c .before .before .before .before .before .before .before .before .before .before .before .before .before .before .mask-energy .ensures) at (added .ensures) in (
+      omega (arith, inside),
+      added .kept .1 .1 .1 .1 .1 .1 .1 .1 .0 ∙ inv .1,
+      added .kept .1 .1 .1 .1 .1 .1 .1 .1 .1 .0 ∙ inv .2,
+      added .kept .1 .1 .1 .1 .1 .1 .1 .1 .1 .1 .0 ∙ inv .3,
+      added .kept .0 ∙ inv .4,
+      added .kept .1 .0 ∙ inv .5,
+      added-next (start .pre) (at-loop .loop .i) (at-loop .loop .at) inside _ _ _ _ _ _ _ row (inv .6),
+      λ old long none.
+          added-written (start .pre) (at-loop .loop .i) (at-loop .loop .at) inside _ _ _ _ _ _ _ row old (start .args .columns .now) (start .args .values .now) (sym long ∙ length-set (start .args .starts .now) 0 0) refl refl (inv .7 old long none),
+    )
+
+same-length : tie.Need-same-length Inv-loop μ-loop
+same-length c = c .before .loop .inv .1 ∙ length-set (c .before .before .before .before .before .before .before .before .args .starts .now) 0 0
+
+same-length-2 : tie.Need-same-length-2 Inv-loop μ-loop
+same-length-2 c = search needs
+
+same-length-3 : tie.Need-same-length-3 Inv-loop μ-loop
+same-length-3 c = search needs
+
+returns : tie.Need-returns Inv-loop μ-loop
+returns c =
+    let inv = c .before .loop .inv in
+    let start = c .before .before .before .before .before .before .before .before in
+    let past : c .before .loop .i ≡ start .args .n = omega arith in
+    let some : 0 < length (start .args .starts .now) = omega (arith, start .pre .starts-fit) in
+    let all = inv .7 (start .args .starts .now) (length-set (start .args .starts .now) 0 0) (none-written _ _ _ _ some) in
+    let ends : c .before .loop .at ≡ length (rows-to (table-row (start .args .electric) (start .args .states .now) (start .args .places .now) (start .args .terms .now) (start .args .n-triangles) (start .args .n)) (start .args .n)) = rw past at (inv .6) in
+    rw (← ends) (rw past at all)
+
+pub write-rows-spec : {M : Type 1} → statement M
+write-rows-spec =
+    tie.close
+    (tie.spec
+    Inv-loop
+    μ-loop
+    slice-write-starts
+    loop-holds
+    mul-mask-energy
+    shared-slice-read-mask-energy
+    mask-energy-requires
+    slice-aggregate-add-row
+    slice-aggregate-add-row-2
+    add-row-requires
+    add-i
+    loop-less
+    loop-again
+    same-length
+    same-length-2
+    same-length-3
+    returns)

@@ -1,0 +1,115 @@
+-- The two-valued Hamiltonian as row lists: for each state the columns that have an entry, rising, with their values.
+use Prim.Native.Nat.{ℕ, _+_, _-_, _*_, _^_, _≤_, _<_}
+use mathlib.Core.List.{List, [], _∷_, _++_, map}
+use mathlib.Core.Bool.{Bool, _&&_, _||_, cond}
+use mathlib.Core.Path.{_≡_}
+use lib.Bits.{bitXor}
+use lib.Count.{ones}
+use lib.Dec.{eqb, ltb}
+use lib.Ieee.{Float, binary64, nan, mul}
+use lib.ListN.{getD, length}
+use Rattle.mathematics.specs.Counting.{below, keep}
+use Rattle.mathematics.specs.Entries.{Each}
+use Rattle.mathematics.specs.Writing.{front}
+use Rattle.mathematics.specs.Calls.{Call}
+use Rattle.complex.specs.Complex.{Complex}
+use Rattle.matrices.specs.declared.coupling.KSParams.{KSParams}
+use Rattle.matrices.specs.Coupling.{su2-right}
+use Rattle.matrices.specs.Weights.{weight, weights-tests}
+use Rattle.matrices.specs.Squares.{energy}
+use Rattle.rows.specs.Row.{values-at, row-of, RowOf}
+use Rattle.rows.specs.RowLists.{kept, rows-to, row-starts, row-columns, row-values, RowAppended}
+use Rattle.gauss_law.specs.Listing.{limit}
+use Rattle.even_sets.specs.EvenSets.{su2-states, mask-place}
+use Rattle.masks.specs.Basis.{su2-tests}
+use Rattle.masks.specs.Flips.{triangle-mask, flips}
+
+-- the electric factor times the number of edges in state i
+unfoldable pub su2-diagonal : Complex → KSParams → ℕ → Float
+su2-diagonal c p i = energy (p .electric) (ones (getD (su2-states c) i 0))
+
+-- The values given for column j of row i, in order: on the diagonal the electric term, where it is kept; then the magnetic factor × weight of
+-- each triangle, rising, that flips i to j, always kept.
+unfoldable pub su2-given : Complex → KSParams → (ℕ → Float) → ℕ → ℕ → List Float
+su2-given c p w i j =
+    cond (eqb i j && kept (su2-diagonal c p i)) (su2-diagonal c p i ∷ []) []
+    ++ map (λ t. mul binary64 (p .magnetic) (w t)) (keep (λ t. flips c t i j) (below (length (c .triangles))))
+
+unfoldable pub su2-row : Complex → KSParams → (ℕ → Float) → ℕ → List (ℕ × Float)
+su2-row c p w i = row-of (su2-given c p w i) (length (su2-states c))
+
+-- the number of entries of all rows
+unfoldable pub su2-entries : Complex → KSParams → (ℕ → Float) → ℕ
+su2-entries c p w = length (rows-to (su2-row c p w) (length (su2-states c)))
+
+-- 4 and 7 to 10 as for the basis, then 12 and 14 for the weights and the coupling, and 15 where the list of states, that of starts, that of
+-- columns or that of values is too short
+abbrev pub su2-rows-tests : Complex → KSParams → Bool → List Float → ℕ → ℕ → ℕ → ℕ → List (ℕ × Bool)
+su2-rows-tests c p given weights work-room starts-room columns-room values-room =
+    su2-tests c
+    ++ (weights-tests (length (c .triangles)) (su2-right p) given weights
+    ++ ((15, ((ltb work-room (length (su2-states c)) || ltb starts-room (length (su2-states c) + 1)) || ltb columns-room (su2-entries c p (weight given weights))) || ltb values-room (su2-entries c p (weight given weights))) ∷ []))
+
+-- what is known of the rows where they are listed: there are not more than the limit, and each has an entry for each triangle and one on the
+-- diagonal, all but the first, which has none there
+pub record RowsKnown (c : Complex) (p : KSParams) (w : ℕ → Float) : Type 0 where
+  pub few : length (su2-states c) ≤ limit
+  pub count : su2-entries c p w ≡ (length (c .triangles) + 1) * length (su2-states c) - 1
+
+-- build_csr_su2: the number of entries is told, and the four lists begin with the masks, ascending, and with the starts, the columns and the
+-- values of all rows.
+unfoldable pub su2-rows-call : Complex → KSParams → Bool → List Float → List ℕ → List ℕ → List ℕ → List Float → Call ℕ (List ℕ × List ℕ × List ℕ × List Float)
+su2-rows-call c p given weights work starts columns values =
+    record {
+      tests = su2-rows-tests c p given weights (length work) (length starts) (length columns) (length values);
+      value = su2-entries c p (weight given weights);
+      before = (work, starts, columns, values);
+      after = (
+        front (su2-states c) work,
+        front (row-starts (su2-row c p (weight given weights)) (length (su2-states c))) starts,
+        front (row-columns (su2-row c p (weight given weights)) (length (su2-states c))) columns,
+        front (row-values (su2-row c p (weight given weights)) (length (su2-states c))) values,
+      );
+      known = RowsKnown c p (weight given weights);
+    }
+
+-- ---- as the code keeps it
+-- the entries of row i before they are sorted, by the tables of n triangles: the diagonal x where it is kept, then the flip and the term of each
+unfoldable pub table-entries : List ℕ → List Float → ℕ → ℕ → Float → List (ℕ × Float)
+table-entries places terms n i x = cond (kept x) ((i, x) ∷ []) [] ++ map (λ t. (bitXor i (getD places t 0), getD terms t nan)) (below n)
+
+-- row i of n columns, by the list of states and these tables
+unfoldable pub table-row : Float → List ℕ → List ℕ → List Float → ℕ → ℕ → ℕ → List (ℕ × Float)
+table-row electric states places terms t n i = row-of (λ j. values-at j (table-entries places terms t i (energy electric (ones (getD states i 0))))) n
+
+-- of each of the first n triangles the place of its edges, and its magnetic factor × weight
+pub record Tables (c : Complex) (p : KSParams) (w : ℕ → Float) (n : ℕ) (places : List ℕ) (terms : List Float) : Type 0 where
+  pub places-are : (t : ℕ) → t < n → getD places t 0 ≡ mask-place c (triangle-mask c t)
+  pub terms-are : (t : ℕ) → t < n → getD terms t nan ≡ mul binary64 (p .magnetic) (w t)
+
+-- the row that some entries make has room behind a place in the columns and in the values, and ends below 2^32
+pub record RowFits (entries : List (ℕ × Float)) (at columns-room values-room : ℕ) : Type 0 where
+  pub columns : ℕ
+  pub below : Each (λ e. e .0 < columns) entries
+  pub columns-fit : at + length (row-of (λ j. values-at j entries) columns) ≤ columns-room
+  pub values-fit : at + length (row-of (λ j. values-at j entries) columns) ≤ values-room
+  pub small : at + length (row-of (λ j. values-at j entries) columns) < 2 ^ 32
+
+-- the row that some entries make is written as row i
+pub record RowAdded (entries : List (ℕ × Float)) (i at : ℕ) (starts columns : List ℕ) (values : List Float) (r : ℕ) (starts′ columns′ : List ℕ) (values′ : List Float) : Type 0 where
+  pub row : List (ℕ × Float)
+  pub is : RowOf entries row
+  pub appended : RowAppended row i at starts columns values r starts′ columns′ values′
+
+-- n states with tables of t triangles whose flips lead below n, and room for all rows and their starts
+pub record RowsFit (n : ℕ) (electric : Float) (states places : List ℕ) (terms : List Float) (t starts-room columns-room values-room : ℕ) : Type 0 where
+  pub few : n ≤ 2 ^ 20
+  pub few-triangles : t ≤ 256
+  pub states-long : n ≤ length states
+  pub places-long : t ≤ length places
+  pub terms-long : t ≤ length terms
+  pub within : (i k : ℕ) → i < n → k < t → bitXor i (getD places k 0) < n
+  pub starts-fit : n < starts-room
+  pub columns-fit : length (rows-to (table-row electric states places terms t n) n) ≤ columns-room
+  pub values-fit : length (rows-to (table-row electric states places terms t n) n) ≤ values-room
+  pub small : length (rows-to (table-row electric states places terms t n) n) < 2 ^ 32

@@ -1,0 +1,5 @@
+// The Hamiltonian of the two-valued truncation of SU(2) as row lists.
+
+pub mod fill;
+pub mod row;
+pub mod tables;
