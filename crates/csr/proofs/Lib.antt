@@ -1,0 +1,4 @@
+pub mod Counted
+pub mod Counting
+pub mod Found
+pub mod Examples

@@ -1,0 +1,3 @@
+pub mod Csr
+pub mod Found
+pub mod Count

@@ -1,0 +1,3 @@
+// The Kogut-Susskind Hamiltonian of U(1) as row lists.
+
+pub mod count;
