@@ -2,4 +2,5 @@ pub mod KeptDiagonals
 pub mod RowLengths
 pub mod TableRows
 pub mod RowSteps
+pub mod ListedRows
 pub mod Examples

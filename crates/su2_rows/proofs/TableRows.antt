@@ -64,7 +64,7 @@ values-second g f j l = rw (keep-map (λ (e : ℕ × Float). eqb (e .0) j) (λ t
     again [] = refl
     again (t ∷ m) = ap (λ r. f t ∷ r) (again m)
 
-map-each : (f g : ℕ → Float) {l : List ℕ} → Each (λ t. f t ≡ g t) l → map f l ≡ map g l
+pub map-each : {B : Type 0} (f g : ℕ → B) {l : List ℕ} → Each (λ t. f t ≡ g t) l → map f l ≡ map g l
 map-each f g none = refl
 map-each f g (also e h) = ap₂ (λ x r. x ∷ r) e (map-each f g h)
 

@@ -1,7 +1,7 @@
 -- The two-valued Hamiltonian as row lists: for each state the columns that have an entry, rising, with their values.
 use Prim.Native.Nat.{ℕ, _+_, _-_, _*_, _^_, _≤_, _<_}
 use mathlib.Core.List.{List, [], _∷_, _++_, map}
-use mathlib.Core.Bool.{Bool, _&&_, _||_, cond}
+use mathlib.Core.Bool.{Bool, true, _&&_, _||_, cond}
 use mathlib.Core.Path.{_≡_}
 use lib.Bits.{bitXor}
 use lib.Count.{ones}
@@ -20,9 +20,11 @@ use Rattle.matrices.specs.Squares.{energy}
 use Rattle.rows.specs.Row.{values-at, row-of, RowOf}
 use Rattle.rows.specs.RowLists.{kept, rows-to, row-starts, row-columns, row-values, RowAppended}
 use Rattle.gauss_law.specs.Listing.{limit}
+use Rattle.even_sets.specs.declared.Forest.{Forest}
 use Rattle.even_sets.specs.EvenSets.{su2-states, mask-place}
 use Rattle.masks.specs.Basis.{su2-tests}
 use Rattle.masks.specs.Flips.{triangle-mask, flips}
+use Rattle.masks.specs.Place.{LoopsOf}
 
 -- the electric factor times the number of edges in state i
 unfoldable pub su2-diagonal : Complex → KSParams → ℕ → Float
@@ -113,3 +115,13 @@ pub record RowsFit (n : ℕ) (electric : Float) (states places : List ℕ) (term
   pub columns-fit : length (rows-to (table-row electric states places terms t n) n) ≤ columns-room
   pub values-fit : length (rows-to (table-row electric states places terms t n) n) ≤ values-room
   pub small : length (rows-to (table-row electric states places terms t n) n) < 2 ^ 32
+
+-- the loops of an accepted complex that has n states, a coupling in its range, and room for all rows and their starts
+pub record RowsOf (c : Complex) (f : Forest) (p : KSParams) (n starts-room columns-room values-room : ℕ) : Type 0 where
+  pub loops : LoopsOf c f
+  pub few : f .count ≤ 20
+  pub states : n ≡ 2 ^ f .count
+  pub right : su2-right p ≡ true
+  pub starts-fit : n < starts-room
+  pub columns-fit : (length (c .triangles) + 1) * n - 1 ≤ columns-room
+  pub values-fit : (length (c .triangles) + 1) * n - 1 ≤ values-room
