@@ -27,6 +27,7 @@ use Rattle.masks.specs.Basis.{su2-basis-tests}
 use Rattle.su2_quantum.specs.Dense.{su2-dense-tests}
 use Rattle.refusals.specs.Sentences.{text-tests}
 use Rattle.rows.specs.Product.{product-tests}
+use Rattle.su2_rows.specs.Rows.{su2-rows-tests}
 
 pub judge-smallest : (c : Complex) → Smallest (complex-tests c) (refusal c)
 unfolding refusal rising-from
@@ -99,3 +100,7 @@ text-smallest n room = first-smallest (text-tests n room) refl
 pub product-smallest : (starts columns : List ℕ) (values vector : List Float) (room : ℕ) → Smallest (product-tests starts columns values vector room) (first (product-tests starts columns values vector room))
 unfolding rising-from
 product-smallest starts columns values vector room = first-smallest (product-tests starts columns values vector room) refl
+
+pub su2-rows-smallest : (c : Complex) (p : KSParams) (given : Bool) (weights : List Float) (work starts columns values : ℕ) → Smallest (su2-rows-tests c p given weights work starts columns values) (first (su2-rows-tests c p given weights work starts columns values))
+unfolding weights-tests rising-from
+su2-rows-smallest c p given weights work starts columns values = first-smallest (su2-rows-tests c p given weights work starts columns values) refl
