@@ -112,6 +112,23 @@ int64_t zibrotka_spanning_tree(const uint8_t *sheet, size_t sheet_len,
                                uint32_t *free_edges, size_t free_len);
 
 /*
+ * The fundamental loops of a sheet's complex: for each free edge (a, b), by rising number, the path in the spanning tree from a to b, then
+ * the free edge back. To the front of `starts` goes where each loop begins among all steps, and behind the last the number of all steps:
+ * one entry more than there are loops. The edge numbers of all steps go to the front of `edges`, and to that of `directions` 1 for each
+ * step from its edge's first vertex to its second, else -1. Answers the number of loops, or minus one of 1 to 9 or 15 (a list too short).
+ * 3,969 steps are enough for every sheet.
+ */
+int64_t zibrotka_fundamental_loops(const uint8_t *sheet, size_t sheet_len,
+                                   uint32_t *starts, size_t starts_len,
+                                   uint8_t *edges, size_t edges_len,
+                                   int8_t *directions, size_t directions_len);
+
+/* The same without directions. */
+int64_t zibrotka_su2_fundamental_loops(const uint8_t *sheet, size_t sheet_len,
+                                       uint32_t *starts, size_t starts_len,
+                                       uint8_t *edges, size_t edges_len);
+
+/*
  * Whether a configuration, one value for each edge by number, obeys Gauss's law: at every vertex the values on the edges that end there
  * add up to those on the edges that start there, an edge (a, b) going from a to b. Nothing wraps. Answers 1 or 0, or minus one of 1 to 9
  * or 12 (not as many values as edges).
@@ -125,6 +142,11 @@ int64_t zibrotka_check_gauss_law(const uint8_t *sheet, size_t sheet_len, const i
  * edges is over 1,048,576) or 15 (fewer than states times E entries).
  */
 int64_t zibrotka_enumerate_gauge_invariant(const uint8_t *sheet, size_t sheet_len, int32_t *states, size_t states_len);
+
+/*
+ * The number of states that zibrotka_enumerate_gauge_invariant lists, without a list: minus one of 1 to 10, or at least 1.
+ */
+int64_t zibrotka_count_states(const uint8_t *sheet, size_t sheet_len);
 
 /*
  * The place of a configuration in the list that zibrotka_enumerate_gauge_invariant writes, counted from 0; the whole list goes to the
@@ -165,6 +187,11 @@ int64_t zibrotka_apply_triangle_shift(const uint8_t *sheet, size_t sheet_len,
 int64_t zibrotka_su2_basis(const uint8_t *sheet, size_t sheet_len, uint64_t *states, size_t states_len);
 
 /*
+ * The number of masks that zibrotka_su2_basis lists, without a list: minus one of 1 to 10, or at least 1.
+ */
+int64_t zibrotka_su2_count_states(const uint8_t *sheet, size_t sheet_len);
+
+/*
  * The coupling with its electric and its magnetic factor, in this order, for U(1): g_squared, g_squared / 2 and -1 / g_squared. Answers 0,
  * or minus 14 (g_squared is not from 2^-32 to 2^32).
  */
@@ -201,6 +228,134 @@ int64_t zibrotka_build_su2_hamiltonian(const uint8_t *sheet, size_t sheet_len,
                                        bool given, const double *weights, size_t weights_len,
                                        uint64_t *states, size_t states_len,
                                        double *result, size_t result_len);
+
+/*
+ * The matrix of zibrotka_build_hamiltonian as row lists, over the same n states. A row holds `electric` times the sum of squares of its
+ * state on the diagonal where that is not 0, and for each triangle that shifts its state to another or another to it (`magnetic` times 0.5)
+ * times its weight, 0 or not; columns rise. n + 1 starts go to the front of `starts`: where each row begins, and where the last one ends.
+ * The columns and values of all rows, one after the other, go to the fronts of `columns` and `values`, the states to that of `states`. The
+ * coupling and the weights come as there. Answers the number of entries, which zibrotka_count_entries tells too, or minus one of 1 to 10,
+ * 12, 14 or 15 (fewer than n times E entries in `states`, than n + 1 in `starts`, or than the entries in `columns` or in `values`).
+ */
+int64_t zibrotka_build_csr(const uint8_t *sheet, size_t sheet_len,
+                           double g_squared, double electric, double magnetic,
+                           bool given, const double *weights, size_t weights_len,
+                           int32_t *states, size_t states_len,
+                           uint32_t *starts, size_t starts_len,
+                           uint32_t *columns, size_t columns_len,
+                           double *values, size_t values_len);
+
+/*
+ * The matrix of zibrotka_build_su2_hamiltonian as row lists, over the same n masks. A row holds `electric` times the number of edges in its
+ * set on the diagonal where that is not 0, and for each triangle `magnetic` times its weight, 0 or not; entries of one column are added in
+ * this order, triangles by rising number, and columns rise. n + 1 starts go to the front of `starts`: where each row begins, and where the
+ * last one ends. The columns and values of all rows, one after the other, go to the fronts of `columns` and `values`, the masks to that of
+ * `states`. The coupling and the weights come as there. Answers the number of entries, which is (T + 1) times n less 1, or minus one of 1
+ * to 10, 12, 14 or 15 (fewer than n entries in `states`, than n + 1 in `starts`, or than the entries in `columns` or in `values`).
+ */
+int64_t zibrotka_build_csr_su2(const uint8_t *sheet, size_t sheet_len,
+                               double g_squared, double electric, double magnetic,
+                               bool given, const double *weights, size_t weights_len,
+                               uint64_t *states, size_t states_len,
+                               uint32_t *starts, size_t starts_len,
+                               uint32_t *columns, size_t columns_len,
+                               double *values, size_t values_len);
+
+/*
+ * The number of entries that zibrotka_build_csr_su2 writes, whatever the coupling and the weights are. Answers it, or minus one of 1 to 10.
+ */
+int64_t zibrotka_su2_count_entries(const uint8_t *sheet, size_t sheet_len);
+
+/*
+ * The number of entries that zibrotka_build_csr writes, whatever the coupling and the weights are: for each state one for each triangle and
+ * The product of the matrix of zibrotka_build_su2_hamiltonian with a vector of n amplitudes, one for each mask, without a matrix. From 0.0,
+ * (`electric` times the number of edges in the set) times the set's own amplitude is added; then each triangle by rising number adds
+ * (`magnetic` times its weight) times the amplitude of the mask that it flips to. n sums go to the front of `result`, the masks to that of
+ * `states`. The coupling and the weights come as there. Answers n, or minus one of 1 to 10, 12 (also where there are not n amplitudes),
+ * 14 (also where an amplitude is not from -2^32 to 2^32) or 15 (fewer than n entries in `states` or in `result`).
+ */
+int64_t zibrotka_su2_hamiltonian_matvec(const uint8_t *sheet, size_t sheet_len,
+                                        double g_squared, double electric, double magnetic,
+                                        bool given, const double *weights, size_t weights_len,
+                                        const double *vector, size_t vector_len,
+                                        uint64_t *states, size_t states_len,
+                                        double *result, size_t result_len);
+
+/*
+ * The expectation of a loop in the two-valued truncation, for a vector of n amplitudes, one for each mask. The path is a list of edge
+ * numbers; an edge that it names several times counts once. From 0.0, each mask by rising number adds (amplitude times amplitude) times
+ * 1.0, or times -1.0 where it shares an odd number of edges with the path. The sum goes to `expectation`, the masks to the front of
+ * `states`. Answers 0, or minus one of 1 to 10, 12 (not n amplitudes), 13 (the path names an edge that is not there), 14 (an amplitude is
+ * not from -2^32 to 2^32) or 15 (fewer than n entries in `states`).
+ */
+int64_t zibrotka_su2_wilson_loop(const uint8_t *sheet, size_t sheet_len,
+                                 const double *vector, size_t vector_len,
+                                 const uint8_t *path, size_t path_len,
+                                 uint64_t *states, size_t states_len,
+                                 double *expectation);
+
+/*
+ * The number of entries of the row lists of U(1), whatever the coupling and the weights are: for each state one for each triangle and
+ * direction, 1 or -1, whose shift stays within -L to L, and one on the diagonal where not all values are 0. The states are gone through one
+ * by one. Answers it, or minus one of 1 to 10.
+ */
+int64_t zibrotka_count_entries(const uint8_t *sheet, size_t sheet_len);
+
+/*
+ * The product of the Hamiltonian with a vector of n amplitudes, one for each state that zibrotka_enumerate_gauge_invariant lists, without
+ * the matrix. From 0.0, (`electric` times the sum of squares of state i) times amplitude i is added to entry i; then each triangle by rising
+ * number, for each state i by rising place that it shifts to a state j, adds x times amplitude j to entry i and then x times amplitude i to
+ * entry j, where x is (`magnetic` times 0.5) times its weight. n sums go to the front of `result`, all states to that of `states`. The
+ * coupling and the weights come as for zibrotka_build_hamiltonian. Answers n, or minus one of 1 to 10, 12 (not n amplitudes, or `given` and
+ * not as many weights as triangles), 14 (as there, or an amplitude is not from -2^32 to 2^32) or 15 (fewer than n times E entries in
+ * `states`, or than n in `result`).
+ */
+int64_t zibrotka_hamiltonian_matvec(const uint8_t *sheet, size_t sheet_len,
+                                    double g_squared, double electric, double magnetic,
+                                    bool given, const double *weights, size_t weights_len,
+                                    const double *vector, size_t vector_len,
+                                    int32_t *states, size_t states_len,
+                                    double *result, size_t result_len);
+
+/*
+ * The square of the electric field on each edge, expected in a state that is given by n amplitudes, one for each state that
+ * zibrotka_enumerate_gauge_invariant lists: for each edge, from 0.0 and by rising place, each state adds ((amplitude times amplitude) times
+ * m) times m, where m is its value on the edge. E sums go to the front of `result`, all states to that of `states`. Answers E, or minus one
+ * of 1 to 10, 12 (not n amplitudes), 14 (an amplitude is not from -2^32 to 2^32) or 15 (fewer than n times E entries in `states`, or than E
+ * in `result`).
+ */
+int64_t zibrotka_electric_field_sq(const uint8_t *sheet, size_t sheet_len,
+                                   const double *amplitudes, size_t amplitudes_len,
+                                   int32_t *states, size_t states_len,
+                                   double *result, size_t result_len);
+
+/*
+ * The Wilson loop along a path, expected in a state that is given by n amplitudes as there. A step of the path adds its direction, 1 or -1,
+ * on its edge; the path may be open, empty, or go over an edge several times. From 0.0 and by rising place, each state that no step takes
+ * out of -L to L and that ends in a state of the list adds its amplitude times that of the state that it ends in. The sum goes to
+ * `expectation`, all states to the front of `states`. Answers 0, or minus one of 1 to 10, 12 (not n amplitudes, or not as many directions as
+ * edges), 13 (a step over no edge, or in a direction that is not 1 or -1), 14 (an amplitude is not from -2^32 to 2^32) or 15 (fewer than n
+ * times E entries in `states`).
+ */
+int64_t zibrotka_wilson_loop(const uint8_t *sheet, size_t sheet_len,
+                             const double *amplitudes, size_t amplitudes_len,
+                             const uint8_t *edges, size_t edges_len,
+                             const int8_t *directions, size_t directions_len,
+                             int32_t *states, size_t states_len,
+                             double *expectation);
+
+/*
+ * The product of a matrix in row lists with a vector of n amplitudes: for each row, from 0.0 and in the order of the list, each value times
+ * the amplitude of its column is added. n sums go to the front of `result`. The lists may be anyone's and are judged whole. Answers 0,
+ * whatever n is, or minus 12 (not n + 1 starts, or not as many columns as values), 13 (the starts do not run from 0 to the number of
+ * entries without falling, or a column is not below n), 14 (a value is not from -2^80 to 2^80, or an amplitude not from -2^32 to 2^32) or
+ * 15 (fewer than n entries in `result`).
+ */
+int64_t zibrotka_matvec(const uint32_t *starts, size_t starts_len,
+                        const uint32_t *columns, size_t columns_len,
+                        const double *values, size_t values_len,
+                        const double *vector, size_t vector_len,
+                        double *result, size_t result_len);
 
 /*
  * The sentence of a refusal, given as a positive number: plain ASCII to the front of `text`, without a line feed and without a zero at its

@@ -8,7 +8,7 @@ use phyz_regge::SimplicialComplex;
 use std::hint::black_box;
 use std::ops::Index;
 
-const G_SQUARED: f64 = 3.0;
+pub const G_SQUARED: f64 = 3.0;
 
 /// The port fills two lent lists again and again; the Rust makes its basis, its map and a matrix anew each time, and letting go of them is
 /// not timed.
@@ -38,7 +38,7 @@ fn complete(vertices: usize) -> SimplicialComplex {
 }
 
 /// One weight for each triangle, no two alike.
-fn weights(record: &SimplicialComplex) -> Vec<f64> {
+pub fn weights(record: &SimplicialComplex) -> Vec<f64> {
     (0..record.n_triangles()).map(|triangle| 0.5 + triangle as f64 / 7.0).collect()
 }
 

@@ -1,8 +1,11 @@
 //! Times the port against the Rust on the same inputs, the best of a few rounds.
 
+mod amplitudes;
 mod dense;
+mod even_products;
 mod masks;
 mod places;
+mod rows;
 
 use phyz_quantum::gauss_law;
 use phyz_regge::SimplicialComplex;
@@ -11,13 +14,17 @@ use std::process::ExitCode;
 use std::time::Instant;
 
 type Table = (&'static str, fn());
-const TABLES: [Table; 6] = [
+const TABLES: [Table; 10] = [
     ("pentachora", from_pentachorons),
     ("triangles", tri_edge_indices),
     ("states", enumerate_gauge_invariant),
     ("places", places::table),
     ("masks", masks::table),
     ("dense", dense::table),
+    ("rows", rows::table),
+    ("products", rows::products),
+    ("su2_products", even_products::table),
+    ("amplitudes", amplitudes::table),
 ];
 
 fn main() -> ExitCode {

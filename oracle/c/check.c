@@ -174,6 +174,35 @@ static int trees(void)
     return 0;
 }
 
+static int loops(void)
+{
+    uint32_t starts[4], two[3];
+    uint8_t edges[8];
+    int8_t directions[8];
+
+    memset(starts, 0xEE, sizeof starts);
+    memset(edges, 0xEE, sizeof edges);
+    memset(directions, 0x77, sizeof directions);
+    CHECK(zibrotka_fundamental_loops(NULL, 0, starts, 4, edges, 8, directions, 8) == -ZIBROTKA_SHEET_SHORT);
+    CHECK(zibrotka_fundamental_loops(apart_sheet, 11, NULL, 0, NULL, 0, NULL, 0) == -ZIBROTKA_UNREACHED);
+    CHECK(zibrotka_fundamental_loops(triangle_sheet, 20, starts, 1, edges, 8, directions, 8) == -ZIBROTKA_ROOM);
+    CHECK(zibrotka_fundamental_loops(triangle_sheet, 20, starts, 4, edges, 2, directions, 8) == -ZIBROTKA_ROOM);
+    CHECK(zibrotka_fundamental_loops(triangle_sheet, 20, starts, 4, edges, 8, directions, 2) == -ZIBROTKA_ROOM);
+    CHECK(entries_are(starts, 4, 0xEEEEEEEE) && edges[0] == 0xEE && directions[0] == 0x77);
+
+    CHECK(zibrotka_fundamental_loops(triangle_sheet, 20, starts, 4, edges, 8, directions, 8) == 1);
+    CHECK(starts[0] == 0 && starts[1] == 3 && entries_are(starts + 2, 2, 0xEEEEEEEE));
+    CHECK(edges[0] == 0 && edges[1] == 1 && edges[2] == 2 && edges[3] == 0xEE);
+    CHECK(directions[0] == -1 && directions[1] == 1 && directions[2] == -1 && directions[3] == 0x77);
+    CHECK(zibrotka_fundamental_loops(point_sheet, 11, starts, 1, NULL, 0, NULL, 0) == 0 && starts[0] == 0);
+
+    memset(edges, 0xEE, sizeof edges);
+    CHECK(zibrotka_su2_fundamental_loops(triangle_sheet, 20, two, 1, edges, 8) == -ZIBROTKA_ROOM && edges[0] == 0xEE);
+    CHECK(zibrotka_su2_fundamental_loops(triangle_sheet, 20, two, 3, edges, 3) == 1);
+    CHECK(two[0] == 0 && two[1] == 3 && edges[0] == 0 && edges[1] == 1 && edges[2] == 2 && edges[3] == 0xEE);
+    return 0;
+}
+
 static int laws(void)
 {
     const int32_t lawful[] = {INT32_MAX, -INT32_MAX, INT32_MAX, 0}, one_off[] = {1, -1, 2}, one_way[] = {1, 1, 1, 1};
@@ -435,6 +464,275 @@ static int su2_dense(void)
     return 0;
 }
 
+/* whether numbers stand at the front of a list of 16 entries and those behind them are as they were */
+static int holds_numbers(const uint32_t *list, const uint32_t *numbers, size_t len)
+{
+    return memcmp(list, numbers, len * sizeof *list) == 0 && all_are((const uint8_t *)(list + len), (16 - len) * sizeof *list, 0xEE);
+}
+
+static int su2_rows(void)
+{
+    /* a sixth of 2^-1071 is rounded to the least float */
+    const double values[] = {-0.5, -0.5, 1.125}, tiny[] = {0x1p-1071}, nothing[] = {0.0}, no_number[] = {(double)NAN};
+    const double least[] = {-0x1p-1074, -0x1p-1074, 3.375}, kept[] = {-0.0, -0.0, 1.125}, weighted[] = {3.0, 3.0};
+    const uint32_t starts_are[] = {0, 1, 3}, columns_are[] = {1, 0, 1}, one_row[] = {0, 0};
+    const uint64_t on_triangle_sheet[] = {0, 7}, on_none[] = {0};
+    uint64_t states[10];
+    uint32_t starts[16], columns[16];
+    double result[16];
+
+    memset(states, 0xEE, sizeof states);
+    memset(starts, 0xEE, sizeof starts);
+    memset(columns, 0xEE, sizeof columns);
+    memset(result, 0xEE, sizeof result);
+#define ROWS(sheet, len, electric, given, weights, n, a, b, c, d)                                                                   \
+    zibrotka_build_csr_su2(sheet, len, 1, electric, -0.5, given, weights, n, states, a, starts, b, columns, c, result, d)
+    CHECK(ROWS(NULL, 0, 0.375, true, NULL, 0, 0, 0, 0, 0) == -ZIBROTKA_SHEET_SHORT);
+    CHECK(ROWS(apart_sheet, 11, 0.375, false, NULL, 0, 10, 16, 16, 16) == -ZIBROTKA_UNREACHED);
+    CHECK(ROWS(triangle_sheet, 20, 0.5, true, weighted, 2, 1, 2, 2, 2) == -ZIBROTKA_LENGTH);
+    CHECK(ROWS(triangle_sheet, 20, 0.5, false, NULL, 0, 10, 16, 16, 16) == -ZIBROTKA_FLOAT);
+    CHECK(ROWS(triangle_sheet, 20, 0.375, true, no_number, 1, 1, 2, 2, 2) == -ZIBROTKA_FLOAT);
+    CHECK(ROWS(triangle_sheet, 20, 0.375, false, NULL, 0, 1, 3, 3, 3) == -ZIBROTKA_ROOM);
+    CHECK(ROWS(triangle_sheet, 20, 0.375, false, NULL, 0, 2, 2, 3, 3) == -ZIBROTKA_ROOM);
+    CHECK(ROWS(triangle_sheet, 20, 0.375, false, NULL, 0, 2, 3, 2, 3) == -ZIBROTKA_ROOM);
+    CHECK(ROWS(triangle_sheet, 20, 0.375, false, NULL, 0, 2, 3, 3, 2) == -ZIBROTKA_ROOM);
+    CHECK(all_are((const uint8_t *)states, sizeof states, 0xEE) && holds_numbers(starts, one_row, 0));
+    CHECK(holds_numbers(columns, one_row, 0) && holds_matrix(result, values, 0));
+
+    CHECK(ROWS(triangle_sheet, 20, 0.375, false, no_number, 1, 2, 3, 3, 3) == 3);
+    CHECK(holds_masks(states, on_triangle_sheet, 2) && holds_numbers(starts, starts_are, 3));
+    CHECK(holds_numbers(columns, columns_are, 3) && holds_matrix(result, values, 3));
+    CHECK(ROWS(triangle_sheet, 20, 0.375, true, nothing, 1, 10, 16, 16, 16) == 3);
+    CHECK(holds_numbers(starts, starts_are, 3) && holds_numbers(columns, columns_are, 3) && holds_matrix(result, kept, 3));
+    CHECK(zibrotka_build_csr_su2(triangle_sheet, 20, 3, 1.125, -0.5 / 3, true, tiny, 1, states, 2, starts, 3, columns, 3, result, 3) == 3);
+    CHECK(holds_matrix(result, least, 3));
+    memset(states, 0xEE, sizeof states);
+    memset(starts, 0xEE, sizeof starts);
+    memset(result, 0xEE, sizeof result);
+    CHECK(ROWS(point_sheet, 11, 0.375, true, NULL, 0, 10, 16, 0, 0) == 0);
+    CHECK(holds_masks(states, on_none, 1) && holds_numbers(starts, one_row, 2) && holds_matrix(result, values, 0));
+#undef ROWS
+    return 0;
+}
+
+static int rows(void)
+{
+    /* a sixth of 2^-1071 is rounded to the least float, since the product with 0.5 comes first */
+    const double values[] = {1.5, -0.5, -0.5, -0.5, -0.5, 1.5}, least[] = {4.5, -0x1p-1074, -0x1p-1074, -0x1p-1074, -0x1p-1074, 4.5};
+    const double kept[] = {1.5, -0.0, -0.0, -0.0, -0.0, 1.5}, tiny[] = {0x1p-1071}, nothing[] = {0.0}, no_number[] = {(double)NAN, 1};
+    const uint32_t starts_are[] = {0, 2, 4, 6}, columns_are[] = {0, 1, 0, 2, 1, 2}, one_row[] = {0, 0};
+    int32_t states[16];
+    uint32_t starts[16], columns[16];
+    double result[16];
+
+    memset(states, 0xEE, sizeof states);
+    memset(starts, 0xEE, sizeof starts);
+    memset(columns, 0xEE, sizeof columns);
+    memset(result, 0xEE, sizeof result);
+#define ROWS(sheet, len, electric, given, weights, n, a, b, c, d)                                                                   \
+    zibrotka_build_csr(sheet, len, 1, electric, -1, given, weights, n, states, a, starts, b, columns, c, result, d)
+    CHECK(ROWS(triangle_sheet, 19, 0.5, false, NULL, 0, 16, 16, 16, 16) == -ZIBROTKA_SHEET_LENGTH);
+    CHECK(ROWS(triangle_sheet, 20, 0.375, true, no_number, 2, 8, 3, 5, 5) == -ZIBROTKA_LENGTH);
+    CHECK(ROWS(triangle_sheet, 20, 0.375, false, NULL, 0, 16, 16, 16, 16) == -ZIBROTKA_FLOAT);
+    CHECK(ROWS(triangle_sheet, 20, 0.5, true, no_number, 1, 8, 3, 5, 5) == -ZIBROTKA_FLOAT);
+    CHECK(ROWS(triangle_sheet, 20, 0.5, false, NULL, 0, 8, 4, 6, 6) == -ZIBROTKA_ROOM);
+    CHECK(ROWS(triangle_sheet, 20, 0.5, false, NULL, 0, 9, 3, 6, 6) == -ZIBROTKA_ROOM);
+    CHECK(ROWS(triangle_sheet, 20, 0.5, false, NULL, 0, 9, 4, 5, 6) == -ZIBROTKA_ROOM);
+    CHECK(ROWS(triangle_sheet, 20, 0.5, false, NULL, 0, 9, 4, 6, 5) == -ZIBROTKA_ROOM);
+    CHECK(as_it_was(states, 16) && holds_numbers(starts, one_row, 0) && holds_numbers(columns, one_row, 0) && holds_matrix(result, values, 0));
+
+    CHECK(ROWS(triangle_sheet, 20, 0.5, false, no_number, 2, 9, 4, 6, 6) == 6);
+    CHECK(begins_with_the_basis(states, 16) && holds_numbers(starts, starts_are, 4));
+    CHECK(holds_numbers(columns, columns_are, 6) && holds_matrix(result, values, 6));
+    CHECK(ROWS(triangle_sheet, 20, 0.5, true, nothing, 1, 16, 16, 16, 16) == 6);
+    CHECK(holds_numbers(columns, columns_are, 6) && holds_matrix(result, kept, 6));
+    CHECK(zibrotka_build_csr(triangle_sheet, 20, 3, 1.5, -1.0 / 3, true, tiny, 1, states, 9, starts, 4, columns, 6, result, 6) == 6);
+    CHECK(holds_matrix(result, least, 6));
+    memset(starts, 0xEE, sizeof starts);
+    CHECK(ROWS(point_sheet, 11, 0.5, true, NULL, 0, 0, 16, 0, 0) == 0);
+    CHECK(holds_numbers(starts, one_row, 2));
+#undef ROWS
+    return 0;
+}
+
+static int su2_products(void)
+{
+    const double vector[] = {3, 5}, product[] = {-2.5, 4.125}, doubled[] = {-5, 2.625}, two[] = {2}, three[] = {1, 1, 1};
+    const double too_far[] = {3, 0x1.0000000000001p32}, no_number[] = {(double)NAN, 5}, ends[] = {-0x1p32, 0x1p32};
+    const double far[] = {-0x1p31, 0x1p31 + 1.125 * 0x1p32}, one[] = {1}, nothing[] = {0};
+    const uint64_t on_triangle_sheet[] = {0, 7}, on_none[] = {0};
+    uint64_t states[10];
+    double result[16];
+
+    memset(states, 0xEE, sizeof states);
+    memset(result, 0xEE, sizeof result);
+#define PRODUCT(sheet, len, electric, given, weights, n, vector, m, a, b)                                                           \
+    zibrotka_su2_hamiltonian_matvec(sheet, len, 1, electric, -0.5, given, weights, n, vector, m, states, a, result, b)
+    CHECK(PRODUCT(NULL, 0, 0.5, true, NULL, 0, NULL, 0, 0, 0) == -ZIBROTKA_SHEET_SHORT);
+    CHECK(PRODUCT(apart_sheet, 11, 0.375, false, NULL, 0, vector, 2, 10, 16) == -ZIBROTKA_UNREACHED);
+    CHECK(PRODUCT(triangle_sheet, 20, 0.5, false, NULL, 0, three, 3, 1, 1) == -ZIBROTKA_LENGTH);
+    CHECK(PRODUCT(triangle_sheet, 20, 0.5, false, NULL, 0, no_number, 1, 1, 1) == -ZIBROTKA_LENGTH);
+    CHECK(PRODUCT(triangle_sheet, 20, 0.5, true, three, 2, no_number, 2, 1, 1) == -ZIBROTKA_LENGTH);
+    CHECK(PRODUCT(triangle_sheet, 20, 0.5, false, NULL, 0, vector, 2, 1, 1) == -ZIBROTKA_FLOAT);
+    CHECK(PRODUCT(triangle_sheet, 20, 0.375, true, no_number, 1, vector, 2, 1, 1) == -ZIBROTKA_FLOAT);
+    CHECK(PRODUCT(triangle_sheet, 20, 0.375, false, NULL, 0, no_number, 2, 1, 1) == -ZIBROTKA_FLOAT);
+    CHECK(PRODUCT(triangle_sheet, 20, 0.375, false, NULL, 0, too_far, 2, 10, 16) == -ZIBROTKA_FLOAT);
+    CHECK(PRODUCT(triangle_sheet, 20, 0.375, false, NULL, 0, vector, 2, 1, 2) == -ZIBROTKA_ROOM);
+    CHECK(PRODUCT(triangle_sheet, 20, 0.375, false, NULL, 0, vector, 2, 2, 1) == -ZIBROTKA_ROOM);
+    CHECK(all_are((const uint8_t *)states, sizeof states, 0xEE) && holds_matrix(result, product, 0));
+
+    CHECK(PRODUCT(triangle_sheet, 20, 0.375, false, no_number, 1, vector, 2, 2, 2) == 2);
+    CHECK(holds_masks(states, on_triangle_sheet, 2) && holds_matrix(result, product, 2));
+    CHECK(PRODUCT(triangle_sheet, 20, 0.375, true, two, 1, vector, 2, 10, 16) == 2 && holds_matrix(result, doubled, 2));
+    CHECK(PRODUCT(triangle_sheet, 20, 0.375, false, NULL, 0, ends, 2, 10, 16) == 2 && holds_matrix(result, far, 2));
+    memset(states, 0xEE, sizeof states);
+    memset(result, 0xEE, sizeof result);
+    CHECK(PRODUCT(point_sheet, 11, 0.375, true, NULL, 0, one, 1, 1, 1) == 1);
+    CHECK(holds_masks(states, on_none, 1) && holds_matrix(result, nothing, 1));
+#undef PRODUCT
+    return 0;
+}
+
+static int su2_expectations(void)
+{
+    const double vector[] = {3, 5}, too_far[] = {3, 0x1.0000000000001p32}, no_number[] = {(double)NAN, 5, 5};
+    const uint8_t around[] = {0, 1, 2}, twice[] = {1, 1}, two[] = {0, 2}, outside[] = {0, 3};
+    const uint64_t on_triangle_sheet[] = {0, 7};
+    uint64_t states[10];
+    double expectation[2];
+
+    memset(states, 0xEE, sizeof states);
+    memset(expectation, 0xEE, sizeof expectation);
+#define LOOP(sheet, len, vector, m, path, n, a) zibrotka_su2_wilson_loop(sheet, len, vector, m, path, n, states, a, expectation)
+    CHECK(LOOP(NULL, 0, no_number, 3, outside, 2, 0) == -ZIBROTKA_SHEET_SHORT);
+    CHECK(LOOP(apart_sheet, 11, vector, 2, NULL, 0, 10) == -ZIBROTKA_UNREACHED);
+    CHECK(LOOP(triangle_sheet, 20, no_number, 3, outside, 2, 1) == -ZIBROTKA_LENGTH);
+    CHECK(LOOP(triangle_sheet, 20, no_number, 1, outside, 2, 1) == -ZIBROTKA_LENGTH);
+    CHECK(LOOP(triangle_sheet, 20, no_number, 2, outside, 2, 1) == -ZIBROTKA_NUMBER);
+    CHECK(LOOP(triangle_sheet, 20, no_number, 2, around, 3, 1) == -ZIBROTKA_FLOAT);
+    CHECK(LOOP(triangle_sheet, 20, too_far, 2, around, 3, 10) == -ZIBROTKA_FLOAT);
+    CHECK(LOOP(triangle_sheet, 20, vector, 2, around, 3, 1) == -ZIBROTKA_ROOM);
+    CHECK(all_are((const uint8_t *)states, sizeof states, 0xEE) && all_are((const uint8_t *)expectation, sizeof expectation, 0xEE));
+
+    CHECK(LOOP(triangle_sheet, 20, vector, 2, around, 3, 2) == 0 && expectation[0] == -16);
+    CHECK(holds_masks(states, on_triangle_sheet, 2));
+    CHECK(LOOP(triangle_sheet, 20, vector, 2, NULL, 0, 10) == 0 && expectation[0] == 34);
+    CHECK(LOOP(triangle_sheet, 20, vector, 2, two, 2, 10) == 0 && expectation[0] == 34);
+    CHECK(LOOP(triangle_sheet, 20, vector, 2, twice, 2, 10) == 0 && expectation[0] == -16);
+    CHECK(LOOP(point_sheet, 11, vector + 1, 1, NULL, 0, 1) == 0 && expectation[0] == 25);
+    CHECK(all_are((const uint8_t *)(expectation + 1), sizeof *expectation, 0xEE));
+#undef LOOP
+    return 0;
+}
+
+static int counts(void)
+{
+    CHECK(zibrotka_count_states(NULL, 0) == -ZIBROTKA_SHEET_SHORT && zibrotka_su2_count_states(NULL, 0) == -ZIBROTKA_SHEET_SHORT);
+    CHECK(zibrotka_count_entries(NULL, 0) == -ZIBROTKA_SHEET_SHORT && zibrotka_su2_count_entries(NULL, 0) == -ZIBROTKA_SHEET_SHORT);
+    CHECK(zibrotka_count_states(apart_sheet, 11) == -ZIBROTKA_UNREACHED && zibrotka_su2_count_states(apart_sheet, 11) == -ZIBROTKA_UNREACHED);
+    CHECK(zibrotka_count_states(triangle_sheet, 20) == 3 && zibrotka_su2_count_states(triangle_sheet, 20) == 2);
+    /* two of three states have a diagonal, and the triangle joins the middle one to both others, each way */
+    CHECK(zibrotka_count_entries(triangle_sheet, 20) == 6 && zibrotka_su2_count_entries(triangle_sheet, 20) == 3);
+    CHECK(zibrotka_count_states(point_sheet, 11) == 1 && zibrotka_su2_count_states(point_sheet, 11) == 1);
+    CHECK(zibrotka_count_entries(point_sheet, 11) == 0 && zibrotka_su2_count_entries(point_sheet, 11) == 0);
+    return 0;
+}
+
+static int products(void)
+{
+    /* (1 2, 0 -3) times (5, 7), a column twice and out of order */
+    const uint32_t starts[] = {0, 3, 4}, columns[] = {1, 0, 1, 1}, falling[] = {0, 5, 4}, high[] = {1, 0, 2, 1}, empty[] = {0};
+    const double values[] = {1, 1, 1, -3}, vector[] = {5, 7}, product[] = {19, -21};
+    const double too_large[] = {1, 1, 1, 0x1.0000000000001p80}, too_far[] = {5, 0x1.0000000000001p32};
+    double result[16];
+
+    memset(result, 0xEE, sizeof result);
+    CHECK(zibrotka_matvec(NULL, 0, NULL, 0, NULL, 0, NULL, 0, NULL, 0) == -ZIBROTKA_LENGTH);
+    CHECK(zibrotka_matvec(starts, 2, columns, 4, values, 4, vector, 2, result, 16) == -ZIBROTKA_LENGTH);
+    CHECK(zibrotka_matvec(starts, 3, columns, 4, values, 3, vector, 2, result, 16) == -ZIBROTKA_LENGTH);
+    CHECK(zibrotka_matvec(falling, 3, columns, 4, too_large, 4, vector, 2, result, 1) == -ZIBROTKA_NUMBER);
+    CHECK(zibrotka_matvec(starts, 3, high, 4, values, 4, vector, 2, result, 16) == -ZIBROTKA_NUMBER);
+    CHECK(zibrotka_matvec(starts, 3, columns, 3, values, 3, vector, 2, result, 16) == -ZIBROTKA_NUMBER);
+    CHECK(zibrotka_matvec(starts, 3, columns, 4, too_large, 4, vector, 2, result, 1) == -ZIBROTKA_FLOAT);
+    CHECK(zibrotka_matvec(starts, 3, columns, 4, values, 4, too_far, 2, result, 1) == -ZIBROTKA_FLOAT);
+    CHECK(zibrotka_matvec(starts, 3, columns, 4, values, 4, vector, 2, result, 1) == -ZIBROTKA_ROOM);
+    CHECK(holds_matrix(result, product, 0));
+
+    CHECK(zibrotka_matvec(starts, 3, columns, 4, values, 4, vector, 2, result, 2) == 0);
+    CHECK(holds_matrix(result, product, 2));
+    CHECK(zibrotka_matvec(empty, 1, NULL, 0, NULL, 0, NULL, 0, NULL, 0) == 0);
+    return 0;
+}
+
+static int amplitudes(void)
+{
+    const double amplitudes[] = {1, 2, 3, 4}, product[] = {0.5, -2, 3.5}, weighted[] = {-1.5, -6, 1.5}, squares[] = {10, 10, 10};
+    const double three[] = {3.0, 3.0}, no_number[] = {1, (double)NAN, 3}, most[] = {0x1p32, -0x1p32, 0x1p-1074};
+    const double too_far[] = {1, 2, 0x1.0000000000001p32}, largest[] = {0x1p64, 0x1p64, 0x1p64}, nothing[] = {0.0};
+    const uint8_t edges[] = {0, 1, 2, 3};
+    const int8_t around[] = {1, -1, 1, 1}, still[] = {1, 0, 1}, twice[] = {2, -1, 1};
+    int32_t states[16];
+    double result[16], expectation, before;
+
+    memset(states, 0xEE, sizeof states);
+    memset(result, 0xEE, sizeof result);
+    memset(&expectation, 0xEE, sizeof expectation);
+    memset(&before, 0xEE, sizeof before);
+#define APPLIED(sheet, len, electric, given, weights, n, v, m, a, b)                                                                \
+    zibrotka_hamiltonian_matvec(sheet, len, 1, electric, -1, given, weights, n, v, m, states, a, result, b)
+    CHECK(APPLIED(NULL, 0, 0.5, true, NULL, 0, NULL, 0, 0, 0) == -ZIBROTKA_SHEET_SHORT);
+    CHECK(APPLIED(apart_sheet, 11, 0.5, false, NULL, 0, amplitudes, 1, 16, 16) == -ZIBROTKA_UNREACHED);
+    CHECK(APPLIED(triangle_sheet, 20, 0.375, true, three, 2, no_number, 3, 8, 2) == -ZIBROTKA_LENGTH);
+    CHECK(APPLIED(triangle_sheet, 20, 0.375, true, no_number + 1, 1, amplitudes, 2, 8, 2) == -ZIBROTKA_LENGTH);
+    CHECK(APPLIED(triangle_sheet, 20, 0.5, false, NULL, 0, amplitudes, 4, 16, 16) == -ZIBROTKA_LENGTH);
+    CHECK(APPLIED(triangle_sheet, 20, 0.375, false, NULL, 0, amplitudes, 3, 8, 2) == -ZIBROTKA_FLOAT);
+    CHECK(APPLIED(triangle_sheet, 20, 0.5, true, no_number + 1, 1, amplitudes, 3, 16, 16) == -ZIBROTKA_FLOAT);
+    CHECK(APPLIED(triangle_sheet, 20, 0.5, false, NULL, 0, no_number, 3, 8, 2) == -ZIBROTKA_FLOAT);
+    CHECK(APPLIED(triangle_sheet, 20, 0.5, false, NULL, 0, too_far, 3, 16, 16) == -ZIBROTKA_FLOAT);
+    CHECK(APPLIED(triangle_sheet, 20, 0.5, false, NULL, 0, amplitudes, 3, 8, 16) == -ZIBROTKA_ROOM);
+    CHECK(APPLIED(triangle_sheet, 20, 0.5, false, NULL, 0, amplitudes, 3, 16, 2) == -ZIBROTKA_ROOM);
+#define SQUARES(sheet, len, v, m, a, b) zibrotka_electric_field_sq(sheet, len, v, m, states, a, result, b)
+    CHECK(SQUARES(NULL, 0, NULL, 0, 0, 0) == -ZIBROTKA_SHEET_SHORT);
+    CHECK(SQUARES(triangle_sheet, 20, no_number, 2, 8, 2) == -ZIBROTKA_LENGTH);
+    CHECK(SQUARES(triangle_sheet, 20, no_number, 3, 8, 2) == -ZIBROTKA_FLOAT);
+    CHECK(SQUARES(triangle_sheet, 20, amplitudes, 3, 8, 16) == -ZIBROTKA_ROOM);
+    CHECK(SQUARES(triangle_sheet, 20, amplitudes, 3, 16, 2) == -ZIBROTKA_ROOM);
+#define LOOP(sheet, len, v, m, first, k, directions, l, a)                                                                          \
+    zibrotka_wilson_loop(sheet, len, v, m, edges + first, k, directions, l, states, a, &expectation)
+    CHECK(LOOP(NULL, 0, NULL, 0, 0, 0, NULL, 0, 0) == -ZIBROTKA_SHEET_SHORT);
+    CHECK(LOOP(triangle_sheet, 20, no_number, 2, 3, 1, still + 1, 1, 8) == -ZIBROTKA_LENGTH);
+    CHECK(LOOP(triangle_sheet, 20, amplitudes, 3, 0, 3, around, 4, 16) == -ZIBROTKA_LENGTH);
+    CHECK(LOOP(triangle_sheet, 20, no_number, 3, 1, 3, around, 3, 8) == -ZIBROTKA_NUMBER);
+    CHECK(LOOP(triangle_sheet, 20, no_number, 3, 0, 3, still, 3, 8) == -ZIBROTKA_NUMBER);
+    CHECK(LOOP(triangle_sheet, 20, amplitudes, 3, 0, 3, twice, 3, 16) == -ZIBROTKA_NUMBER);
+    CHECK(LOOP(triangle_sheet, 20, too_far, 3, 0, 3, around, 3, 8) == -ZIBROTKA_FLOAT);
+    CHECK(LOOP(triangle_sheet, 20, amplitudes, 3, 0, 3, around, 3, 8) == -ZIBROTKA_ROOM);
+    CHECK(as_it_was(states, 16) && holds_matrix(result, product, 0) && memcmp(&expectation, &before, sizeof before) == 0);
+
+    CHECK(APPLIED(triangle_sheet, 20, 0.5, false, no_number, 3, amplitudes, 3, 9, 3) == 3);
+    CHECK(begins_with_the_basis(states, 16) && holds_matrix(result, product, 3));
+    CHECK(APPLIED(triangle_sheet, 20, 0.5, true, three, 1, amplitudes, 3, 16, 16) == 3);
+    CHECK(begins_with_the_basis(states, 16) && holds_matrix(result, weighted, 3));
+    memset(states, 0xEE, sizeof states);
+    CHECK(SQUARES(triangle_sheet, 20, amplitudes, 3, 9, 3) == 3);
+    CHECK(begins_with_the_basis(states, 16) && holds_matrix(result, squares, 3));
+    CHECK(SQUARES(triangle_sheet, 20, most, 3, 16, 16) == 3 && holds_matrix(result, largest, 3));
+    memset(states, 0xEE, sizeof states);
+    CHECK(LOOP(triangle_sheet, 20, amplitudes, 3, 0, 3, around, 3, 9) == 0);
+    CHECK(begins_with_the_basis(states, 16) && expectation == 8);
+    /* one step ends in no state; no step leaves each state where it is */
+    CHECK(LOOP(triangle_sheet, 20, amplitudes, 3, 0, 1, around, 1, 9) == 0 && expectation == 0);
+    CHECK(LOOP(triangle_sheet, 20, amplitudes, 3, 0, 0, NULL, 0, 9) == 0 && expectation == 14);
+    memset(result, 0xEE, sizeof result);
+    CHECK(APPLIED(point_sheet, 11, 0.5, true, NULL, 0, amplitudes, 1, 0, 16) == 1 && holds_matrix(result, nothing, 1));
+    CHECK(SQUARES(point_sheet, 11, amplitudes, 1, 0, 0) == 0 && holds_matrix(result, nothing, 1));
+    CHECK(LOOP(point_sheet, 11, amplitudes + 2, 1, 0, 0, NULL, 0, 0) == 0 && expectation == 9);
+#undef APPLIED
+#undef SQUARES
+#undef LOOP
+    return 0;
+}
+
 /* every byte of a list is plain ASCII, and none is a line feed */
 static int all_plain(const uint8_t *list, size_t len)
 {
@@ -474,8 +772,9 @@ static int texts(void)
 
 int main(void)
 {
-    if (making() || reading() || triangle_edges() || pentachora() || trees() || laws() || listings() || places() || shifts() ||
-        triangle_shifts() || masks() || couplings() || dense() || su2_dense() || texts())
+    if (making() || reading() || triangle_edges() || pentachora() || trees() || loops() || laws() || listings() || places() || shifts() ||
+        triangle_shifts() || masks() || couplings() || dense() || su2_dense() || rows() || su2_rows() || su2_products() ||
+        su2_expectations() || counts() || products() || amplitudes() || texts())
         return 1;
     printf("C: %d checks passed\n", passed);
     return 0;

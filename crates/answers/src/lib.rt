@@ -1,5 +1,7 @@
 // What a call answers that tells one number.
 
+pub mod expectation;
+
 // The number, or the refusal.
 pub enum Answer {
     Number(usize),

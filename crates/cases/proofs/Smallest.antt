@@ -15,19 +15,27 @@ use Rattle.sheet.specs.Sheet.{header-tests, reading-tests, reading-refusal, wri
 use Rattle.making.specs.Making.{size-tests, making-tests}
 use Rattle.law_check.specs.Law.{law-tests}
 use Rattle.gauss_law.specs.Spanning.{tree-tests}
-use Rattle.enumeration.specs.Enumeration.{enumerated-tests}
+use Rattle.loops.specs.Loops.{loops-tests, su2-loops-tests}
+use Rattle.enumeration.specs.Enumeration.{basis-tests, enumerated-tests}
 use Rattle.hilbert.specs.Index.{index-tests}
 use Rattle.shifts.specs.Shift.{shift-tests}
 use Rattle.plaquettes.specs.Triangle.{triangle-tests}
 use Rattle.matrices.specs.declared.coupling.KSParams.{KSParams}
 use Rattle.matrices.specs.Coupling.{coupling-tests}
-use Rattle.matrices.specs.Weights.{weights-tests}
+use Rattle.matrices.specs.Weights.{weights-tests, vector-tests}
 use Rattle.hamiltonian.specs.Dense.{u1-dense-tests}
-use Rattle.masks.specs.Basis.{su2-basis-tests}
+use Rattle.lanczos.specs.Matvec.{u1-product-tests}
+use Rattle.observables.specs.Electric.{electric-tests}
+use Rattle.observables.specs.Wilson.{wilson-tests}
+use Rattle.masks.specs.Basis.{su2-tests, su2-basis-tests}
 use Rattle.su2_quantum.specs.Dense.{su2-dense-tests}
 use Rattle.refusals.specs.Sentences.{text-tests}
 use Rattle.rows.specs.Product.{product-tests}
+use Rattle.held_rows.specs.Lists.{lists-tests}
 use Rattle.su2_rows.specs.Rows.{su2-rows-tests}
+use Rattle.csr.specs.Csr.{csr-tests}
+use Rattle.su2_products.specs.Product.{su2-product-tests}
+use Rattle.su2_loops.specs.Loop.{loop-tests, su2-loop-tests}
 
 pub judge-smallest : (c : Complex) → Smallest (complex-tests c) (refusal c)
 unfolding refusal rising-from
@@ -57,6 +65,15 @@ pub tree-smallest : (c : Complex) (tree-room free-room : ℕ) → Smallest (tree
 unfolding rising-from
 tree-smallest c tree-room free-room = first-smallest (tree-tests c tree-room free-room) refl
 
+pub loops-smallest : (c : Complex) (starts-room edges-room directions-room : ℕ)
+    → Smallest (loops-tests c starts-room edges-room directions-room) (first (loops-tests c starts-room edges-room directions-room))
+unfolding rising-from
+loops-smallest c starts-room edges-room directions-room = first-smallest (loops-tests c starts-room edges-room directions-room) refl
+
+pub su2-loops-smallest : (c : Complex) (starts-room edges-room : ℕ) → Smallest (su2-loops-tests c starts-room edges-room) (first (su2-loops-tests c starts-room edges-room))
+unfolding rising-from
+su2-loops-smallest c starts-room edges-room = first-smallest (su2-loops-tests c starts-room edges-room) refl
+
 pub law-smallest : (c : Complex) (n : ℕ) → Smallest (law-tests c n) (first (law-tests c n))
 unfolding rising-from
 law-smallest c n = first-smallest (law-tests c n) refl
@@ -85,6 +102,18 @@ pub u1-dense-smallest : (c : Complex) (L : ℕ) (p : KSParams) (given : Bool) (w
 unfolding weights-tests rising-from
 u1-dense-smallest c L p given weights work result = first-smallest (u1-dense-tests c L p given weights work result) refl
 
+pub u1-product-smallest : (c : Complex) (L : ℕ) (p : KSParams) (given : Bool) (weights vector : List Float) (work result : ℕ) → Smallest (u1-product-tests c L p given weights vector work result) (first (u1-product-tests c L p given weights vector work result))
+unfolding vector-tests rising-from
+u1-product-smallest c L p given weights vector work result = first-smallest (u1-product-tests c L p given weights vector work result) refl
+
+pub electric-smallest : (c : Complex) (L : ℕ) (amplitudes : List Float) (work result : ℕ) → Smallest (electric-tests c L amplitudes work result) (first (electric-tests c L amplitudes work result))
+unfolding rising-from
+electric-smallest c L amplitudes work result = first-smallest (electric-tests c L amplitudes work result) refl
+
+pub wilson-smallest : (c : Complex) (L : ℕ) (amplitudes : List Float) (edges : List ℕ) (directions : List ℤ) (work : ℕ) → Smallest (wilson-tests c L amplitudes edges directions work) (first (wilson-tests c L amplitudes edges directions work))
+unfolding rising-from
+wilson-smallest c L amplitudes edges directions work = first-smallest (wilson-tests c L amplitudes edges directions work) refl
+
 pub su2-basis-smallest : (c : Complex) (room : ℕ) → Smallest (su2-basis-tests c room) (first (su2-basis-tests c room))
 unfolding rising-from
 su2-basis-smallest c room = first-smallest (su2-basis-tests c room) refl
@@ -101,6 +130,31 @@ pub product-smallest : (starts columns : List ℕ) (values vector : List Float) 
 unfolding rising-from
 product-smallest starts columns values vector room = first-smallest (product-tests starts columns values vector room) refl
 
+pub lists-smallest : (starts columns : List ℕ) (values : List Float) → Smallest (lists-tests starts columns values) (first (lists-tests starts columns values))
+unfolding rising-from
+lists-smallest starts columns values = first-smallest (lists-tests starts columns values) refl
+
 pub su2-rows-smallest : (c : Complex) (p : KSParams) (given : Bool) (weights : List Float) (work starts columns values : ℕ) → Smallest (su2-rows-tests c p given weights work starts columns values) (first (su2-rows-tests c p given weights work starts columns values))
 unfolding weights-tests rising-from
 su2-rows-smallest c p given weights work starts columns values = first-smallest (su2-rows-tests c p given weights work starts columns values) refl
+
+pub su2-product-smallest : (c : Complex) (p : KSParams) (given : Bool) (weights vector : List Float) (work result : ℕ) → Smallest (su2-product-tests c p given weights vector work result) (first (su2-product-tests c p given weights vector work result))
+unfolding vector-tests rising-from
+su2-product-smallest c p given weights vector work result = first-smallest (su2-product-tests c p given weights vector work result) refl
+
+pub su2-loop-smallest : (c : Complex) (vector : List Float) (path : List ℕ) (work : ℕ) → Smallest (su2-loop-tests c vector path work) (first (su2-loop-tests c vector path work))
+unfolding loop-tests rising-from
+su2-loop-smallest c vector path work = first-smallest (su2-loop-tests c vector path work) refl
+
+pub csr-smallest : (c : Complex) (L : ℕ) (p : KSParams) (given : Bool) (weights : List Float) (work starts columns values : ℕ) → Smallest (csr-tests c L p given weights work starts columns values) (first (csr-tests c L p given weights work starts columns values))
+unfolding weights-tests rising-from
+csr-smallest c L p given weights work starts columns values = first-smallest (csr-tests c L p given weights work starts columns values) refl
+
+-- of what is counted, states and entries, in both modes
+pub counted-smallest : (c : Complex) (L : ℕ) → Smallest (basis-tests c L) (first (basis-tests c L))
+unfolding rising-from
+counted-smallest c L = first-smallest (basis-tests c L) refl
+
+pub su2-counted-smallest : (c : Complex) → Smallest (su2-tests c) (first (su2-tests c))
+unfolding rising-from
+su2-counted-smallest c = first-smallest (su2-tests c) refl

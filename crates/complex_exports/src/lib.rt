@@ -5,6 +5,8 @@ use exports::signed;
 use exports::told_number;
 use exports::value;
 use gauss_law::spanning::spanning_tree;
+use loops::fundamental::fundamental_loops;
+use loops::fundamental::su2_fundamental_loops;
 use making::make_sheet;
 use pentachora::FromPentachorons;
 use pentachora::from_pentachorons;
@@ -16,6 +18,7 @@ ghost use Rattle.pentachora.specs.Pentachora.{pentachora-call};
 ghost use Rattle.sheet.specs.Sheet.{reading-call};
 ghost use Rattle.making.specs.Making.{making-call};
 ghost use Rattle.gauss_law.specs.Spanning.{tree-call};
+ghost use Rattle.loops.specs.Loops.{loops-call, su2-loops-call};
 ghost use Rattle.refusals.specs.Sentences.{text-call};
 ghost use Rattle.exports.specs.Exports.{on-sheet, stored, second-lent, in-place, Exported};
 ghost use Rattle.complex_exports.specs.Parts.{sheet-parts};
@@ -121,6 +124,37 @@ pub fn export_spanning_tree(sheet: &[u8], tree: &mut [u32], free: &mut [u32]) ->
     }
     let s = opened.sheet;
     signed(told_number(spanning_tree(s.complex, tree, free)))
+}
+
+// The fundamental loops of a sheet's complex: how many there are.
+pub fn export_fundamental_loops(
+    sheet: &[u8],
+    starts: &mut [u32],
+    edges: &mut [u8],
+    directions: &mut [i8],
+) -> i64
+    ensures { λ r. ⌜ Exported (on-sheet (now (sheet .entry)) (λ c L. loops-call c (now (starts .entry)) (now (edges .entry)) (now (directions .entry)))) r (now (starts .exit), now (edges .exit), now (directions .exit)) ⌝ }
+{
+    let opened = open(sheet);
+    let number = opened.refusal;
+    if number != 0 {
+        return refused(number);
+    }
+    let s = opened.sheet;
+    signed(told_number(fundamental_loops(s.complex, starts, edges, directions)))
+}
+
+// The same without directions.
+pub fn export_su2_fundamental_loops(sheet: &[u8], starts: &mut [u32], edges: &mut [u8]) -> i64
+    ensures { λ r. ⌜ Exported (on-sheet (now (sheet .entry)) (λ c L. su2-loops-call c (now (starts .entry)) (now (edges .entry)))) r (now (starts .exit), now (edges .exit)) ⌝ }
+{
+    let opened = open(sheet);
+    let number = opened.refusal;
+    if number != 0 {
+        return refused(number);
+    }
+    let s = opened.sheet;
+    signed(told_number(su2_fundamental_loops(s.complex, starts, edges)))
 }
 
 // The sentence of a refusal: the number of its bytes.

@@ -27,12 +27,8 @@ use Rattle.plaquettes.specs.Joined.{joins}
 use Rattle.plaquettes.proofs.Moves.{target-none, stays-at}
 use Rattle.plaquettes.proofs.Hits.{hits-target, hits-back, no-return}
 use Rattle.csr.specs.Csr.{diagonal, kept-diagonal, given-values, csr-row}
-use Rattle.csr.specs.Found.{moved-entry, found}
-
-pub found-next : (c : Complex) (L : ℕ) (p : KSParams) (w : ℕ → Float) (i t : ℕ)
-    → found c L p w i (t + 1) ≡ found c L p w i t ++ (moved-entry c L t (pos 1) (row-plaquette-term p (w t)) i ++ moved-entry c L t (negsuc 0) (row-plaquette-term p (w t)) i)
-unfolding found
-found-next c L p w i t = rw (add-one t)
+use Rattle.moves.specs.Moves.{moved-entry}
+use Rattle.csr.specs.Found.{found}
 
 -- rows that are given the same values
 row-same : (given given′ : ℕ → List Float) (n : ℕ) → ((j : ℕ) → j < n → given j ≡ given′ j) → row-of given n ≡ row-of given′ n
@@ -112,7 +108,7 @@ module _ (c : Complex) (accepted : Accepted c) (L : ℕ) (p : KSParams) (w : ℕ
       values-append k (found c L p w i t) (moved-entry c L t (pos 1) (row-plaquette-term p (w t)) i ++ moved-entry c L t (negsuc 0) (row-plaquette-term p (w t)) i)
       ∙ ap₂ (λ a d. a ++ d) (found-values t (omega arith) k l) (both-values t b (row-plaquette-term p (w t)) k l)
 
-  found-below : (m : ℕ) → m ≤ T → Each (λ (q : ℕ × Float). q .0 < N) (found c L p w i m)
+  pub found-below : (m : ℕ) → m ≤ T → Each (λ (q : ℕ × Float). q .0 < N) (found c L p w i m)
   unfolding found
   found-below zero b = go (kept (diagonal p (getD (states c L) i [])))
     where
@@ -124,8 +120,6 @@ module _ (c : Complex) (accepted : Accepted c) (L : ℕ) (p : KSParams) (w : ℕ
       (each-append (moved-below c L t (pos 1) (row-plaquette-term p (w t)) i accepted b h) (moved-below c L t (negsuc 0) (row-plaquette-term p (w t)) i accepted b h))
 
   -- the row that they make is row i
-  pub found-row : (row : List (ℕ × Float)) → RowOf (found c L p w i T) row → row ≡ csr-row c L p w i
+  pub found-row : row-of (λ j. values-at j (found c L p w i T)) N ≡ csr-row c L p w i
   unfolding csr-row
-  found-row row made =
-      made .is N (found-below T (omega arith))
-      ∙ row-same (λ j. values-at j (found c L p w i T)) (given-values c L p w T i) N (found-values T (omega arith))
+  found-row = row-same (λ j. values-at j (found c L p w i T)) (given-values c L p w T i) N (found-values T (omega arith))

@@ -2,17 +2,16 @@
 -- a diagonal that is kept.
 use Prim.Native.Nat.{ℕ, zero, suc, _+_, _*_, _<_, _≤_}
 use mathlib.Core.List.{List, [], _∷_}
-use mathlib.Core.Bool.{Bool, _&&_, cond}
-use lib.IntN.{ℤ, pos, negsuc, natAbs, negℤ, _+ℤ_}
-use lib.Ieee.{Float}
+use mathlib.Core.Bool.{cond}
+use lib.IntN.{ℤ, pos, negsuc, natAbs}
+use lib.Dec.{eqb}
 use lib.ListN.{getD, length}
 use Rattle.complex.specs.Complex.{Complex, entries}
-use Rattle.gauss_law.specs.Gauss.{within}
 use Rattle.matrices.specs.declared.coupling.KSParams.{KSParams}
-use Rattle.matrices.specs.Squares.{squares, energy}
+use Rattle.matrices.specs.Squares.{squares}
 use Rattle.rows.specs.RowLists.{kept}
-use Rattle.triangles.specs.declared.Sides.{Sides}
 use Rattle.plaquettes.specs.Joined.{staying}
+use Rattle.plaquettes.specs.Pairs.{stays, Movable}
 use Rattle.csr.specs.Csr.{diagonal}
 
 unfoldable pub row-count : Complex → ℕ → KSParams → List ℤ → ℕ
@@ -24,13 +23,6 @@ over-states f [] = 0
 over-states f (s ∷ ss) = f s + over-states f ss
 
 -- ---- as the code keeps it
-abbrev pub three : Sides → List ℕ
-three s = s .first ∷ s .second ∷ s .third ∷ []
-
--- u more on the first and the third of three edges and u less on the second leaves their values within -L to L
-unfoldable pub stays : ℕ → List ℤ → List ℕ → ℤ → Bool
-stays L s edges u = within L (getD s (getD edges 0 0) (pos 0) +ℤ u) && (within L (getD s (getD edges 1 0) (pos 0) +ℤ negℤ u) && within L (getD s (getD edges 2 0) (pos 0) +ℤ u))
-
 -- how many of both moves do so
 unfoldable pub both-stay : ℕ → List ℤ → List ℕ → ℕ
 both-stay L s edges = cond (stays L s edges (pos 1)) 1 0 + cond (stays L s edges (negsuc 0)) 1 0
@@ -40,15 +32,9 @@ unfoldable pub moves-stay : ℕ → List ℤ → List ℕ → ℕ → ℕ
 moves-stay L s all zero = 0
 moves-stay L s all (suc t) = moves-stay L s all t + both-stay L s (entries all (3 * t) 3)
 
-unfoldable pub row-entries : ℕ → List ℕ → ℕ → Float → List ℤ → ℕ
-row-entries L all n electric s = cond (kept (energy electric (squares s))) 1 0 + moves-stay L s all n
-
--- three edges of a state with small values
-pub record Movable (s : List ℤ) (edges : List ℕ) : Type 0 where
-  pub small : (e : ℕ) → e < length s → natAbs (getD s e (pos 0)) ≤ 1000
-  pub first-below : getD edges 0 0 < length s
-  pub second-below : getD edges 1 0 < length s
-  pub third-below : getD edges 2 0 < length s
+-- and one on the diagonal unless every value is 0
+unfoldable pub row-entries : ℕ → List ℕ → ℕ → List ℤ → ℕ
+row-entries L all n s = cond (eqb (squares s) 0) 0 1 + moves-stay L s all n
 
 -- a state with the edges of n triangles
 pub record Countable (L : ℕ) (s : List ℤ) (all : List ℕ) (n : ℕ) : Type 0 where

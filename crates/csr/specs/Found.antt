@@ -9,13 +9,9 @@ use Rattle.complex.specs.Complex.{Complex}
 use Rattle.gauss_law.specs.Listing.{states}
 use Rattle.matrices.specs.declared.coupling.KSParams.{KSParams}
 use Rattle.matrices.specs.Terms.{row-plaquette-term}
-use Rattle.plaquettes.specs.Triangle.{moved-state, sides-within, target}
 use Rattle.rows.specs.RowLists.{kept}
+use Rattle.moves.specs.Moves.{moved-entry}
 use Rattle.csr.specs.Csr.{diagonal}
-
--- the target of one move with its value, and nothing where an edge leaves -L to L
-unfoldable pub moved-entry : Complex → ℕ → ℕ → ℤ → Float → ℕ → List (ℕ × Float)
-moved-entry c L t u x i = cond (sides-within c L t (moved-state c L t u i)) ((target c L t u i, x) ∷ []) []
 
 -- the diagonal where it is kept, then triangle by triangle the target forward and the target back
 unfoldable pub found : Complex → ℕ → KSParams → (ℕ → Float) → ℕ → ℕ → List (ℕ × Float)

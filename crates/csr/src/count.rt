@@ -1,52 +1,29 @@
 // How many entries the rows have, counted state by state as a cursor goes over them, without a list.
 use cursor::first_state;
 use cursor::next_state;
-use matrices::electric::energy;
-use matrices::electric::squares;
 use numbers::sizes::MOST_EDGES;
-use numbers::sum;
-use rows::lists::is_kept;
+use plaquettes::pairs::stays;
 use triangles::Sides;
 use triangles::sides_at;
-use walker::blocks::within;
 use walker::row::fill_row;
 use walker::tables::Walker;
 ghost use mathlib.Core.Path.{_≡_};
 ghost use mathlib.Core.Bool.{cond};
 ghost use Prim.Native.Nat.{_<_, _≤_};
-ghost use lib.IntN.{natAbs, negℤ, _+ℤ_};
+ghost use lib.Dec.{eqb};
 ghost use lib.ListN.{length};
-ghost use Rattle.gauss_law.specs.Gauss.{within};
+ghost use Rattle.matrices.specs.Squares.{squares};
 ghost use Rattle.cycles.specs.Cycles.{row};
 ghost use Rattle.walker.specs.Walker.{walked-states};
 ghost use Rattle.walker.specs.Steps.{Walkable};
 ghost use Rattle.walker.specs.Tables.{states-of, Fit};
-ghost use Rattle.csr.specs.Count.{over-states, three, stays, both-stay, moves-stay, row-entries, Movable, Countable, AllCountable};
+ghost use Rattle.plaquettes.specs.Pairs.{three, Movable};
+ghost use Rattle.csr.specs.Count.{over-states, both-stay, moves-stay, row-entries, Countable, AllCountable};
 
 fn one(b: bool) -> usize
     ensures { λ r. ⌜ (r ≡ cond b 1 0) × (r ≤ 1) ⌝ }
 {
     if b { 1 } else { 0 }
-}
-
-// Whether a value with 1 or -1 added is within -lambda to lambda.
-fn value_stays(x: i32, by: i32, lambda: usize) -> bool
-    requires { ⌜ (natAbs x ≤ 1000) × (natAbs by ≤ 1) × (lambda ≤ 1000) ⌝ }
-    ensures { λ r. ⌜ r ≡ within lambda (x +ℤ by) ⌝ }
-{
-    within(sum(x, by), lambda)
-}
-
-// Whether a triangle's move by 1 or -1 keeps its three values there; back is the other of the two.
-pub fn stays(state: &[i32], sides: Sides, by: i32, back: i32, lambda: usize) -> bool
-    requires { ⌜ Movable (now state) (three sides) × (lambda ≤ 1000) × (natAbs by ≤ 1) × (back ≡ negℤ by) ⌝ }
-    ensures { λ r. ⌜ r ≡ stays lambda (now (state .entry)) (three sides) by ⌝ }
-{
-    let i = sides.first;
-    let j = sides.second;
-    let k = sides.third;
-    value_stays(state[i], by, lambda)
-        & (value_stays(state[j], back, lambda) & value_stays(state[k], by, lambda))
 }
 
 // How many of both moves of a triangle do so.
@@ -71,14 +48,26 @@ fn count_moves(state: &[i32], all: &[u8; 768], n: usize, lambda: usize) -> usize
     count
 }
 
+// Whether every value of a state is 0.
+fn is_zero(state: &[i32]) -> bool
+    ensures { λ r. ⌜ r ≡ eqb (squares (now (state .entry))) 0 ⌝ }
+{
+    for e in 0..state.len() {
+        let x = state[e];
+        if (x < 0) | (0 < x) {
+            return false;
+        }
+    }
+    true
+}
+
 // How many entries the row of a state has.
-fn count_row(state: &[i32], all: &[u8; 768], n: usize, lambda: usize, electric: f64) -> usize
+fn count_row(state: &[i32], all: &[u8; 768], n: usize, lambda: usize) -> usize
     requires { ⌜ Countable lambda (now state) (now all) n ⌝ }
-    ensures { λ r. ⌜ (r ≡ row-entries lambda (now (all .entry)) n electric (now (state .entry))) × (r ≤ 513) ⌝ }
+    ensures { λ r. ⌜ (r ≡ row-entries lambda (now (all .entry)) n (now (state .entry))) × (r ≤ 513) ⌝ }
 {
     let moves = count_moves(state, all, n, lambda);
-    let diagonal = energy(electric, squares(state));
-    one(is_kept(diagonal)) + moves
+    one(!is_zero(state)) + moves
 }
 
 // How many entries the rows of the states of some blocks have.
@@ -91,10 +80,9 @@ fn count_walked(
     blocks: usize,
     all: &[u8; 768],
     n: usize,
-    electric: f64,
 ) -> usize
     requires { ⌜ Walkable (now free) (now cycles) lambda «n_free» (now config) blocks × AllCountable lambda (walked-states (now free) (row (length (now config)) (now cycles)) lambda «n_free» (now config) blocks) (now all) n ⌝ }
-    ensures { λ r. ⌜ r ≡ over-states (row-entries lambda (now (all .entry)) n electric) (walked-states (now (free .entry)) (row (length (now (config .entry))) (now (cycles .entry))) lambda «n_free» (now (config .entry)) blocks) ⌝ }
+    ensures { λ r. ⌜ r ≡ over-states (row-entries lambda (now (all .entry)) n) (walked-states (now (free .entry)) (row (length (now (config .entry))) (now (cycles .entry))) lambda «n_free» (now (config .entry)) blocks) ⌝ }
 {
     let m = config.len();
     let mut space = [0i32; MOST_EDGES];
@@ -104,38 +92,21 @@ fn count_walked(
     while 0 < here.left {
         let m = config.len();
         fill_row(state, config, &cycles[0..m], here.d);
-        total += count_row(state, all, n, lambda, electric);
+        total += count_row(state, all, n, lambda);
         here = next_state(here, config, free, n_free, cycles, lambda);
     }
     total
 }
 
 // How many entries the rows of all states have, n the number of the triangles whose edges are listed.
-pub fn count_entries(
-    w: Walker,
-    lambda: usize,
-    blocks: usize,
-    all: &[u8; 768],
-    n: usize,
-    electric: f64,
-) -> usize
+pub fn count_entries(w: Walker, lambda: usize, blocks: usize, all: &[u8; 768], n: usize) -> usize
     requires { ⌜ Fit w lambda blocks × AllCountable lambda (states-of w lambda blocks) (now all) n ⌝ }
-    ensures { λ r. ⌜ r ≡ over-states (row-entries lambda (now (all .entry)) n electric) (states-of w lambda blocks) ⌝ }
+    ensures { λ r. ⌜ r ≡ over-states (row-entries lambda (now (all .entry)) n) (states-of w lambda blocks) ⌝ }
 {
     let free = w.free;
     let n_free = w.n_free;
     let mut space = w.first;
     let m = w.n_edges;
     let config = &mut space[0..m];
-    count_walked(
-        config,
-        &free,
-        n_free,
-        &w.cycles,
-        lambda,
-        blocks,
-        all,
-        n,
-        electric,
-    )
+    count_walked(config, &free, n_free, &w.cycles, lambda, blocks, all, n)
 }

@@ -1,3 +1,7 @@
 // The Kogut-Susskind Hamiltonian of U(1) as row lists.
 
+pub mod build;
 pub mod count;
+pub mod entries;
+pub mod fill;
+pub mod words;

@@ -8,7 +8,7 @@ use lib.IntN.{ℤ, pos}
 use lib.ListN.{length}
 use Rattle.mathematics.specs.Writing.{front}
 use Rattle.mathematics.specs.Refusals.{first, value}
-use Rattle.mathematics.specs.Calls.{Call}
+use Rattle.mathematics.specs.Calls.{Call, NoneLent, none-lent}
 use Rattle.complex.specs.Complex.{Complex}
 use Rattle.complex.specs.Judge.{Accepted, truncated-tests}
 use Rattle.gauss_law.specs.Listing.{free-edges, Complete, states, limit}
@@ -52,6 +52,17 @@ enumerated-call c L old =
       value = length (states c L);
       before = old;
       after = basis-first c L old;
+      known = BasisKnown c L;
+    }
+
+-- count_states: the number of states is told, without a list.
+unfoldable pub counted-call : Complex → ℕ → Call ℕ NoneLent
+counted-call c L =
+    record {
+      tests = basis-tests c L;
+      value = length (states c L);
+      before = none-lent;
+      after = none-lent;
       known = BasisKnown c L;
     }
 

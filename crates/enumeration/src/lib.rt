@@ -1,4 +1,7 @@
 // The list of all states of a complex.
+
+pub mod count;
+
 use acceptance::judge_truncated;
 use answers::Answer;
 use complex::SimplicialComplex;

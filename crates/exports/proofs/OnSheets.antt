@@ -20,8 +20,8 @@ use Rattle.sheet.proofs.Sheets.{shape-decides}
 use Rattle.sheet.proofs.RoundTrips.{header-none}
 use Rattle.exports.specs.declared.Told.{Told}
 use Rattle.exports.specs.declared.Opened.{Opened}
-use Rattle.exports.specs.Exports.{signed, toldOf, yesOf, readingNumber, OpenedOf, complexIn, lambdaIn, on-sheet, as-number, Exported}
-use Rattle.exports.proofs.Signs.{exports, small-told, yes-outcome, yes-small}
+use Rattle.exports.specs.Exports.{signed, toldOf, yesOf, zeroOf, readingNumber, OpenedOf, complexIn, lambdaIn, on-sheet, as-number, zero-told, Exported}
+use Rattle.exports.proofs.Signs.{exports, small-told, yes-outcome, yes-small, zero-outcome}
 
 number-back : (n : ℕ) → readingNumber (readAnswer n) ≡ n
 unfolding readingNumber readAnswer
@@ -82,3 +82,12 @@ number-answered {B} {call} h = record { answer = ap yesOf (h .answer) ∙ yes-ou
 pub small-yes : {B : Type 0} {call : Call Bool B} {a : Outcome Bool} {l : B} → Answered call a l → {t : Told} → t ≡ toldOf (yesOf a) → t .value < 2 ^ 31
 unfolding as-number
 small-yes {B} {call} h told = small-answer (number-answered h) (λ k. yes-small (call .value)) told
+
+-- a call whose value is not told
+pub zero-answered : {A B : Type 0} {call : Call A B} {a : Outcome A} {l : B} → Answered call a l → Answered (zero-told call) (zeroOf a) l
+unfolding zero-told
+zero-answered {A} {B} {call} h = record { answer = ap zeroOf (h .answer) ∙ zero-outcome (first (call .tests)) (call .value); lists = h .lists; known = h .known }
+
+pub small-zero : {A B : Type 0} {call : Call A B} {a : Outcome A} {l : B} → Answered call a l → {t : Told} → t ≡ toldOf (zeroOf a) → t .value < 2 ^ 31
+unfolding zero-told
+small-zero h told = small-answer (zero-answered h) (λ k. omega arith) told

@@ -12,7 +12,7 @@ use mir.Facts.{toZ-pos}
 use Rattle.mathematics.specs.Refusals.{Outcome, value, refused, outcome}
 use Rattle.mathematics.specs.Calls.{Call, Answered}
 use Rattle.exports.specs.declared.Told.{Told}
-use Rattle.exports.specs.Exports.{signed, toldOf, signedOf, yesOf, Exported}
+use Rattle.exports.specs.Exports.{signed, toldOf, signedOf, yesOf, zeroOf, Exported}
 
 pub small-mag : (n : ℕ) → n < 256 → mag (negℤ (pos n)) < 2 ^ 63
 small-mag zero h = omega arith
@@ -66,6 +66,11 @@ pub yes-outcome : (n : ℕ) (b : Bool) → yesOf (outcome n b) ≡ outcome n (co
 unfolding yesOf outcome
 yes-outcome zero b = refl
 yes-outcome (suc n) b = refl
+
+pub zero-outcome : {A : Type 0} (n : ℕ) (a : A) → zeroOf (outcome n a) ≡ outcome n 0
+unfolding zeroOf outcome
+zero-outcome zero a = refl
+zero-outcome (suc n) a = refl
 
 pub yes-small : (b : Bool) → cond b 1 0 < 2 ^ 31
 yes-small true = omega arith

@@ -55,6 +55,14 @@ as-number call = record { tests = call .tests; value = cond (call .value) 1 0; b
 unfoldable pub stored : {A B : Type 0} → Call A NoneLent → (A → B → B) → B → Call ℕ B
 stored call store old = record { tests = call .tests; value = 0; before = old; after = store (call .value) old; known = call .known }
 
+-- The value of a call is not told: 0 is, beside what goes to its lists.
+unfoldable pub zero-told : {A B : Type 0} → Call A B → Call ℕ B
+zero-told call = record { tests = call .tests; value = 0; before = call .before; after = call .after; known = call .known }
+
+-- The value of a call goes to a place that is lent beside its lists, and 0 is told.
+unfoldable pub value-lent : {A B : Type 0} → Call A B → A → Call ℕ (B × A)
+value-lent call old = record { tests = call .tests; value = 0; before = (call .before, old); after = (call .after, call .value); known = call .known }
+
 -- Of two numbers the first is told, and the second goes to a number that is lent.
 unfoldable pub second-lent : {B C : Type 0} → Call (ℕ × ℕ) (B × C) → ℕ → Call ℕ (B × C × ℕ)
 second-lent call old =
@@ -88,6 +96,16 @@ signedOf t = cond (eqb (t .refusal) 0) (pos (t .value)) (negℤ (pos (t .refusal
 unfoldable pub yesOf : Outcome Bool → Outcome ℕ
 yesOf (value b) = value (cond b 1 0)
 yesOf (refused n) = refused n
+
+-- 0 for any value
+unfoldable pub zeroOf : {A : Type 0} → Outcome A → Outcome ℕ
+zeroOf (value a) = value 0
+zeroOf (refused n) = refused n
+
+-- a value, or where there is none what stood in its place
+unfoldable pub value-or : {A : Type 0} → Outcome A → A → A
+value-or (value a) old = a
+value-or (refused n) old = old
 
 -- the refusal of a reading, or 0
 unfoldable pub readingNumber : Reading → ℕ

@@ -1,5 +1,6 @@
 // What the exported functions of every mode have in common: a sheet is opened, and an answer becomes one signed number.
 use answers::Answer;
+use answers::expectation::Expectation;
 use matrices::coupling::Coupling;
 use sheet::Reading;
 use sheet::Sheet;
@@ -10,9 +11,10 @@ ghost use lib.IntN.{pos, negℤ};
 ghost use lib.Ieee.{Float};
 ghost use Rattle.mathematics.specs.Calls.{Answered, none-lent};
 ghost use Rattle.answers.specs.Answer.{numberAnswer};
+ghost use Rattle.answers.specs.Expectation.{expectationAnswer};
 ghost use Rattle.matrices.specs.declared.coupling.KSParams.{KSParams};
 ghost use Rattle.matrices.specs.Coupling.{couplingAnswer, coupling-call};
-ghost use Rattle.exports.specs.Exports.{toldOf, signedOf, readingNumber, OpenedOf, stored, three-floats, Exported};
+ghost use Rattle.exports.specs.Exports.{signed, toldOf, signedOf, zeroOf, value-or, readingNumber, OpenedOf, stored, three-floats, Exported};
 
 // A value, or the refusal, which is not 0.
 pub struct Told {
@@ -99,5 +101,18 @@ pub fn store(answer: Coupling, params: &mut [f64; 3]) -> i64
             0
         }
         Coupling::Refused(number) => refused(number),
+    }
+}
+
+// The expectation of an answer goes to a float: 0.
+pub fn store_expectation(answer: Expectation, expectation: &mut f64) -> i64
+    ensures { λ r. ⌜ (r ≡ signed (zeroOf (expectationAnswer answer))) × (now (expectation .exit) ≡ value-or (expectationAnswer answer) (now (expectation .entry))) ⌝ }
+{
+    match answer {
+        Expectation::Value(x) => {
+            *expectation = x;
+            0
+        }
+        Expectation::Refused(number) => refused(number),
     }
 }

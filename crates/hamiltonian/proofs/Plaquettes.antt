@@ -26,11 +26,13 @@ use Rattle.triangles.specs.Indices.{SidesOf}
 use Rattle.matrices.proofs.Matrices.{matrix-add, matrix-same}
 use Rattle.plaquettes.proofs.Hits.{elsewhere}
 use Rattle.hamiltonian.proofs.PartWay.{way-none, way-there, way-back, way-elsewhere, part-none, part-all}
-use Rattle.plaquettes.proofs.Targets.{there, hit-found, hit-none, target-later}
+use Rattle.plaquettes.specs.Pairs.{PairFound, Parted}
+use Rattle.plaquettes.proofs.Targets.{there, hit-found, hit-none}
+use Rattle.plaquettes.proofs.Pairing.{parted-none, parted-miss, parted-hit, pair-target}
 
--- while triangle t is under way: no later target is before a place, and the entries are those of the states below i
+-- while triangle t is under way: a place parts the targets, and the entries are those of the states below i
 pub record Way (c : Complex) (s : Sizes) (t : ℕ) (x : Float) (i from : ℕ) (old new : List Float) : Type 0 where
-  pub rises : (k : ℕ) → i ≤ k → k < s .states → from ≤ target c (s .lambda) t (pos 1) k
+  pub parts : Parted c (s .lambda) t (pos 1) i from
   pub entries : (p : KSParams) (w : ℕ → Float) → x ≡ dense-plaquette-term p (w t) → (first : List Float) → Matrix (u1-entry c (s .lambda) p w t) (s .states) first old
       → Matrix (part-entry c (s .lambda) p w t i) (s .states) first new
 
@@ -52,7 +54,7 @@ module _ (c : Complex) (list : List ℤ) (s : Sizes) (free : List ℕ) (basis : 
     pub way-begun : Way c s t x 0 0 old old
     way-begun =
         record {
-          rises = λ k h b. omega arith;
+          parts = parted-none c (basis .accepted) L t (of .number) (pos 1);
           entries = λ p w e first m. matrix-same (u1-entry c L p w t) (part-entry c L p w t 0) n first old (λ i j a b. sym (part-none c (basis .accepted) L t (of .number) p w i j)) m;
         }
 
@@ -70,7 +72,7 @@ module _ (c : Complex) (list : List ℤ) (s : Sizes) (free : List ℕ) (basis : 
       unfolding part-entry
       way-kept out =
           record {
-            rises = λ k a b. way .rises k (omega arith) b;
+            parts = parted-miss c (basis .accepted) L t (of .number) (pos 1) i from (way .parts) (rw (← (basis .count)) out);
             entries = λ p w e first m. matrix-same (part-entry c L p w t i) (part-entry c L p w t (i + 1)) n first new (λ a b d f. same p w a b) (way .entries p w e first m);
           }
         where
@@ -112,11 +114,11 @@ module _ (c : Complex) (list : List ℤ) (s : Sizes) (free : List ℕ) (basis : 
             go (no d) e (no f) g = untouched a b (rw (ne-eqb a i d)) (rw (ne-eqb a q f)) (λ z. d (z .0)) (λ z. f (z .0))
 
       pub way-hit : target c L t (pos 1) i < n → n * n ≤ length old
-          → Way c s t x (i + 1) (target c L t (pos 1) i) old (with-added n (target c L t (pos 1) i) i x (with-added n i (target c L t (pos 1) i) x new))
+          → Way c s t x (i + 1) (target c L t (pos 1) i + 1) old (with-added n (target c L t (pos 1) i) i x (with-added n i (target c L t (pos 1) i) x new))
       unfolding both-added first-added before
       way-hit hit room =
           record {
-            rises = λ k a b. target-later c list s free basis t (of .number) i k (omega arith) b hit;
+            parts = parted-hit c (basis .accepted) L t (of .number) (pos 1) i from (way .parts) here (there c list s free basis _ hit);
             entries = λ p w e first m.
                 let q = target c L t (pos 1) i in
                 let enough : n * n ≤ length first = rw (← (m .long)) room in
@@ -128,11 +130,11 @@ module _ (c : Complex) (list : List ℤ) (s : Sizes) (free : List ℕ) (basis : 
           }
 
       -- one state more, whether its target is a hit or not
-      pub way-on : (j : ℕ) → (from ≤ target c L t (pos 1) i → j ≡ target c L t (pos 1) i) → n * n ≤ length old → (next : List Float) (r : ℕ) → HitAdded n i j from x new next r → Way c s t x (i + 1) r old next
-      way-on j is room next r made = go (decLt j n)
+      pub way-on : (j : ℕ) → PairFound list s three (pos 1) i from j → n * n ≤ length old → (next : List Float) (r : ℕ) → HitAdded n i j from x new next r → Way c s t x (i + 1) r old next
+      way-on j found room next r made = go (decLt j n)
         where
           e : j ≡ target c L t (pos 1) i
-          e = is (way .rises i (omega arith) h)
+          e = pair-target c list s free basis t three of (pos 1) i from j h (way .parts) found
 
           go : Dec (j < n) → Way c s t x (i + 1) r old next
           go (yes k) = let d = made .hit k in rw (d .0, d .1, e) (way-hit (rw (← e) k) room)

@@ -19,9 +19,9 @@ under-way c L t k i j = (hits c L t i j && ltb i k) || (hits c L t j i && ltb j 
 unfoldable pub part-entry : Complex → ℕ → KSParams → (ℕ → Float) → ℕ → ℕ → ℕ → ℕ → Float
 part-entry c L p w t k i j = cond (under-way c L t k i j) (add binary64 (u1-entry c L p w t i j) (dense-plaquette-term p (w t))) (u1-entry c L p w t i j)
 
--- a target j below n is a hit: x was added to (i, j) and (j, i), and the next target is not before j
+-- a target j below n is a hit: x was added to (i, j) and (j, i), and the next target is past j
 pub record HitAdded (n i j from : ℕ) (x : Float) (old new : List Float) (r : ℕ) : Type 0 where
-  pub hit : j < n → (r ≡ j) × (new ≡ with-added n j i x (with-added n i j x old))
+  pub hit : j < n → (r ≡ j + 1) × (new ≡ with-added n j i x (with-added n i j x old))
   pub miss : n ≤ j → (r ≡ from) × (new ≡ old)
 
 -- the entries were those before triangle t, and are those after it, where it adds x

@@ -49,16 +49,15 @@ fn add_magnetic(
     weights: &[f64],
     list: &[i32],
     s: Sizes,
-    free: &[u8; 63],
     h: &mut [f64],
 )
-    requires { ⌜ BasisList (complexOf c) (now list) s (now free) × Weighed (length (complexOf c .triangles)) given (now weights) × (s .states * s .states ≤ length (now h)) ⌝ }
+    requires { ⌜ ((free : List ℕ) × BasisList (complexOf c) (now list) s free × Weighed (length (complexOf c .triangles)) given (now weights) × (s .states * s .states ≤ length (now h))) ⌝ }
     ensures { λ _. ⌜ ((old : List Float) → Matrix (u1-entry (complexOf c) (s .lambda) p (weight given (now (weights .entry))) 0) (s .states) old (now (h .entry)) → Matrix (u1-entry (complexOf c) (s .lambda) p (weight given (now (weights .entry))) (c .«n_triangles»)) (s .states) old (now (h .exit))) ⌝ }
 {
     let all = all_sides(c);
     for t in 0..c.n_triangles {
         let x = dense_plaquette_term(p, weight_of(given, weights, t));
-        add_plaquette(list, s, free, sides_at(&all, t), x, h);
+        add_plaquette(list, s, sides_at(&all, t), x, h);
     }
 }
 
@@ -70,15 +69,14 @@ fn write_dense(
     weights: &[f64],
     list: &[i32],
     s: Sizes,
-    free: &[u8; 63],
     h: &mut [f64],
 )
-    requires { ⌜ BasisList (complexOf c) (now list) s (now free) × Weighed (length (complexOf c .triangles)) given (now weights) × (s .states * s .states ≤ length (now h)) ⌝ }
+    requires { ⌜ ((free : List ℕ) × BasisList (complexOf c) (now list) s free × Weighed (length (complexOf c .triangles)) given (now weights) × (s .states * s .states ≤ length (now h))) ⌝ }
     ensures { λ _. ⌜ now (h .exit) ≡ front (u1-dense (complexOf c) (s .lambda) p (weight given (now (weights .entry)))) (now (h .entry)) ⌝ }
 {
     clear_matrix(h, s.states);
     add_electric(list, s.states, s.edges, p.electric, h);
-    add_magnetic(c, p, given, weights, list, s, free, h);
+    add_magnetic(c, p, given, weights, list, s, h);
 }
 
 // The dense matrix of a record goes to the beginning of the result list, the basis to that of the work list. All is judged first.
@@ -109,13 +107,12 @@ pub fn build_hamiltonian(
     if (states.len() < n * w.n_edges) | (result.len() < n * n) {
         return Answer::Refused(15);
     }
-    let free = w.free;
     let s = Sizes {
         states: write_states(w, lambda, blocks, states),
         edges: w.n_edges,
         free: w.n_free,
         lambda: lambda,
     };
-    write_dense(c, p, given, weights, states, s, &free, result);
+    write_dense(c, p, given, weights, states, s, result);
     Answer::Number(n)
 }

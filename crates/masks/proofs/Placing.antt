@@ -18,25 +18,19 @@ use Rattle.complex.proofs.Accepting.{accepted}
 use Rattle.gauss_law.specs.Listing.{free-edges}
 use Rattle.gauss_law.proofs.Spanned.{edges-long}
 use Rattle.even_sets.specs.declared.Forest.{Forest}
-use Rattle.masks.specs.declared.place.MaskPlace.the-variants.{Place, NotListed}
 use Rattle.even_sets.specs.EvenSets.{even, su2-states, mask-place}
 use Rattle.even_sets.specs.Loops.{grown, loop-sums, sum-of-loops, closing-bits}
 use Rattle.even_sets.specs.Forest.{Front, Keeps}
-use Rattle.masks.specs.Place.{maskPlaced, LoopsOf, Readable}
+use Rattle.masks.specs.Place.{LoopsOf, Readable}
 use Rattle.even_sets.proofs.Forests.{all-grown, closing-below}
 use Rattle.even_sets.proofs.ClosingCount.{closing-free}
-use Rattle.even_sets.proofs.EvenLists.{combined-listed, combined-all, masks-listed, even-count, mask-place-read}
+use Rattle.even_sets.proofs.EvenLists.{masks-listed, even-count, mask-place-read}
 
 -- only the first entries matter
 bits-same : (l m : List ℕ) (x n : ℕ) → ((j : ℕ) → j < n → getD l j 0 ≡ getD m j 0) → closing-bits l x n ≡ closing-bits m x n
 unfolding closing-bits
 bits-same l m x zero h = refl
 bits-same l m x (suc n) h = rw (bits-same l m x n (λ j k. h j (omega arith)), h n (omega arith))
-
-sums-same : (l m : List ℕ) (k n : ℕ) → ((j : ℕ) → j < n → getD l j 0 ≡ getD m j 0) → sum-of-loops l k n ≡ sum-of-loops m k n
-unfolding sum-of-loops
-sums-same l m k zero h = refl
-sums-same l m k (suc n) h = rw (sums-same l m k n (λ j k. h j (omega arith)), h n (omega arith))
 
 spanned-same : (l m : List ℕ) (n : ℕ) → ((j : ℕ) → j < n → getD l j 0 ≡ getD m j 0) → loop-sums l n ≡ loop-sums m n
 unfolding loop-sums
@@ -78,30 +72,9 @@ module _ (c : Complex) (f : Forest) (of : LoopsOf c f) (x : ℕ) where
   place-is : closing-bits (f .closing) x (f .count) ≡ closing-bits closing x (length closing)
   place-is = bits-same (f .closing) closing x (f .count) (front-at closing (f .closing) (f .count) (of .keeps .closing)) ∙ ap (closing-bits closing x) number
 
-  sum-is : (k : ℕ) → sum-of-loops (f .loops) k (f .count) ≡ sum-of-loops loops k (length closing)
-  sum-is k = sums-same (f .loops) loops k (f .count) (front-at loops (f .loops) (f .count) (of .keeps .loops)) ∙ ap (sum-of-loops loops k) number
-
   -- the place of a listed mask
   pub listed-place : even c x ≡ true → x < 2 ^ length (c .edges) → closing-bits (f .closing) x (f .count) ≡ mask-place c x
   listed-place e b = place-is ∙ sym (mask-place-read c (of .accepted) x e b)
-
-  -- the sum of the loops of its closing edges is the mask itself just where it is listed
-  pub placed : sum-of-loops (f .loops) (closing-bits (f .closing) x (f .count)) (f .count) ≡ x → Place (closing-bits (f .closing) x (f .count)) ≡ maskPlaced c x
-  unfolding maskPlaced
-  placed h =
-      let sum : sum-of-loops loops (closing-bits closing x (length closing)) (length closing) ≡ x = ap (λ (k : ℕ). sum-of-loops loops k (length closing)) (sym place-is) ∙ sym (sum-is _) ∙ h in
-      let here = rw sum at (combined-listed c (of .accepted) (closing-bits closing x (length closing))) in
-      rw (lt-ltb x (2 ^ length (c .edges)) (here .1), here .0) (ap Place (listed-place (here .0) (here .1)))
-
-  pub not-listed : sum-of-loops (f .loops) (closing-bits (f .closing) x (f .count)) (f .count) ≢ x → NotListed ≡ maskPlaced c x
-  unfolding maskPlaced
-  not-listed h = go (ltb x (2 ^ length (c .edges)) && even c x) refl
-    where
-      go : (b : Bool) → (ltb x (2 ^ length (c .edges)) && even c x) ≡ b → NotListed ≡ cond b (Place (mask-place c x)) NotListed
-      go false e = refl
-      go true e =
-          let r = and-parts (ltb x (2 ^ length (c .edges))) (even c x) e in
-          absurd (h (sum-is _ ∙ ap (λ (k : ℕ). sum-of-loops loops k (length closing)) place-is ∙ combined-all c (of .accepted) x (r .1, ltb-true x (2 ^ length (c .edges)) (r .0))))
 
 -- the tables of an accepted complex with few closing edges can be read
 pub loops-readable : (c : Complex) (f : Forest) → LoopsOf c f → f .count ≤ 20 → Readable f

@@ -5,7 +5,7 @@ use mathlib.Core.Bool.{Bool}
 use lib.Dec.{ltb}
 use lib.ListN.{length}
 use Rattle.mathematics.specs.Writing.{front}
-use Rattle.mathematics.specs.Calls.{Call}
+use Rattle.mathematics.specs.Calls.{Call, NoneLent, none-lent}
 use Rattle.complex.specs.Complex.{Complex}
 use Rattle.complex.specs.Judge.{complex-tests}
 use Rattle.gauss_law.specs.Listing.{free-edges, limit}
@@ -33,5 +33,16 @@ su2-basis-call c old =
       value = length (su2-states c);
       before = old;
       after = front (su2-states c) old;
+      known = MasksKnown c;
+    }
+
+-- su2_count_states: the number of states is told, without a list.
+unfoldable pub su2-counted-call : Complex → Call ℕ NoneLent
+su2-counted-call c =
+    record {
+      tests = su2-tests c;
+      value = length (su2-states c);
+      before = none-lent;
+      after = none-lent;
       known = MasksKnown c;
     }

@@ -1,5 +1,6 @@
 // The even edge sets as masks: the list of all of them, and the place of one in it.
 
+pub mod count;
 pub mod flip;
 pub mod place;
 

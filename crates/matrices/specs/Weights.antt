@@ -21,6 +21,13 @@ weight given weights t = cond given (getD weights t nan) (float-of 1)
 unfoldable pub weights-tests : ℕ → Bool → Bool → List Float → List (ℕ × Bool)
 weights-tests n coupling-ok given weights = (12, given && not (eqb (length weights) n)) ∷ (14, not coupling-ok || (given && not (every-entry bounded weights))) ∷ []
 
+-- the same where a vector is given too: 12 also where the amplitudes are not one for each of n states, 14 also where one is out of its range
+unfoldable pub vector-tests : ℕ → List Float → ℕ → Bool → Bool → List Float → List (ℕ × Bool)
+vector-tests n vector triangles coupling-ok given weights =
+    (12, (given && not (eqb (length weights) triangles)) || not (eqb (length vector) n))
+    ∷ (14, (not coupling-ok || (given && not (every-entry bounded weights))) || not (every-entry bounded vector))
+    ∷ []
+
 -- ---- as the code keeps it
 -- weights that were judged: one for each of n triangles where they are given
 pub record Weighed (n : ℕ) (given : Bool) (weights : List Float) : Type 0 where

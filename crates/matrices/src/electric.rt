@@ -6,11 +6,11 @@ ghost use lib.IntN.{pos, natAbs};
 ghost use lib.ListN.{getD, length};
 ghost use Rattle.matrices.specs.Squares.{squares, energy};
 
-fn square(x: i32) -> usize
+fn square(x: i32) -> u32
     requires { ⌜ natAbs x ≤ 1000 ⌝ }
     ensures { λ r. ⌜ r ≡ natAbs x * natAbs x ⌝ }
 {
-    (x * x) as usize
+    (x * x) as u32
 }
 
 // The sum of the squares of a state's values.
@@ -22,7 +22,7 @@ pub fn squares(state: &[i32]) -> usize
     for e in 0..state.len() {
         sum += square(state[e]);
     }
-    sum
+    sum as usize
 }
 
 // A factor times a whole number.

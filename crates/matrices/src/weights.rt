@@ -5,7 +5,7 @@ ghost use Prim.Native.Nat.{_<_};
 ghost use lib.ListN.{length};
 ghost use Rattle.mathematics.specs.Tests.{every-entry};
 ghost use Rattle.mathematics.specs.Refusals.{first};
-ghost use Rattle.matrices.specs.Weights.{bounded, weight, weights-tests};
+ghost use Rattle.matrices.specs.Weights.{bounded, weight, weights-tests, vector-tests};
 
 // Whether a float is from -2^32 to 2^32; the tests are written so that what is not a number fails.
 fn bounded(x: f64) -> bool
@@ -39,6 +39,28 @@ pub fn judge_weights(n_triangles: usize, right: bool, given: bool, weights: &[f6
         return 0;
     }
     if all_bounded(weights) { 0 } else { 14 }
+}
+
+// 12 for the number of the given weights or of the amplitudes, 14 for a coupling that is not right or for a weight or an amplitude out of
+// its range, 0 for none of these.
+pub fn judge_vector(
+    n_triangles: usize,
+    right: bool,
+    given: bool,
+    weights: &[f64],
+    n: usize,
+    vector: &[f64],
+) -> u8
+    ensures { λ r. ⌜ r ≡ first (vector-tests n (now (vector .entry)) «n_triangles» right given (now (weights .entry))) ⌝ }
+{
+    let wrong = judge_weights(n_triangles, right, given, weights);
+    if (wrong == 12) | (vector.len() != n) {
+        return 12;
+    }
+    if (wrong != 0) | !all_bounded(vector) {
+        return 14;
+    }
+    0
 }
 
 // The weight of triangle t.

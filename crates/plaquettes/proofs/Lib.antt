@@ -6,6 +6,7 @@ pub mod Moves
 pub mod Targets
 pub mod Hits
 pub mod Listed
+pub mod Pairing
 pub mod Runs
 pub mod Joined
 pub mod Examples

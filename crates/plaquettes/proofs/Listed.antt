@@ -1,10 +1,11 @@
 -- A list that begins with the basis: how it comes about, and that its rows are small.
-use Prim.Native.Nat.{ℕ, _<_, _≤_}
+use Prim.Native.Nat.{ℕ, _+_, _*_, _<_, _≤_}
 use mathlib.Core.List.{List, [], flatten}
 use mathlib.Core.Path.{_≡_}
+use native.Mathlib.Nat.{mul-le-mul, mul-le-mul-right}
 use native.Mathlib.Omega.{arith}
 use lib.IntN.{ℤ, pos, natAbs}
-use lib.ListN.{getD, length, drop}
+use lib.ListN.{getD, length, drop, length-take, length-drop}
 use Rattle.complex.specs.Complex.{Complex}
 use Rattle.walker.specs.declared.tables.Walker.{Walker}
 use Rattle.walker.specs.Blocks.{StatesWritten}
@@ -12,6 +13,7 @@ use Rattle.walker.specs.Tables.{states-of}
 use Rattle.enumeration.specs.Enumeration.{basis-first, BasisWalks}
 use Rattle.gauss_law.specs.Listing.{states}
 use Rattle.enumeration.proofs.Enumerating.{basis-written}
+use Rattle.hilbert.specs.Search.{row}
 use Rattle.plaquettes.specs.declared.target.Sizes.{Sizes}
 use Rattle.plaquettes.specs.Targets.{BasisList}
 use Rattle.plaquettes.specs.Rows.{SmallRows}
@@ -38,6 +40,16 @@ basis-listed c L w blocks basis old new r h s e =
       free-fit = rw (← (basis .fit .sized)) (basis .fit .walkable .free-fit);
       free-listed = basis .walks .listed;
     })
+
+-- a row of small values lies in the list
+module _ (list : List ℤ) (n m : ℕ) (small : SmallRows list n m) (i : ℕ) (h : i < n) where
+  pub row-room : (i * m + m ≤ length list) × (i * m ≤ 1048576 * 63)
+  row-room =
+      let few : i ≤ 1048576 = omega (arith, small .few, h) in
+      (omega (arith, small .long, mul-le-mul-right m h), mul-le-mul few (small .edges-few))
+
+  pub row-sized : length (row m list i) ≡ m
+  row-sized = rw (length-take, length-drop) (omega (arith, row-room .0))
 
 module _ (c : Complex) (list : List ℤ) (s : Sizes) (free : List ℕ) (basis : BasisList c list s free) where
   -- the values of its rows can be squared

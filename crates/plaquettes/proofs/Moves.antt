@@ -25,7 +25,7 @@ use Rattle.plaquettes.proofs.Demands.{leaves}
 use Rattle.plaquettes.proofs.Rising.{targets-rise, never-itself}
 
 -- a state's values are within -L to L, and there are none past its end
-small-everywhere : (c : Complex) (L : ℕ) (s : List ℤ) → State c (c .charges) L s → (e : ℕ) → natAbs (getD s e (pos 0)) ≤ L
+pub small-everywhere : (c : Complex) (L : ℕ) (s : List ℤ) → State c (c .charges) L s → (e : ℕ) → natAbs (getD s e (pos 0)) ≤ L
 small-everywhere c L s is e = go (ltb e (length (c .edges))) refl
   where
     go : (b : Bool) → ltb e (length (c .edges)) ≡ b → natAbs (getD s e (pos 0)) ≤ L

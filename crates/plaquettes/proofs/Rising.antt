@@ -23,7 +23,7 @@ use Rattle.plaquettes.specs.Triangle.{moved-state}
 use Rattle.plaquettes.proofs.TriangleTelling.{state-there}
 
 -- the same added on both sides
-less-shifted : (x y d : ℤ) → x <ℤ y → (x +ℤ d) <ℤ (y +ℤ d)
+pub less-shifted : (x y d : ℤ) → x <ℤ y → (x +ℤ d) <ℤ (y +ℤ d)
 less-shifted x y d h = less-by-parts (x +ℤ d) (y +ℤ d) (omega (arith, less-to-parts x y h, parts-sum x d, parts-sum y d))
 
 module _ (c : Complex) (accepted : Accepted c) (t : ℕ) (number : t < length (c .triangles)) (u : ℤ) where

@@ -64,44 +64,6 @@ module _ (c : Complex) (list : List ℤ) (s : Sizes) (free : List ℕ) (basis : 
         free-fit = rw e (basis .free-fit);
       }
 
-  module _ (t : ℕ) (three : Sides) (of : SidesOf c t three) (i : ℕ) (h : i < s .states) where
-    below : (three .first < s .edges) × (three .second < s .edges) × (three .third < s .edges)
-    below = rw (basis .edges) (sides-below c t three (of .are) (basis .accepted) (of .number))
-
-    is-state : State c (c .charges) L (getD (states c L) i [])
-    is-state = state-there c (basis .accepted) L i (there i h)
-
-    module _ (r : List ℤ) (front : take (s .edges) r ≡ row (s .edges) list i) where
-      stands : take (s .edges) r ≡ getD (states c L) i []
-      stands = front ∙ row-is i h
-
-      pub target-shiftable : length r ≡ 63 → Shiftable r three
-      target-shiftable long = row-shiftable c (basis .accepted) L t (basis .truncation) (of .number) three (of .are) r _ long (rw (← (basis .edges)) stands) is-state
-
-      pub target-front : (u : ℤ) → take (s .edges) (shifted (shifted (shifted r (three .first) u) (three .second) (negℤ u)) (three .third) u) ≡ moved-state c L t u i
-      unfolding moved-state
-      target-front u = front-moved c t three (of .are) u r (getD (states c L) i []) (s .edges) (below .0) (below .1) (below .2) stands
-
-    module _ (u : ℤ) where
-      -- the test of the three values of a row that begins with the moved state
-      pub target-band : (r : List ℤ) → take (s .edges) r ≡ moved-state c L t u i
-          → sides-within c L t (moved-state c L t u i) ≡ (within L (getD r (three .first) (pos 0)) && (within L (getD r (three .second) (pos 0)) && within L (getD r (three .third) (pos 0))))
-      target-band r front = three-told c t three (of .are) L r (moved-state c L t u i) (s .edges) (below .0) (below .1) (below .2) front
-
-      pub target-out : sides-within c L t (moved-state c L t u i) ≡ false → s .states ≡ target c L t u i
-      target-out e = basis .count ∙ sym (target-none c L t u i e)
-
-      module _ (band : sides-within c L t (moved-state c L t u i) ≡ true) where
-        pub target-sized : length (moved-state c L t u i) ≡ s .edges
-        unfolding moved-state
-        target-sized = triangle-long c t u (getD (states c L) i []) ∙ is-state .sized ∙ sym (basis .edges)
-
-        pub target-ranked : Ranked list (s .states) (moved-state c L t u i) free (s .free) (target c L t u i)
-        target-ranked =
-            rw (basis .begins, basis .count, basis .free-count)
-            (ranked c (basis .accepted) L (basis .rest) free (λ j k. basis .free-listed j (rw (basis .free-count) k)) (moved-state c L t u i) (target c L t u i)
-            (stays-at c (basis .accepted) L t (of .number) u i (there i h) band))
-
   -- ---- the hits of a triangle
   module _ (t : ℕ) (number : t < length (c .triangles)) where
     -- a target that is a place is a hit
@@ -110,7 +72,3 @@ module _ (c : Complex) (list : List ℤ) (s : Sizes) (free : List ℕ) (basis : 
 
     pub hit-none : (i : ℕ) → i < s .states → s .states ≤ target c L t (pos 1) i → (q : ℕ) → hits c L t i q ≡ false
     hit-none i h k = outside-hit c (basis .accepted) L t number i (there i h) (rw (← (basis .count)) k)
-
-    -- the targets rise
-    pub target-later : (i k : ℕ) → i < k → k < s .states → target c L t (pos 1) i < s .states → target c L t (pos 1) i ≤ target c L t (pos 1) k
-    target-later i k less below hit = omega (arith, target-rises c (basis .accepted) L t number (pos 1) i k less (there k below) (there _ hit))

@@ -3,3 +3,4 @@ pub mod Joined
 pub mod Demand
 pub mod Targets
 pub mod Rows
+pub mod Pairs

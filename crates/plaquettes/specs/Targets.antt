@@ -1,4 +1,4 @@
--- What the code keeps while it seeks where a triangle takes the states: one walk over them finds all targets, since they rise.
+-- A list that begins with the basis, as the code keeps it.
 use Prim.Native.Nat.{ℕ, _<_, _≤_}
 use mathlib.Core.List.{List, _++_, flatten}
 use mathlib.Core.Path.{_≡_}
@@ -26,14 +26,3 @@ pub record BasisList (c : Complex) (list : List ℤ) (s : Sizes) (free : List �
   pub free-few : s .free ≤ 63
   pub free-fit : FreeFit (s .edges) (s .free) free
   pub free-listed : (j : ℕ) → j < s .free → getD free j 0 ≡ getD (free-edges c) j 0
-
--- a list that begins with some basis, and the three edges of a triangle of its complex
-pub record Ready (list : List ℤ) (s : Sizes) (free : List ℕ) (three : Sides) : Type 0 where
-  pub complex : Complex
-  pub basis : BasisList complex list s free
-  pub triangle : ℕ
-  pub of : SidesOf complex triangle three
-
--- r is where the shift of triangle t takes state i, where that is not before a place
-abbrev pub Targeted : Complex → ℕ → ℕ → ℕ → ℕ → ℕ → Type 0
-Targeted c L t i from r = from ≤ target c L t (pos 1) i → r ≡ target c L t (pos 1) i

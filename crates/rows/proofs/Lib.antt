@@ -10,3 +10,5 @@ pub mod Merging
 pub mod Inserting
 pub mod Joining
 pub mod RowsWritten
+pub mod MadeRows
+pub mod KeptDiagonals

@@ -31,7 +31,7 @@ pub fn push_entry(
 }
 
 // The first m columns and values of a row go to two lists, from a place on.
-fn copy_row(
+pub fn copy_row(
     row_columns: &[u32],
     row_values: &[f64],
     m: usize,

@@ -28,7 +28,7 @@ fn never_falls(starts: &[u32], n: usize) -> bool
 }
 
 // Whether the starts of n rows run from 0 to the number of entries without falling.
-fn starts_right(starts: &[u32], n: usize, entries: usize) -> bool
+pub fn starts_right(starts: &[u32], n: usize, entries: usize) -> bool
     requires { ⌜ length (now starts) ≡ n + 1 ⌝ }
     ensures { λ r. ⌜ r ≡ starts-right (now (starts .entry)) n entries ⌝ }
 {
@@ -47,7 +47,7 @@ fn columns_below(columns: &[u32], limit: u32) -> bool
 }
 
 // Whether every column is below n.
-fn columns_right(columns: &[u32], n: usize) -> bool
+pub fn columns_right(columns: &[u32], n: usize) -> bool
     ensures { λ r. ⌜ r ≡ columns-right (now (columns .entry)) n ⌝ }
 {
     if n < 4294967296 {
@@ -64,7 +64,7 @@ fn value_right(x: f64) -> bool
     (-1208925819614629174706176.0 <= x) & (x <= 1208925819614629174706176.0)
 }
 
-fn values_right(values: &[f64]) -> bool
+pub fn values_right(values: &[f64]) -> bool
     ensures { λ r. ⌜ r ≡ every-entry value-right (now (values .entry)) ⌝ }
 {
     let mut so_far = true;

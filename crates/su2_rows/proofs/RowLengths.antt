@@ -1,7 +1,7 @@
 -- How many entries the rows have: one for each triangle and one on the diagonal, all but the first, which has none there.
 use Prim.Native.Nat.{ℕ, zero, suc, _+_, _-_, _*_, _/_, _%_, _^_, _≤_, _<_}
 use mathlib.Core.List.{List, [], _∷_, _++_, append-nil, map, map-append}
-use mathlib.Core.Bool.{Bool, true, false, _&&_, _||_, cond}
+use mathlib.Core.Bool.{Bool, true, false, _||_, cond}
 use mathlib.Core.Path.{_≡_, refl, sym, ap, _∙_}
 use mathlib.Core.Logic.{_≢_}
 use native.Mathlib.Decide.{ℕ-discrete, decLt}
@@ -9,7 +9,6 @@ use native.Mathlib.Nat.{add-zero, pow-suc}
 use native.Mathlib.Omega.{arith}
 use borrow.Author.Tests.{eq-eqb, ne-eqb}
 use lib.Count.{ones, onesIn, ones-step, ones-le}
-use lib.Dec.{eqb}
 use lib.Ieee.{Float, binary64, mul}
 use lib.ListN.{getD, length}
 use lib.Pow.{pow-pos}

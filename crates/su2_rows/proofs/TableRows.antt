@@ -23,7 +23,7 @@ use Rattle.complex.specs.Judge.{Accepted}
 use Rattle.matrices.specs.declared.coupling.KSParams.{KSParams}
 use Rattle.matrices.specs.Squares.{energy}
 use Rattle.rows.specs.Row.{values-at, entry, row-of}
-use Rattle.rows.specs.RowLists.{kept}
+use Rattle.rows.specs.RowLists.{kept, made-rows}
 use Rattle.rows.proofs.Columns.{values-append}
 use Rattle.even_sets.specs.declared.Forest.{Forest}
 use Rattle.even_sets.specs.EvenSets.{su2-states, mask-place}
@@ -31,16 +31,17 @@ use Rattle.masks.specs.Flips.{triangle-mask, flips}
 use Rattle.masks.specs.Place.{LoopsOf}
 use Rattle.masks.proofs.Placing.{states-number}
 use Rattle.masks.proofs.Flips.{flips-told, flip-within}
-use Rattle.su2_rows.specs.Rows.{su2-diagonal, su2-given, su2-row, table-entries, table-row, Tables}
+use Rattle.rows.proofs.MadeRows.{map-each}
+use Rattle.su2_rows.specs.Rows.{su2-diagonal, su2-given, su2-row, table-entries, table-rows, Tables}
 
 -- the entries of a row of n columns, where each flip leads below n
-pub table-below : (places : List ℕ) (terms : List Float) (t n i : ℕ) (x : Float) → i < n → ((k : ℕ) → k < t → bitXor i (getD places k 0) < n) → Each (λ e. e .0 < n) (table-entries places terms t i x)
+pub table-below : (electric : Float) (states places : List ℕ) (terms : List Float) (t n i : ℕ) → i < n → ((k : ℕ) → k < t → bitXor i (getD places k 0) < n) → Each (λ e. e .0 < n) (table-entries electric states places terms t i)
 unfolding table-entries
-table-below places terms t n i x h within = each-append (first (kept x)) (each-map {P = λ (e : ℕ × Float). e .0 < n} (λ k. (bitXor i (getD places k 0), getD terms k nan)) (each-to (λ k b. within k b) (below-each t)))
+table-below electric states places terms t n i h within = each-append (first (energy electric (ones (getD states i 0))) (kept (energy electric (ones (getD states i 0))))) (each-map {P = λ (e : ℕ × Float). e .0 < n} (λ k. (bitXor i (getD places k 0), getD terms k nan)) (each-to (λ k b. within k b) (below-each t)))
   where
-    first : (b : Bool) → Each (λ (e : ℕ × Float). e .0 < n) (cond b ((i, x) ∷ []) [])
-    first true = also h none
-    first false = none
+    first : (x : Float) (b : Bool) → Each (λ (e : ℕ × Float). e .0 < n) (cond b ((i, x) ∷ []) [])
+    first x true = also h none
+    first x false = none
 
 -- the values of a column: of the diagonal, and of the triangles that lead there
 values-first : (i j : ℕ) (x : Float) (b : Bool) → values-at j (cond b ((i, x) ∷ []) []) ≡ cond (eqb i j && b) (x ∷ []) []
@@ -56,7 +57,7 @@ values-first i j x false = go (eqb i j)
     go true = refl
     go false = refl
 
-values-second : (g : ℕ → ℕ) (f : ℕ → Float) (j : ℕ) (l : List ℕ) → values-at j (map (λ t. (g t, f t)) l) ≡ map f (keep (λ t. eqb (g t) j) l)
+pub values-second : (g : ℕ → ℕ) (f : ℕ → Float) (j : ℕ) (l : List ℕ) → values-at j (map (λ t. (g t, f t)) l) ≡ map f (keep (λ t. eqb (g t) j) l)
 unfolding values-at
 values-second g f j l = rw (keep-map (λ (e : ℕ × Float). eqb (e .0) j) (λ t. (g t, f t)) l) (again (keep (λ t. eqb (g t) j) l))
   where
@@ -64,29 +65,26 @@ values-second g f j l = rw (keep-map (λ (e : ℕ × Float). eqb (e .0) j) (λ t
     again [] = refl
     again (t ∷ m) = ap (λ r. f t ∷ r) (again m)
 
-pub map-each : {B : Type 0} (f g : ℕ → B) {l : List ℕ} → Each (λ t. f t ≡ g t) l → map f l ≡ map g l
-map-each f g none = refl
-map-each f g (also e h) = ap₂ (λ x r. x ∷ r) e (map-each f g h)
-
 module _ (c : Complex) (accepted : Accepted c) (p : KSParams) (w : ℕ → Float) (places : List ℕ) (terms : List Float) (tables : Tables c p w (length (c .triangles)) places terms) where
   abbrev T : ℕ
   T = length (c .triangles)
 
-  table-values : (i j : ℕ) → i < length (su2-states c) → values-at j (table-entries places terms T i (su2-diagonal c p i)) ≡ su2-given c p w i j
-  unfolding table-entries su2-given
-  table-values i j h =
-      values-append j (cond (kept (su2-diagonal c p i)) ((i, su2-diagonal c p i) ∷ []) []) (map (λ t. (bitXor i (getD places t 0), getD terms t nan)) (below T))
+  table-values : (states : List ℕ) (i j : ℕ) → i < length (su2-states c) → getD states i 0 ≡ getD (su2-states c) i 0 → values-at j (table-entries (p .electric) states places terms T i) ≡ su2-given c p w i j
+  unfolding table-entries su2-given su2-diagonal
+  table-values states i j h state =
+      rw state
+      (values-append j (cond (kept (su2-diagonal c p i)) ((i, su2-diagonal c p i) ∷ []) []) (map (λ t. (bitXor i (getD places t 0), getD terms t nan)) (below T))
       ∙ ap₂ (λ a b. a ++ b) (values-first i j (su2-diagonal c p i) (kept (su2-diagonal c p i)))
       (values-second (λ t. bitXor i (getD places t 0)) (λ t. getD terms t nan) j (below T)
       ∙ ap (map (λ t. getD terms t nan)) (keep-agree (λ t. eqb (bitXor i (getD places t 0)) j) (λ t. flips c t i j) T (λ t b. ap (λ k. eqb (bitXor i k) j) (tables .places-are t b) ∙ sym (flips-told c accepted t b i h j)))
-      ∙ map-each (λ t. getD terms t nan) (λ t. mul binary64 (p .magnetic) (w t)) (keep-each (λ t. flips c t i j) (each-to (λ t b. tables .terms-are t b) (below-each T))))
+      ∙ map-each (λ t. getD terms t nan) (λ t. mul binary64 (p .magnetic) (w t)) (keep-each (λ t. flips c t i j) (each-to (λ t b. tables .terms-are t b) (below-each T)))))
 
-  pub table-row-is : (states rest : List ℕ) → states ≡ su2-states c ++ rest → (n i : ℕ) → n ≡ length (su2-states c) → i < n → table-row (p .electric) states places terms T n i ≡ su2-row c p w i
-  unfolding table-row su2-row su2-diagonal row-of
+  pub table-row-is : (states rest : List ℕ) → states ≡ su2-states c ++ rest → (n i : ℕ) → n ≡ length (su2-states c) → i < n → table-rows (p .electric) states places terms T n i ≡ su2-row c p w i
+  unfolding made-rows su2-row row-of
   table-row-is states rest begins n i number h =
       let inside : i < length (su2-states c) = rw (← number) h in
       let state : getD states i 0 ≡ getD (su2-states c) i 0 = rw begins (List·getD-append (su2-states c) rest 0 i inside) in
-      rw (state, number) (flatMap-same (λ j. entry j (values-at j (table-entries places terms T i (su2-diagonal c p i)))) (λ j. entry j (su2-given c p w i j)) (below (length (su2-states c))) (λ j. ap (entry j) (table-values i j inside)))
+      rw number (flatMap-same (λ j. entry j (values-at j (table-entries (p .electric) states places terms T i))) (λ j. entry j (su2-given c p w i j)) (below (length (su2-states c))) (λ j. ap (entry j) (table-values states i j inside state)))
 
 -- the place of a triangle's edges is below the number of states
 pub place-few : (c : Complex) (f : Forest) → LoopsOf c f → f .count ≤ 20 → (t : ℕ) → t < length (c .triangles) → mask-place c (triangle-mask c t) < 2 ^ 20

@@ -9,7 +9,6 @@ use lib.Dec.{eqb, ltb}
 use lib.Ieee.{Float, binary64, nan, mul}
 use lib.ListN.{getD, length}
 use Rattle.mathematics.specs.Counting.{below, keep}
-use Rattle.mathematics.specs.Entries.{Each}
 use Rattle.mathematics.specs.Writing.{front}
 use Rattle.mathematics.specs.Calls.{Call}
 use Rattle.complex.specs.Complex.{Complex}
@@ -18,7 +17,7 @@ use Rattle.matrices.specs.Coupling.{su2-right}
 use Rattle.matrices.specs.Weights.{weight, weights-tests}
 use Rattle.matrices.specs.Squares.{energy}
 use Rattle.rows.specs.Row.{values-at, row-of, RowOf}
-use Rattle.rows.specs.RowLists.{kept, rows-to, row-starts, row-columns, row-values, RowAppended}
+use Rattle.rows.specs.RowLists.{kept, rows-to, row-starts, row-columns, row-values, RowAppended, made-rows, AllRowsFit}
 use Rattle.gauss_law.specs.Listing.{limit}
 use Rattle.even_sets.specs.declared.Forest.{Forest}
 use Rattle.even_sets.specs.EvenSets.{su2-states, mask-place}
@@ -76,26 +75,31 @@ su2-rows-call c p given weights work starts columns values =
     }
 
 -- ---- as the code keeps it
--- the entries of row i before they are sorted, by the tables of n triangles: the diagonal x where it is kept, then the flip and the term of each
-unfoldable pub table-entries : List ℕ → List Float → ℕ → ℕ → Float → List (ℕ × Float)
-table-entries places terms n i x = cond (kept x) ((i, x) ∷ []) [] ++ map (λ t. (bitXor i (getD places t 0), getD terms t nan)) (below n)
+-- entries that have in each column the values of others, in their order
+pub record SameColumns (others entries : List (ℕ × Float)) : Type 0 where
+  pub same : (j : ℕ) → values-at j entries ≡ values-at j others
 
--- row i of n columns, by the list of states and these tables
-unfoldable pub table-row : Float → List ℕ → List ℕ → List Float → ℕ → ℕ → ℕ → List (ℕ × Float)
-table-row electric states places terms t n i = row-of (λ j. values-at j (table-entries places terms t i (energy electric (ones (getD states i 0))))) n
+-- the diagonal x of row i where it is kept, then other entries
+abbrev pub diagonal-first : ℕ → Float → List (ℕ × Float) → List (ℕ × Float)
+diagonal-first i x others = cond (kept x) ((i, x) ∷ []) [] ++ others
+
+-- the entries of the triangles in row i, by the tables of n triangles: the flip and the term of each
+abbrev pub flip-entries : List ℕ → List Float → ℕ → ℕ → List (ℕ × Float)
+flip-entries places terms n i = map (λ t. (bitXor i (getD places t 0), getD terms t nan)) (below n)
+
+-- the entries of row i before they are sorted, by the list of states and the tables of n triangles: the diagonal where it is kept, then those of
+-- the triangles
+unfoldable pub table-entries : Float → List ℕ → List ℕ → List Float → ℕ → ℕ → List (ℕ × Float)
+table-entries electric states places terms n i = diagonal-first i (energy electric (ones (getD states i 0))) (flip-entries places terms n i)
+
+-- the rows that they make
+abbrev pub table-rows : Float → List ℕ → List ℕ → List Float → ℕ → ℕ → ℕ → List (ℕ × Float)
+table-rows electric states places terms t = made-rows (table-entries electric states places terms t)
 
 -- of each of the first n triangles the place of its edges, and its magnetic factor × weight
 pub record Tables (c : Complex) (p : KSParams) (w : ℕ → Float) (n : ℕ) (places : List ℕ) (terms : List Float) : Type 0 where
   pub places-are : (t : ℕ) → t < n → getD places t 0 ≡ mask-place c (triangle-mask c t)
   pub terms-are : (t : ℕ) → t < n → getD terms t nan ≡ mul binary64 (p .magnetic) (w t)
-
--- the row that some entries make has room behind a place in the columns and in the values, and ends below 2^32
-pub record RowFits (entries : List (ℕ × Float)) (at columns-room values-room : ℕ) : Type 0 where
-  pub columns : ℕ
-  pub below : Each (λ e. e .0 < columns) entries
-  pub columns-fit : at + length (row-of (λ j. values-at j entries) columns) ≤ columns-room
-  pub values-fit : at + length (row-of (λ j. values-at j entries) columns) ≤ values-room
-  pub small : at + length (row-of (λ j. values-at j entries) columns) < 2 ^ 32
 
 -- the row that some entries make is written as row i
 pub record RowAdded (entries : List (ℕ × Float)) (i at : ℕ) (starts columns : List ℕ) (values : List Float) (r : ℕ) (starts′ columns′ : List ℕ) (values′ : List Float) : Type 0 where
@@ -103,18 +107,16 @@ pub record RowAdded (entries : List (ℕ × Float)) (i at : ℕ) (starts columns
   pub is : RowOf entries row
   pub appended : RowAppended row i at starts columns values r starts′ columns′ values′
 
--- n states with tables of t triangles whose flips lead below n, and room for all rows and their starts
+-- n states with tables of t triangles, and room for all rows, whose entries are below n, and their starts
 pub record RowsFit (n : ℕ) (electric : Float) (states places : List ℕ) (terms : List Float) (t starts-room columns-room values-room : ℕ) : Type 0 where
   pub few : n ≤ 2 ^ 20
   pub few-triangles : t ≤ 256
   pub states-long : n ≤ length states
   pub places-long : t ≤ length places
   pub terms-long : t ≤ length terms
-  pub within : (i k : ℕ) → i < n → k < t → bitXor i (getD places k 0) < n
+  pub same-long : length places ≡ length terms
   pub starts-fit : n < starts-room
-  pub columns-fit : length (rows-to (table-row electric states places terms t n) n) ≤ columns-room
-  pub values-fit : length (rows-to (table-row electric states places terms t n) n) ≤ values-room
-  pub small : length (rows-to (table-row electric states places terms t n) n) < 2 ^ 32
+  pub fit : AllRowsFit (table-entries electric states places terms t) n columns-room values-room
 
 -- the loops of an accepted complex that has n states, a coupling in its range, and room for all rows and their starts
 pub record RowsOf (c : Complex) (f : Forest) (p : KSParams) (n starts-room columns-room values-room : ℕ) : Type 0 where

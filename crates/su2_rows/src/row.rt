@@ -1,13 +1,17 @@
-// A row of the two-valued Hamiltonian, made of the places and the terms of all triangles.
+// A row of the two-valued Hamiltonian, made of the columns and the terms of all triangles.
 use rows::lists::append_row;
 use rows::lists::is_kept;
 use rows::lists::push_entry;
 use rows::row::make_row;
+use rows::row::sort_row;
 ghost use mathlib.Core.Path.{_≡_};
 ghost use Prim.Native.Nat.{ℕ, _+_, _^_, _<_, _≤_};
-ghost use lib.ListN.{length, take};
+ghost use lib.Bits.{bitXor};
+ghost use lib.ListN.{getD, length, take};
 ghost use Rattle.rows.specs.Entries.{pairs};
-ghost use Rattle.su2_rows.specs.Rows.{table-entries, RowFits, RowAdded};
+ghost use Rattle.rows.specs.Row.{values-at};
+ghost use Rattle.rows.specs.RowLists.{RowFits};
+ghost use Rattle.su2_rows.specs.Rows.{diagonal-first, RowAdded};
 
 // The entries of row i: the diagonal where it is kept, then that of each triangle. How many there are is told.
 fn collect_row(
@@ -15,25 +19,18 @@ fn collect_row(
     row_values: &mut [f64],
     i: usize,
     diagonal: f64,
-    places: &[u32],
+    flips: &[u32],
     terms: &[f64],
     n: usize,
 ) -> usize
-    requires { ⌜ (i < 2 ^ 20) × (n < length (now «row_columns»)) × (length (now «row_columns») ≡ length (now «row_values»)) × (n ≤ length (now places)) × (n ≤ length (now terms)) ⌝ }
-    ensures { λ r. ⌜ (take r (pairs (now («row_columns» .exit)) (now («row_values» .exit))) ≡ table-entries (now (places .entry)) (now (terms .entry)) n i diagonal) × (r ≤ n + 1) ⌝ }
+    requires { ⌜ (i < 2 ^ 20) × (n < length (now «row_columns»)) × (length (now «row_columns») ≡ length (now «row_values»)) × (n ≤ length (now flips)) × (length (now flips) ≡ length (now terms)) ⌝ }
+    ensures { λ r. ⌜ (take r (pairs (now («row_columns» .exit)) (now («row_values» .exit))) ≡ diagonal-first i diagonal (take n (pairs (now (flips .entry)) (now (terms .entry))))) × (r ≤ n + 1) ⌝ }
 {
     let column = i as u32;
     let kept = is_kept(diagonal);
     let mut m = push_entry(row_columns, row_values, 0, column, diagonal, kept);
     for t in 0..n {
-        m = push_entry(
-            row_columns,
-            row_values,
-            m,
-            column ^ places[t],
-            terms[t],
-            true,
-        );
+        m = push_entry(row_columns, row_values, m, flips[t], terms[t], true);
     }
     m
 }
@@ -44,7 +41,7 @@ pub fn add_row(
     row_values: &mut [f64],
     i: usize,
     diagonal: f64,
-    places: &[u32],
+    flips: &[u32],
     terms: &[f64],
     n: usize,
     at: usize,
@@ -52,10 +49,29 @@ pub fn add_row(
     columns: &mut [u32],
     values: &mut [f64],
 ) -> usize
-    requires { ⌜ (i < 2 ^ 20) × (n < length (now «row_columns»)) × (length (now «row_columns») ≡ length (now «row_values»)) × (n ≤ length (now places)) × (n ≤ length (now terms)) × (i + 1 < length (now starts)) × RowFits (table-entries (now places) (now terms) n i diagonal) at (length (now columns)) (length (now values)) ⌝ }
-    ensures { λ r. ⌜ RowAdded (table-entries (now (places .entry)) (now (terms .entry)) n i diagonal) i at (now (starts .entry)) (now (columns .entry)) (now (values .entry)) r (now (starts .exit)) (now (columns .exit)) (now (values .exit)) ⌝ }
+    requires { ⌜ (i < 2 ^ 20) × (n < length (now «row_columns»)) × (length (now «row_columns») ≡ length (now «row_values»)) × (n ≤ length (now flips)) × (length (now flips) ≡ length (now terms)) × (i + 1 < length (now starts)) × RowFits (diagonal-first i diagonal (take n (pairs (now flips) (now terms)))) at (length (now columns)) (length (now values)) ⌝ }
+    ensures { λ r. ⌜ RowAdded (diagonal-first i diagonal (take n (pairs (now (flips .entry)) (now (terms .entry))))) i at (now (starts .entry)) (now (columns .entry)) (now (values .entry)) r (now (starts .exit)) (now (columns .exit)) (now (values .exit)) ⌝ }
 {
-    let found = collect_row(row_columns, row_values, i, diagonal, places, terms, n);
+    let found = collect_row(row_columns, row_values, i, diagonal, flips, terms, n);
     let m = make_row(row_columns, row_values, found);
     append_row(row_columns, row_values, m, i, at, starts, columns, values)
+}
+
+// The first n columns of a list, each flipped by the same bits.
+fn flip_columns(flips: &mut [u32], n: usize, by: u32)
+    requires { ⌜ n ≤ length (now flips) ⌝ }
+    ensures { λ _. ⌜ ((t : ℕ) → t < n → getD (now (flips .exit)) t 0 ≡ bitXor (getD (now (flips .entry)) t 0) by) ⌝ }
+{
+    for t in 0..n {
+        flips[t] = flips[t] ^ by;
+    }
+}
+
+// The columns of n triangles in one row become those in another, and are sorted with their terms. From a row to the next few change their order.
+pub fn flip_row(flips: &mut [u32], terms: &mut [f64], n: usize, by: u32)
+    requires { ⌜ (n ≤ length (now flips)) × (length (now flips) ≡ length (now terms)) ⌝ }
+    ensures { λ _. ⌜ ((j : ℕ) → values-at j (take n (pairs (now (flips .exit)) (now (terms .exit)))) ≡ values-at (bitXor j by) (take n (pairs (now (flips .entry)) (now (terms .entry))))) ⌝ }
+{
+    flip_columns(flips, n, by);
+    sort_row(flips, terms, n);
 }

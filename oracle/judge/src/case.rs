@@ -15,6 +15,8 @@ pub enum Kind {
     ReadBack,
     WrittenAgain,
     Trees,
+    Loops,
+    Su2Loops,
     Lawful,
     NotLawful,
     LawfulBeyond,
@@ -29,6 +31,18 @@ pub enum Kind {
     Su2Params,
     Dense,
     Su2Dense,
+    StatesCounted,
+    MasksCounted,
+    EntriesCounted,
+    Su2EntriesCounted,
+    Rows,
+    Su2Rows,
+    Su2Products,
+    Su2Expectations,
+    Products,
+    Applied,
+    Squares,
+    Expectations,
 }
 
 impl Kind {
@@ -41,6 +55,8 @@ impl Kind {
             Kind::ReadBack => "made sheets read back",
             Kind::WrittenAgain => "read sheets written again",
             Kind::Trees => "spanning trees",
+            Kind::Loops => "lists of loops",
+            Kind::Su2Loops => "two-valued lists of loops",
             Kind::Lawful => "lawful configurations",
             Kind::NotLawful => "other configurations",
             Kind::LawfulBeyond => "lawful ones beyond the Rust",
@@ -55,6 +71,18 @@ impl Kind {
             Kind::Su2Params => "two-valued couplings",
             Kind::Dense => "dense matrices",
             Kind::Su2Dense => "two-valued dense matrices",
+            Kind::StatesCounted => "states counted",
+            Kind::MasksCounted => "masks counted",
+            Kind::EntriesCounted => "entries counted",
+            Kind::Su2EntriesCounted => "two-valued entries counted",
+            Kind::Rows => "row lists",
+            Kind::Su2Rows => "two-valued row lists",
+            Kind::Su2Products => "two-valued products",
+            Kind::Su2Expectations => "two-valued expectations",
+            Kind::Products => "products",
+            Kind::Applied => "products without a matrix",
+            Kind::Squares => "squares of the field",
+            Kind::Expectations => "expectations along paths",
         }
     }
 
@@ -66,7 +94,7 @@ impl Kind {
             Kind::SheetMade => &[4, 5, 6, 7, 8, 9, 15],
             Kind::SheetRead => &[1, 2, 3, 4, 5, 6, 7, 8, 9],
             Kind::ReadBack | Kind::WrittenAgain | Kind::Lawful | Kind::LawfulBeyond | Kind::NotLawfulBeyond => &[],
-            Kind::Trees => &[1, 2, 3, 4, 5, 6, 7, 8, 9, 15],
+            Kind::Trees | Kind::Loops | Kind::Su2Loops => &[1, 2, 3, 4, 5, 6, 7, 8, 9, 15],
             Kind::NotLawful => &[1, 2, 3, 4, 5, 6, 7, 8, 9, 12],
             Kind::Listings | Kind::Masks => &[1, 2, 3, 4, 5, 6, 7, 8, 9, 10, 15],
             Kind::Places => &[1, 2, 3, 4, 5, 6, 7, 8, 9, 10, 12, 15, 17],
@@ -74,7 +102,14 @@ impl Kind {
             Kind::EdgeShiftsBeyond => &[16],
             Kind::TriangleShifts => &[1, 2, 3, 4, 5, 6, 7, 8, 9, 10, 13, 15, 16],
             Kind::U1Params | Kind::Su2Params => &[14],
-            Kind::Dense | Kind::Su2Dense => &[1, 2, 3, 4, 5, 6, 7, 8, 9, 10, 12, 14, 15],
+            Kind::Dense | Kind::Su2Dense | Kind::Rows | Kind::Su2Rows | Kind::Su2Products | Kind::Applied | Kind::Squares => {
+                &[1, 2, 3, 4, 5, 6, 7, 8, 9, 10, 12, 14, 15]
+            }
+            Kind::Expectations | Kind::Su2Expectations => &[1, 2, 3, 4, 5, 6, 7, 8, 9, 10, 12, 13, 14, 15],
+            Kind::StatesCounted | Kind::MasksCounted | Kind::EntriesCounted | Kind::Su2EntriesCounted => {
+                &[1, 2, 3, 4, 5, 6, 7, 8, 9, 10]
+            }
+            Kind::Products => &[12, 13, 14, 15],
         }
     }
 
@@ -83,7 +118,7 @@ impl Kind {
         self != Kind::EdgeShiftsBeyond
     }
 
-    const ALL: [Kind; 21] = [
+    const ALL: [Kind; 35] = [
         Kind::FromPentachora,
         Kind::TriangleEdges,
         Kind::SheetMade,
@@ -91,6 +126,8 @@ impl Kind {
         Kind::ReadBack,
         Kind::WrittenAgain,
         Kind::Trees,
+        Kind::Loops,
+        Kind::Su2Loops,
         Kind::Lawful,
         Kind::NotLawful,
         Kind::LawfulBeyond,
@@ -105,6 +142,18 @@ impl Kind {
         Kind::Su2Params,
         Kind::Dense,
         Kind::Su2Dense,
+        Kind::StatesCounted,
+        Kind::MasksCounted,
+        Kind::EntriesCounted,
+        Kind::Su2EntriesCounted,
+        Kind::Rows,
+        Kind::Su2Rows,
+        Kind::Su2Products,
+        Kind::Su2Expectations,
+        Kind::Products,
+        Kind::Applied,
+        Kind::Squares,
+        Kind::Expectations,
     ];
 }
 

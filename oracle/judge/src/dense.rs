@@ -36,7 +36,7 @@ pub trait Matrix: Listed {
 
     fn by_definition(&self, coupling: Coupling, weights: &Weights) -> Vec<f64>;
 
-    fn call(sheet: &[u8], ask: &Ask, states: &mut [Self::Entry], result: &mut [f64]) -> i64;
+    fn call(sheet: &[u8], ask: &Ask<2>, states: &mut [Self::Entry], result: &mut [f64]) -> i64;
 }
 
 impl Matrix for Basis {
@@ -60,7 +60,7 @@ impl Matrix for Basis {
         entries::u1(&self.sheet, self.space.states(), coupling, weights)
     }
 
-    fn call(sheet: &[u8], ask: &Ask, states: &mut [i32], result: &mut [f64]) -> i64 {
+    fn call(sheet: &[u8], ask: &Ask<2>, states: &mut [i32], result: &mut [f64]) -> i64 {
         port::build_hamiltonian(sheet, ask.coupling, ask.weights.given, &ask.weights.list, states, result)
     }
 }
@@ -86,24 +86,24 @@ impl Matrix for EvenSets {
         entries::su2(&self.sheet.complex, self.space.states(), coupling, weights)
     }
 
-    fn call(sheet: &[u8], ask: &Ask, states: &mut [u64], result: &mut [f64]) -> i64 {
+    fn call(sheet: &[u8], ask: &Ask<2>, states: &mut [u64], result: &mut [f64]) -> i64 {
         port::build_su2_hamiltonian(sheet, ask.coupling, ask.weights.given, &ask.weights.list, states, result)
     }
 }
 
 /// What is handed over besides the sheet.
 #[derive(Clone)]
-pub struct Ask {
+pub struct Ask<const LISTS: usize> {
     pub coupling: Coupling,
     pub weights: Weights,
-    /// the work list and the result list are this much longer than needed, or shorter
-    pub spares: [i64; 2],
+    /// the work list and each result list are this much longer than needed, or shorter
+    pub spares: [i64; LISTS],
 }
 
 /// One of the two calls on any bytes.
 pub struct Dense<B> {
     pub given: Given<B>,
-    pub ask: Ask,
+    pub ask: Ask<2>,
 }
 
 impl<B> Clone for Dense<B> {

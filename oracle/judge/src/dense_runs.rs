@@ -50,7 +50,7 @@ pub fn written_down(tally: &mut Tally) {
 }
 
 /// The scope paper's.
-fn triangle() -> Sheet {
+pub fn triangle() -> Sheet {
     sheet(3, &pairs(3), &[[0, 1, 2]], 1)
 }
 
@@ -99,7 +99,7 @@ fn combinations<B: Matrix>(sheet: &Sheet, tally: &mut Tally) {
 }
 
 /// Right ones, and one for each thing that can be wrong.
-fn some_couplings(mode: Mode) -> Vec<Coupling> {
+pub fn some_couplings(mode: Mode) -> Vec<Coupling> {
     let [g_squared, electric, magnetic] = mode.params(1.0);
     let mut some =
         [1.0, ENDS[0], ENDS[1], ENDS[0].next_down(), ENDS[1].next_up(), -1.0].map(|g_squared| mode.params(g_squared)).to_vec();
@@ -110,7 +110,7 @@ fn some_couplings(mode: Mode) -> Vec<Coupling> {
 }
 
 /// Absent, with nothing and with rubbish beside them; too few, too many; right ones, and each with a fault at one end.
-fn some_weights(n_triangles: usize) -> Vec<Weights> {
+pub fn some_weights(n_triangles: usize) -> Vec<Weights> {
     let rubbish = vec![f64::NAN; n_triangles + 1];
     let mut some = vec![Weights::absent(), Weights { given: false, list: rubbish.clone() }, Weights::of(rubbish)];
     for len in [n_triangles, n_triangles + 1, n_triangles.saturating_sub(1), 0, 2 * n_triangles] {
@@ -235,7 +235,7 @@ pub fn random_round(random: &mut Random, most: u64, tally: &mut Tally) {
 }
 
 /// With so many free edges, mostly on few vertices, so that many loops are triangles.
-fn any_complex(random: &mut Random, free: u64) -> Complex {
+pub fn any_complex(random: &mut Random, free: u64) -> Complex {
     if random.one_in(4) {
         return mask_runs::any_complex(random, free);
     }

@@ -1,10 +1,11 @@
-//! The runs of `spanning_tree`, `check_gauss_law` and `enumerate_gauge_invariant`.
+//! The runs of `spanning_tree`, the loops, `check_gauss_law` and `enumerate_gauge_invariant`.
 
 use crate::case::{Tally, run};
 use crate::complexes::{SQUARE, TWO_APART, pairs, path};
 use crate::law::{GaussLaw, SpanningTree};
 use crate::lent::{self, NO_ROOM, Room};
 use crate::listing::Listing;
+use crate::loops::Loops;
 use crate::random::Random;
 use crate::reference::{self, MOST_CANDIDATES, MOST_EDGES, MOST_LAMBDA, Sheet};
 use crate::runs::QUICK_SEED;
@@ -20,11 +21,19 @@ fn list(listing: &Listing, most: u64, tally: &mut Tally) {
     }
 }
 
+/// The tree, and the loops with directions that have room and that have not.
+fn tree_and_loops(bytes: &[u8], room: Room, tally: &mut Tally) {
+    run(&SpanningTree { sheet: bytes.to_vec(), room }, tally);
+    for spare in [0, -1, 9] {
+        run(&Loops { sheet: bytes.to_vec(), room, spare }, tally);
+    }
+}
+
 /// The three calls on one complex and L, with every length of lent lists that matters.
 fn whole(sheet: &Sheet, tally: &mut Tally) {
     let bytes = reference::encode(sheet);
     for room in Room::ALL {
-        run(&SpanningTree { sheet: bytes.clone(), room }, tally);
+        tree_and_loops(&bytes, room, tally);
     }
     let n_edges = sheet.complex.edges.len();
     for len in [n_edges, n_edges + 1, n_edges.saturating_sub(1), 0, 2 * n_edges] {
@@ -41,7 +50,7 @@ fn whole(sheet: &Sheet, tally: &mut Tally) {
 pub fn any_bytes(bytes: &[u8], tally: &mut Tally) {
     let n_edges = bytes.get(6).map_or(0, |&count| usize::from(count));
     for (room, len, spare) in [(Room::Ample, n_edges, 30), (Room::Nothing, 0, NO_ROOM)] {
-        run(&SpanningTree { sheet: bytes.to_vec(), room }, tally);
+        tree_and_loops(bytes, room, tally);
         run(&GaussLaw { sheet: bytes.to_vec(), configuration: vec![1; len] }, tally);
         list(&Listing { sheet: bytes.to_vec(), spare }, 2_500, tally);
     }
@@ -105,7 +114,7 @@ fn small_graph(sheet: &Sheet, random: &mut Random, tally: &mut Tally) {
     list(&Listing { sheet: bytes.clone(), spare }, MOST_CANDIDATES, tally);
     list(&Listing { sheet: bytes.clone(), spare: -1 }, 500, tally);
     for room in if sheet.lambda == 1 { &Room::ALL[..] } else { &Room::ALL[..1] } {
-        run(&SpanningTree { sheet: bytes.clone(), room: *room }, tally);
+        tree_and_loops(&bytes, *room, tally);
     }
     if reference::read_sheet(&bytes).is_err() {
         run(&GaussLaw { sheet: bytes, configuration: vec![0; sheet.complex.edges.len()] }, tally);
@@ -137,7 +146,7 @@ pub fn limits(tally: &mut Tally) {
             some.dedup();
             for lambda in some {
                 let sheet = Sheet { complex: complex.clone(), lambda };
-                run(&SpanningTree { sheet: reference::encode(&sheet), room: random.pick(&Room::ALL) }, tally);
+                tree_and_loops(&reference::encode(&sheet), random.pick(&Room::ALL), tally);
                 list(&Listing::of(&sheet, random.pick(&[0, 1, 100])), MOST_CANDIDATES, tally);
                 list(&Listing::of(&sheet, -1), 50_000, tally);
             }
@@ -162,7 +171,7 @@ pub fn random_round(random: &mut Random, most: u64, tally: &mut Tally) {
     let complex = complexes::any(random);
     let mut sheet = Sheet { complex, lambda: random.below(MOST_LAMBDA + 1) };
     let bytes = reference::encode(&sheet);
-    run(&SpanningTree { sheet: bytes.clone(), room: random.pick(&Room::ALL) }, tally);
+    tree_and_loops(&bytes, random.pick(&Room::ALL), tally);
     for _ in 0..6 {
         run(&GaussLaw { sheet: bytes.clone(), configuration: configurations::any_length(random, &sheet.complex) }, tally);
     }

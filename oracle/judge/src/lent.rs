@@ -24,6 +24,12 @@ impl Pattern for u8 {
     }
 }
 
+impl Pattern for i8 {
+    fn before(at: usize) -> i8 {
+        20 + (at.wrapping_mul(37).wrapping_add(11) % 100) as i8
+    }
+}
+
 impl Pattern for u32 {
     fn before(at: usize) -> u32 {
         0xA5C3_0000_u32.wrapping_add(at as u32)

@@ -1,5 +1,7 @@
 //! Holds the port against the Rust, and against the scope paper where the Rust has no say.
 
+mod amplitude_runs;
+mod amplitudes;
 mod basis;
 mod case;
 mod complexes;
@@ -9,20 +11,26 @@ mod couplings;
 mod dense;
 mod dense_runs;
 mod entries;
+mod even_product_runs;
+mod even_products;
 mod floats;
 mod inputs;
 mod law;
 mod law_runs;
 mod lent;
 mod listing;
+mod loops;
 mod mask_runs;
 mod masks;
 mod pentachora;
 mod place_runs;
 mod places;
+mod product;
 mod random;
 mod record;
 mod reference;
+mod row_lists;
+mod row_runs;
 mod runs;
 mod rust;
 mod sheets;

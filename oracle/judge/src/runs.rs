@@ -1,8 +1,10 @@
 //! The quick run, with its exhaustive parts, and the long one.
 
+use crate::amplitude_runs;
 use crate::case::{Tally, run};
 use crate::coupling_runs;
 use crate::dense_runs;
+use crate::even_product_runs;
 use crate::inputs;
 use crate::law_runs;
 use crate::lent::Room;
@@ -11,6 +13,7 @@ use crate::pentachora::FromPentachora;
 use crate::place_runs;
 use crate::random::Random;
 use crate::reference::{self, HEADER, Sheet};
+use crate::row_runs;
 use crate::rust;
 use crate::sheets::{MakeSheet, ReadSheet, TriangleEdges, sheet, whole};
 use std::time::{Duration, Instant};
@@ -23,7 +26,7 @@ type Part = (&'static str, fn(&mut Tally));
 pub fn quick() -> Tally {
     let mut tally = Tally::default();
     println!("quick run, seed {QUICK_SEED}");
-    let parts: [Part; 23] = [
+    let parts: [Part; 36] = [
         ("cases that were written down", written_down),
         ("every short list of pentachora", short_pentachora),
         ("every sheet of a few small numbers", small_sheets),
@@ -52,6 +55,19 @@ pub fn quick() -> Tally {
         ("large dense matrices", dense_runs::large),
         ("dense matrices of every graph on up to five vertices", dense_runs::small_graphs),
         ("random dense matrices", dense_runs::random_rounds),
+        ("row lists that were written down", row_runs::written_down),
+        ("every short product", row_runs::short_products),
+        ("long row lists", row_runs::large),
+        ("row lists of every graph on up to five vertices", row_runs::small_graphs),
+        ("random row lists and products", row_runs::random_rounds),
+        ("two-valued products and loops that were written down", even_product_runs::written_down),
+        ("long two-valued products", even_product_runs::large),
+        ("two-valued products of every graph on up to five vertices", even_product_runs::small_graphs),
+        ("random two-valued products and loops", even_product_runs::random_rounds),
+        ("products and expectations that were written down", amplitude_runs::written_down),
+        ("products and expectations over long lists", amplitude_runs::large),
+        ("products and expectations of every graph on up to five vertices", amplitude_runs::small_graphs),
+        ("random products and expectations", amplitude_runs::random_rounds),
     ];
     for (name, part) in parts {
         let start = Instant::now();
@@ -74,6 +90,9 @@ pub fn long(seed: u64, minutes: f64) -> Tally {
             mask_runs::random_round(&mut random, if round == 0 { mask_runs::MOST_FREE } else { 11 }, &mut tally);
             coupling_runs::random_round(&mut random, &mut tally);
             dense_runs::random_round(&mut random, if round == 0 { 2_000 } else { 250 }, &mut tally);
+            row_runs::random_round(&mut random, if round == 0 { 4_000 } else { 250 }, &mut tally);
+            even_product_runs::random_round(&mut random, if round == 0 { 4_000 } else { 250 }, &mut tally);
+            amplitude_runs::random_round(&mut random, if round == 0 { 4_000 } else { 250 }, &mut tally);
         }
     }
     tally
@@ -322,6 +341,9 @@ fn one_byte_changed(tally: &mut Tally) {
                 place_runs::any_bytes(&changed, tally);
                 mask_runs::any_bytes(&changed, tally);
                 dense_runs::any_bytes(&changed, tally);
+                row_runs::any_bytes(&changed, tally);
+                even_product_runs::any_bytes(&changed, tally);
+                amplitude_runs::any_bytes(&changed, tally);
                 run(&ReadSheet { bytes: changed }, tally);
             }
         }
@@ -338,6 +360,9 @@ fn lengths(tally: &mut Tally) {
             place_runs::any_bytes(&other, tally);
             mask_runs::any_bytes(&other, tally);
             dense_runs::any_bytes(&other, tally);
+            row_runs::any_bytes(&other, tally);
+            even_product_runs::any_bytes(&other, tally);
+            amplitude_runs::any_bytes(&other, tally);
             run(&TriangleEdges { sheet: other }, tally);
         }
         // each byte taken out, and each put in twice

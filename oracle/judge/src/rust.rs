@@ -1,10 +1,13 @@
 //! The Rust that judges: its complex, its Gauss law and its basis, asked in the judge's terms.
 
 use crate::reference::Complex;
+use phyz_quantum::csr::{CsrMatrix, build_csr, build_csr_su2};
 use phyz_quantum::gauss_law;
 use phyz_quantum::hamiltonian::{KSParams, build_hamiltonian, open_triangle_shift};
 use phyz_quantum::hilbert::U1HilbertSpace;
-use phyz_quantum::su2_quantum::{Su2HilbertSpace, build_su2_hamiltonian};
+use phyz_quantum::lanczos;
+use phyz_quantum::observables;
+use phyz_quantum::su2_quantum::{self, Su2HilbertSpace, build_su2_hamiltonian};
 use phyz_regge::SimplicialComplex;
 use std::ops::Index;
 
@@ -46,6 +49,15 @@ pub fn spanning_tree(complex: &Complex) -> (Vec<u32>, Vec<u32>) {
     (numbers(tree), numbers(free))
 }
 
+/// The loops by rising free edge: of each step the edge and the direction.
+pub fn fundamental_loops(complex: &Complex) -> Vec<Vec<(usize, i32)>> {
+    observables::fundamental_loops(&filled(complex))
+}
+
+pub fn su2_fundamental_loops(complex: &Complex) -> Vec<Vec<usize>> {
+    su2_quantum::su2_fundamental_loops(&filled(complex))
+}
+
 /// Nothing where a value is too large for it.
 pub fn check_gauss_law(complex: &Complex, configuration: &[i32]) -> Option<bool> {
     let small = configuration.iter().all(|value| value.unsigned_abs() <= MOST_VALUE);
@@ -85,9 +97,27 @@ impl Space {
     pub fn apply_triangle_shift(&self, triangle: usize, state: usize) -> Option<usize> {
         open_triangle_shift(&self.space, self.space.index_to_config(state), &self.record.tri_edge_indices(triangle))
     }
+
     pub fn build_hamiltonian(&self, g_squared: f64, weights: Option<&[f64]>) -> Vec<f64> {
         let params = KSParams { g_squared, metric_weights: weights.map(<[f64]>::to_vec) };
         rows(&build_hamiltonian(&self.space, &self.record, &params), self.space.dim())
+    }
+
+    pub fn build_csr(&self, g_squared: f64, weights: Option<&[f64]>) -> RowLists {
+        build_csr(&self.space, &self.record, g_squared, weights).into()
+    }
+
+    pub fn hamiltonian_matvec(&self, vector: &[f64], g_squared: f64, weights: Option<&[f64]>) -> Vec<f64> {
+        let product = lanczos::hamiltonian_matvec(&vector.into(), &self.space, &self.record, g_squared, weights);
+        product.iter().copied().collect()
+    }
+
+    pub fn electric_field_sq(&self, amplitudes: &[f64]) -> Vec<f64> {
+        observables::electric_field_sq(&self.space, &amplitudes.into())
+    }
+
+    pub fn wilson_loop(&self, amplitudes: &[f64], path: &[(usize, i32)]) -> f64 {
+        observables::wilson_loop(&self.space, &amplitudes.into(), path)
     }
 }
 
@@ -112,6 +142,41 @@ impl Su2Space {
     pub fn build_hamiltonian(&self, g_squared: f64, weights: Option<&[f64]>) -> Vec<f64> {
         rows(&build_su2_hamiltonian(&self.space, &self.record, g_squared, weights), self.space.dim())
     }
+
+    pub fn build_csr(&self, g_squared: f64, weights: Option<&[f64]>) -> RowLists {
+        build_csr_su2(&self.space, &self.record, g_squared, weights).into()
+    }
+
+    /// One amplitude for each mask.
+    pub fn hamiltonian_matvec(&self, vector: &[f64], g_squared: f64, weights: Option<&[f64]>) -> Vec<f64> {
+        let product = su2_quantum::su2_hamiltonian_matvec(&vector.into(), &self.space, &self.record, g_squared, weights);
+        product.iter().copied().collect()
+    }
+
+    pub fn wilson_loop(&self, vector: &[f64], path: &[u8]) -> f64 {
+        let edges: Vec<usize> = path.iter().map(|&edge| edge.into()).collect();
+        su2_quantum::su2_wilson_loop(&self.space, &vector.into(), &edges)
+    }
+}
+
+/// A matrix as row lists, the Rust's or any.
+#[derive(Clone)]
+pub struct RowLists {
+    pub starts: Vec<u32>,
+    pub columns: Vec<u32>,
+    pub values: Vec<f64>,
+}
+
+impl From<CsrMatrix> for RowLists {
+    fn from(matrix: CsrMatrix) -> RowLists {
+        RowLists { starts: matrix.row_ptr, columns: matrix.col_indices, values: matrix.values }
+    }
+}
+
+/// The Rust judges nothing here: its lists must be right.
+pub fn matvec(rows: &RowLists, vector: &[f64]) -> Vec<f64> {
+    let RowLists { starts, columns, values } = rows.clone();
+    CsrMatrix { nrows: vector.len(), row_ptr: starts, col_indices: columns, values }.matvec(vector)
 }
 
 /// A square matrix row by row.

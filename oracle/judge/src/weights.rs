@@ -18,6 +18,14 @@ pub const OUTSIDE: [f64; 8] = [
     f64::MIN,
 ];
 
+/// 12, then 14, of floats that are to be so many: amplitudes have the bounds of weights.
+pub fn judge(list: &[f64], len: usize) -> Result<(), u8> {
+    if list.len() != len {
+        return Err(12);
+    }
+    if list.iter().all(|float| (-MOST..=MOST).contains(float)) { Ok(()) } else { Err(14) }
+}
+
 #[derive(Clone)]
 pub struct Weights {
     pub given: bool,
@@ -40,13 +48,7 @@ impl Weights {
 
     /// 12, then 14, for so many triangles.
     pub fn judge(&self, n_triangles: usize) -> Result<(), u8> {
-        if self.given && self.list.len() != n_triangles {
-            return Err(12);
-        }
-        if self.given && !self.list.iter().all(|weight| (-MOST..=MOST).contains(weight)) {
-            return Err(14);
-        }
-        Ok(())
+        if self.given { judge(&self.list, n_triangles) } else { Ok(()) }
     }
 
     /// Absent ones are smaller than any that are given, and those that are not looked at count as well.
@@ -100,8 +102,8 @@ fn weight(random: &mut Random, sort: u64) -> f64 {
     floats::signed(random, weight)
 }
 
-/// One weight is wrong, or their number is.
-fn damage(random: &mut Random, list: &mut Vec<f64>) {
+/// One float is wrong, or their number is.
+pub fn damage(random: &mut Random, list: &mut Vec<f64>) {
     match random.below(5) {
         0 => list.push(1.0),
         1 => drop(list.pop()),

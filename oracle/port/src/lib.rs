@@ -49,6 +49,24 @@ mod raw {
             free_edges: *mut u32,
             free_len: usize,
         ) -> i64;
+        pub fn zibrotka_fundamental_loops(
+            sheet: *const u8,
+            sheet_len: usize,
+            starts: *mut u32,
+            starts_len: usize,
+            edges: *mut u8,
+            edges_len: usize,
+            directions: *mut i8,
+            directions_len: usize,
+        ) -> i64;
+        pub fn zibrotka_su2_fundamental_loops(
+            sheet: *const u8,
+            sheet_len: usize,
+            starts: *mut u32,
+            starts_len: usize,
+            edges: *mut u8,
+            edges_len: usize,
+        ) -> i64;
         pub fn zibrotka_check_gauss_law(
             sheet: *const u8,
             sheet_len: usize,
@@ -115,6 +133,124 @@ mod raw {
             result: *mut f64,
             result_len: usize,
         ) -> i64;
+        pub fn zibrotka_build_csr(
+            sheet: *const u8,
+            sheet_len: usize,
+            g_squared: f64,
+            electric: f64,
+            magnetic: f64,
+            given: bool,
+            weights: *const f64,
+            weights_len: usize,
+            states: *mut i32,
+            states_len: usize,
+            starts: *mut u32,
+            starts_len: usize,
+            columns: *mut u32,
+            columns_len: usize,
+            values: *mut f64,
+            values_len: usize,
+        ) -> i64;
+        pub fn zibrotka_build_csr_su2(
+            sheet: *const u8,
+            sheet_len: usize,
+            g_squared: f64,
+            electric: f64,
+            magnetic: f64,
+            given: bool,
+            weights: *const f64,
+            weights_len: usize,
+            states: *mut u64,
+            states_len: usize,
+            starts: *mut u32,
+            starts_len: usize,
+            columns: *mut u32,
+            columns_len: usize,
+            values: *mut f64,
+            values_len: usize,
+        ) -> i64;
+        pub fn zibrotka_count_states(sheet: *const u8, sheet_len: usize) -> i64;
+        pub fn zibrotka_su2_count_states(sheet: *const u8, sheet_len: usize) -> i64;
+        pub fn zibrotka_count_entries(sheet: *const u8, sheet_len: usize) -> i64;
+        pub fn zibrotka_hamiltonian_matvec(
+            sheet: *const u8,
+            sheet_len: usize,
+            g_squared: f64,
+            electric: f64,
+            magnetic: f64,
+            given: bool,
+            weights: *const f64,
+            weights_len: usize,
+            vector: *const f64,
+            vector_len: usize,
+            states: *mut i32,
+            states_len: usize,
+            result: *mut f64,
+            result_len: usize,
+        ) -> i64;
+        pub fn zibrotka_electric_field_sq(
+            sheet: *const u8,
+            sheet_len: usize,
+            amplitudes: *const f64,
+            amplitudes_len: usize,
+            states: *mut i32,
+            states_len: usize,
+            result: *mut f64,
+            result_len: usize,
+        ) -> i64;
+        pub fn zibrotka_wilson_loop(
+            sheet: *const u8,
+            sheet_len: usize,
+            amplitudes: *const f64,
+            amplitudes_len: usize,
+            edges: *const u8,
+            edges_len: usize,
+            directions: *const i8,
+            directions_len: usize,
+            states: *mut i32,
+            states_len: usize,
+            expectation: *mut f64,
+        ) -> i64;
+        pub fn zibrotka_su2_count_entries(sheet: *const u8, sheet_len: usize) -> i64;
+        pub fn zibrotka_su2_hamiltonian_matvec(
+            sheet: *const u8,
+            sheet_len: usize,
+            g_squared: f64,
+            electric: f64,
+            magnetic: f64,
+            given: bool,
+            weights: *const f64,
+            weights_len: usize,
+            vector: *const f64,
+            vector_len: usize,
+            states: *mut u64,
+            states_len: usize,
+            result: *mut f64,
+            result_len: usize,
+        ) -> i64;
+        pub fn zibrotka_su2_wilson_loop(
+            sheet: *const u8,
+            sheet_len: usize,
+            vector: *const f64,
+            vector_len: usize,
+            path: *const u8,
+            path_len: usize,
+            states: *mut u64,
+            states_len: usize,
+            expectation: *mut f64,
+        ) -> i64;
+        pub fn zibrotka_matvec(
+            starts: *const u32,
+            starts_len: usize,
+            columns: *const u32,
+            columns_len: usize,
+            values: *const f64,
+            values_len: usize,
+            vector: *const f64,
+            vector_len: usize,
+            result: *mut f64,
+            result_len: usize,
+        ) -> i64;
         pub fn zibrotka_refusal_text(number: u64, text: *mut u8, text_len: usize) -> i64;
     }
 }
@@ -172,6 +308,36 @@ pub fn from_pentachorons(
             triangles.as_mut_ptr(),
             triangles.len(),
             n_triangles,
+        )
+    }
+}
+
+/// The starts, edges and directions of the fundamental loops; answers the number of loops.
+pub fn fundamental_loops(sheet: &[u8], starts: &mut [u32], edges: &mut [u8], directions: &mut [i8]) -> i64 {
+    unsafe {
+        raw::zibrotka_fundamental_loops(
+            sheet.as_ptr(),
+            sheet.len(),
+            starts.as_mut_ptr(),
+            starts.len(),
+            edges.as_mut_ptr(),
+            edges.len(),
+            directions.as_mut_ptr(),
+            directions.len(),
+        )
+    }
+}
+
+/// The same without directions.
+pub fn su2_fundamental_loops(sheet: &[u8], starts: &mut [u32], edges: &mut [u8]) -> i64 {
+    unsafe {
+        raw::zibrotka_su2_fundamental_loops(
+            sheet.as_ptr(),
+            sheet.len(),
+            starts.as_mut_ptr(),
+            starts.len(),
+            edges.as_mut_ptr(),
+            edges.len(),
         )
     }
 }
@@ -300,6 +466,231 @@ pub fn build_su2_hamiltonian(
             weights.len(),
             states.as_mut_ptr(),
             states.len(),
+            result.as_mut_ptr(),
+            result.len(),
+        )
+    }
+}
+
+/// The matrix as row lists; the work list gets the basis. Answers the number of entries.
+#[allow(clippy::too_many_arguments)]
+pub fn build_csr(
+    sheet: &[u8],
+    [g_squared, electric, magnetic]: [f64; 3],
+    given: bool,
+    weights: &[f64],
+    states: &mut [i32],
+    starts: &mut [u32],
+    columns: &mut [u32],
+    values: &mut [f64],
+) -> i64 {
+    unsafe {
+        raw::zibrotka_build_csr(
+            sheet.as_ptr(),
+            sheet.len(),
+            g_squared,
+            electric,
+            magnetic,
+            given,
+            weights.as_ptr(),
+            weights.len(),
+            states.as_mut_ptr(),
+            states.len(),
+            starts.as_mut_ptr(),
+            starts.len(),
+            columns.as_mut_ptr(),
+            columns.len(),
+            values.as_mut_ptr(),
+            values.len(),
+        )
+    }
+}
+
+/// The two-valued matrix as row lists; the work list gets the basis. Answers the number of entries.
+#[allow(clippy::too_many_arguments)]
+pub fn build_csr_su2(
+    sheet: &[u8],
+    [g_squared, electric, magnetic]: [f64; 3],
+    given: bool,
+    weights: &[f64],
+    states: &mut [u64],
+    starts: &mut [u32],
+    columns: &mut [u32],
+    values: &mut [f64],
+) -> i64 {
+    unsafe {
+        raw::zibrotka_build_csr_su2(
+            sheet.as_ptr(),
+            sheet.len(),
+            g_squared,
+            electric,
+            magnetic,
+            given,
+            weights.as_ptr(),
+            weights.len(),
+            states.as_mut_ptr(),
+            states.len(),
+            starts.as_mut_ptr(),
+            starts.len(),
+            columns.as_mut_ptr(),
+            columns.len(),
+            values.as_mut_ptr(),
+            values.len(),
+        )
+    }
+}
+
+/// How many states `enumerate_gauge_invariant` lists.
+pub fn count_states(sheet: &[u8]) -> i64 {
+    unsafe { raw::zibrotka_count_states(sheet.as_ptr(), sheet.len()) }
+}
+
+/// How many masks `su2_basis` lists.
+pub fn su2_count_states(sheet: &[u8]) -> i64 {
+    unsafe { raw::zibrotka_su2_count_states(sheet.as_ptr(), sheet.len()) }
+}
+
+/// How many entries `build_csr` writes.
+pub fn count_entries(sheet: &[u8]) -> i64 {
+    unsafe { raw::zibrotka_count_entries(sheet.as_ptr(), sheet.len()) }
+}
+
+/// The product of the U(1) matrix with a vector; the work list gets the basis. Answers the number of states.
+pub fn hamiltonian_matvec(
+    sheet: &[u8],
+    [g_squared, electric, magnetic]: [f64; 3],
+    given: bool,
+    weights: &[f64],
+    vector: &[f64],
+    states: &mut [i32],
+    result: &mut [f64],
+) -> i64 {
+    unsafe {
+        raw::zibrotka_hamiltonian_matvec(
+            sheet.as_ptr(),
+            sheet.len(),
+            g_squared,
+            electric,
+            magnetic,
+            given,
+            weights.as_ptr(),
+            weights.len(),
+            vector.as_ptr(),
+            vector.len(),
+            states.as_mut_ptr(),
+            states.len(),
+            result.as_mut_ptr(),
+            result.len(),
+        )
+    }
+}
+
+/// The square of the electric field on each edge; the work list gets the basis. Answers the number of edges.
+pub fn electric_field_sq(sheet: &[u8], amplitudes: &[f64], states: &mut [i32], result: &mut [f64]) -> i64 {
+    unsafe {
+        raw::zibrotka_electric_field_sq(
+            sheet.as_ptr(),
+            sheet.len(),
+            amplitudes.as_ptr(),
+            amplitudes.len(),
+            states.as_mut_ptr(),
+            states.len(),
+            result.as_mut_ptr(),
+            result.len(),
+        )
+    }
+}
+
+/// The Wilson loop along a path; the work list gets the basis. Answers 0.
+pub fn wilson_loop(
+    sheet: &[u8],
+    amplitudes: &[f64],
+    edges: &[u8],
+    directions: &[i8],
+    states: &mut [i32],
+    expectation: &mut f64,
+) -> i64 {
+    unsafe {
+        raw::zibrotka_wilson_loop(
+            sheet.as_ptr(),
+            sheet.len(),
+            amplitudes.as_ptr(),
+            amplitudes.len(),
+            edges.as_ptr(),
+            edges.len(),
+            directions.as_ptr(),
+            directions.len(),
+            states.as_mut_ptr(),
+            states.len(),
+            expectation,
+        )
+    }
+}
+
+/// How many entries `build_csr_su2` writes.
+pub fn su2_count_entries(sheet: &[u8]) -> i64 {
+    unsafe { raw::zibrotka_su2_count_entries(sheet.as_ptr(), sheet.len()) }
+}
+
+/// The product of the two-valued matrix with a vector; the work list gets the basis. Answers the number of states.
+pub fn su2_hamiltonian_matvec(
+    sheet: &[u8],
+    [g_squared, electric, magnetic]: [f64; 3],
+    given: bool,
+    weights: &[f64],
+    vector: &[f64],
+    states: &mut [u64],
+    result: &mut [f64],
+) -> i64 {
+    unsafe {
+        raw::zibrotka_su2_hamiltonian_matvec(
+            sheet.as_ptr(),
+            sheet.len(),
+            g_squared,
+            electric,
+            magnetic,
+            given,
+            weights.as_ptr(),
+            weights.len(),
+            vector.as_ptr(),
+            vector.len(),
+            states.as_mut_ptr(),
+            states.len(),
+            result.as_mut_ptr(),
+            result.len(),
+        )
+    }
+}
+
+/// The expectation of a path's loop in the two-valued truncation; the work list gets the basis. Answers 0.
+pub fn su2_wilson_loop(sheet: &[u8], vector: &[f64], path: &[u8], states: &mut [u64], expectation: &mut f64) -> i64 {
+    unsafe {
+        raw::zibrotka_su2_wilson_loop(
+            sheet.as_ptr(),
+            sheet.len(),
+            vector.as_ptr(),
+            vector.len(),
+            path.as_ptr(),
+            path.len(),
+            states.as_mut_ptr(),
+            states.len(),
+            expectation,
+        )
+    }
+}
+
+/// The product of row lists with a vector; answers 0.
+pub fn matvec(starts: &[u32], columns: &[u32], values: &[f64], vector: &[f64], result: &mut [f64]) -> i64 {
+    unsafe {
+        raw::zibrotka_matvec(
+            starts.as_ptr(),
+            starts.len(),
+            columns.as_ptr(),
+            columns.len(),
+            values.as_ptr(),
+            values.len(),
+            vector.as_ptr(),
+            vector.len(),
             result.as_mut_ptr(),
             result.len(),
         )

@@ -1,10 +1,11 @@
 use Prim.Native.Nat.{_+_}
-use mathlib.Core.Bool.{cond}
+use mathlib.Core.Bool.{not, cond}
 use mathlib.Core.Path.{ap, ap₂, _∙_}
 use native.Mathlib.Omega.{arith}
-use Rattle.matrices.specs.Squares.{energy}
-use Rattle.rows.specs.RowLists.{kept}
+use lib.Dec.{eqb}
+use Rattle.matrices.specs.Squares.{squares}
 use Rattle.csr.specs.Count.{row-entries}
+use Rattle.csr.proofs.Zero.{not-counted}
 use borrow.Author.Needs.{needs}
 use Rattle.csr.proofs.count.count_row.Statement.{statement}
 use Rattle.csr.proofs.count.count_row.Tie as tie
@@ -12,14 +13,8 @@ use Rattle.csr.proofs.count.count_row.Tie as tie
 count-moves-requires : tie.Need-count-moves-requires
 count-moves-requires c κs = search needs
 
-squares-requires : tie.Need-squares-requires
-squares-requires c κs = search needs
-
-energy-requires : tie.Need-energy-requires
-energy-requires c κs = search needs
-
-is-kept-requires : tie.Need-is-kept-requires
-is-kept-requires c κs = search needs
+is-zero-requires : tie.Need-is-zero-requires
+is-zero-requires c κs = search needs
 
 one-requires : tie.Need-one-requires
 one-requires c κs = search needs
@@ -30,11 +25,9 @@ add-result c = search needs
 returns : tie.Need-returns
 unfolding row-entries
 returns c =
-    let weighed = c .before .before in
-    let moves = weighed .before .before in
-    let is = c .before .is-kept .ensures ∙ ap kept (weighed .energy .ensures ∙ ap (energy (moves .before .args .electric)) (weighed .before .squares .ensures .0)) in (
-      ap₂ (λ a b. a + b) (c .one .ensures .0 ∙ ap (λ b. cond b 1 0) is) (moves .count-moves .ensures .0),
-      omega (arith, c .one .ensures .1, moves .count-moves .ensures .1),
+    let moves = c .before .before .count-moves in (
+      ap₂ (λ a b. a + b) (c .one .ensures .0 ∙ ap (λ b. cond (not b) 1 0) (c .before .is-zero .ensures) ∙ not-counted (eqb (squares (c .before .before .before .args .state .now)) 0)) (moves .ensures .0),
+      omega (arith, c .one .ensures .1, moves .ensures .1),
     )
 
 pub count-row-spec : {M : Type 1} → statement M
@@ -42,9 +35,7 @@ count-row-spec =
     tie.close
     (tie.spec
     count-moves-requires
-    squares-requires
-    energy-requires
-    is-kept-requires
+    is-zero-requires
     one-requires
     add-result
     returns)

@@ -19,12 +19,12 @@ use Rattle.csr.proofs.count.count_walked.Statement.{statement}
 use Rattle.csr.proofs.count.count_walked.Tie as tie
 
 abbrev Inv-loop : tie.InvT-loop
-Inv-loop config₀ free n-free cycles lambda blocks all n electric m state₀ total₀ here₀ config state total here =
+Inv-loop config₀ free n-free cycles lambda blocks all n m state₀ total₀ here₀ config state total here =
     (length config ≡ length config₀) × (length state ≡ length config₀) × Standing free cycles lambda n-free config here × CursorAt free cycles lambda n-free (states-from free cycles lambda n-free config₀ here₀) config here
-    × (total ≡ over-states (row-entries lambda all n electric) (take (here .number) (states-from free cycles lambda n-free config₀ here₀))) × (total ≤ 513 * here .number)
+    × (total ≡ over-states (row-entries lambda all n) (take (here .number) (states-from free cycles lambda n-free config₀ here₀))) × (total ≤ 513 * here .number)
 
 abbrev μ-loop : tie.MeasureT-loop
-μ-loop config₀ free n-free cycles lambda blocks all n electric m state₀ total₀ here₀ config state total here =
+μ-loop config₀ free n-free cycles lambda blocks all n m state₀ total₀ here₀ config state total here =
     length (states-from free cycles lambda n-free config here)
 
 abbrev Loop : Type 0
@@ -81,7 +81,7 @@ loop-holds c =
       length-take-le _ _ inside ∙ sub-zero (length (a .config .now)) ∙ sym (first .kept .0),
       first .ensures .standing,
       at-first (a .free .now) (a .cycles .now) (a .lambda) (a .n-free) _ (first .last .0) (first .result) refl (first .ensures .numbered),
-      over-none _ ∙ ap (λ k. over-states (row-entries (a .lambda) (a .all .now) (a .n) (a .electric)) (take k all)) (sym (first .ensures .numbered)),
+      over-none _ ∙ ap (λ k. over-states (row-entries (a .lambda) (a .all .now) (a .n)) (take k all)) (sym (first .ensures .numbered)),
       omega arith,
     )
 
@@ -151,7 +151,7 @@ loop-again c =
     let filled = c .before .before .before .before .before .before in
     let at-loop = loop-of filled in
     let a = start at-loop .args in
-    let f = row-entries (a .lambda) (a .all .now) (a .n) (a .electric) in
+    let f = row-entries (a .lambda) (a .all .now) (a .n) in
     let number = at-loop .loop .here .number in (
       next .kept .1 .0 ∙ at-loop .loop .inv .0,
       filled .fill-row .kept .0 ∙ at-loop .loop .inv .1,
@@ -170,7 +170,7 @@ returns c =
     let at-loop = c .before .before .before in
     let a = start at-loop .args in
     let end : at-loop .loop .here .number ≡ length (whole at-loop) = at-end (a .free .now) (a .cycles .now) (a .lambda) (a .n-free) (whole at-loop) (at-loop .loop .config) (at-loop .loop .here) (at-loop .loop .inv .3) (omega arith) in
-    at-loop .loop .inv .4 ∙ ap (over-states (row-entries (a .lambda) (a .all .now) (a .n) (a .electric))) (take-all (at-loop .loop .here .number) (whole at-loop) (omega (arith, end)) ∙ whole-is at-loop)
+    at-loop .loop .inv .4 ∙ ap (over-states (row-entries (a .lambda) (a .all .now) (a .n))) (take-all (at-loop .loop .here .number) (whole at-loop) (omega (arith, end)) ∙ whole-is at-loop)
 
 pub count-walked-spec : {M : Type 1} → statement M
 count-walked-spec =

@@ -96,17 +96,18 @@ room c =
     (ltb-false _ _ (fell .0), ltb-false _ _ (fell .1))
 
 write-states-requires : tie.Need-write-states-requires
-write-states-requires c κs = let enough = c .before .before in (basis (passed (enough .before)) .fit, rw (← (enough .before .before .count-states .ensures)) (room enough .0))
+write-states-requires c κs = let enough = c .before in (basis (passed (enough .before)) .fit, rw (← (enough .before .before .count-states .ensures)) (room enough .0))
 
 -- as many states were written as were counted
-number : (c : tie.After-write-states) → c .write-states .result ≡ c .before .before .before .before .before .count-states .result
-number c = c .write-states .ensures .count ∙ sym (c .before .before .before .before .before .count-states .ensures)
+number : (c : tie.After-write-states) → c .write-states .result ≡ c .before .before .before .before .count-states .result
+number c = c .write-states .ensures .count ∙ sym (c .before .before .before .before .count-states .ensures)
 
 write-dense-requires : tie.Need-write-dense-requires
 write-dense-requires c κs =
-    let listed = c .before .before .before .before in
-    let enough = listed .before .before .before in
+    let listed = c .before .before .before in
+    let enough = listed .before .before in
     let here = passed (enough .before) in (
+      _,
       basis-listed _ _ _ _ (basis here) _ _ _ (listed .write-states .ensures) _ refl,
       weights-fit _ _ _ _ (right here),
       rw (number listed) (room enough .1),
@@ -121,8 +122,8 @@ same-length-2 c = search needs
 returns-4 : tie.Need-returns-4
 unfolding u1-dense-call numberAnswer
 returns-4 c =
-    let listed = c .before .before .before .before .before .before .before in
-    let enough = listed .before .before .before in
+    let listed = c .before .before .before .before .before .before in
+    let enough = listed .before .before in
     let judged = passed (enough .before) in
     let many = counted (enough .before) in
     ends _ (past-basis (judged .before .before .before .before .prepare-basis .ensures) (judged .before .before .before .if1 .left) (past-weights _ _ _ _ (right judged) (past (no-room (enough .before) ∙ enough .if3 .left) none)))

@@ -14,6 +14,9 @@ add-entry-requires c κs = search needs
 add-entry-requires-2 : tie.Need-add-entry-requires-2
 add-entry-requires-2 c κs = search needs
 
+add-result : tie.Need-add-result
+add-result c = search needs
+
 same-length : tie.Need-same-length
 same-length c = search needs
 
@@ -27,4 +30,4 @@ returns-2 c =
 
 pub add-hit-spec : {M : Type 1} → statement M
 add-hit-spec =
-    tie.close (tie.spec returns add-entry-requires add-entry-requires-2 same-length returns-2)
+    tie.close (tie.spec returns add-entry-requires add-entry-requires-2 add-result same-length returns-2)

@@ -62,6 +62,9 @@ loop-again c =
       omega (arith, h .1, at-loop .loop .inv .3),
     )
 
+cast-result : tie.Need-cast-result Inv-loop μ-loop
+cast-result c = search needs
+
 returns : tie.Need-returns Inv-loop μ-loop
 returns c =
     let s = c .before .before .args .state .now in
@@ -82,4 +85,5 @@ squares-spec =
     add-e
     loop-less
     loop-again
+    cast-result
     returns)

@@ -1,11 +1,11 @@
 use Prim.Native.Nat.{ℕ, _+_, _*_, _≤_}
 use mathlib.Core.Path.{ap, _∙_}
 use native.Mathlib.Omega.{arith}
-use native.Mathlib.Nat.{mul-le-mul, mul-le-mul-right}
 use lib.Ieee.{binary64, mul}
 use lib.ListN.{length, length-take}
 use Rattle.hilbert.proofs.Searching.{row-part}
 use Rattle.matrices.specs.Coupling.{float-of}
+use Rattle.plaquettes.proofs.Listed.{row-room}
 use Rattle.plaquettes.specs.Rows.{electric-term}
 use borrow.Author.Needs.{needs}
 use Rattle.plaquettes.proofs.rows.row_energy.Statement.{statement}
@@ -13,10 +13,7 @@ use Rattle.plaquettes.proofs.rows.row_energy.Tie as tie
 
 -- the row lies in the list
 room : (c : tie.Start) → (c .args .i * c .args .m + c .args .m ≤ length (c .args .list .now)) × (c .args .i * c .args .m ≤ 1048576 * 63)
-room c =
-    let small = c .pre .1 in
-    let few : c .args .i ≤ 1048576 = omega (arith, small .few, c .pre .2) in
-    (omega (arith, small .long, mul-le-mul-right (c .args .m) (c .pre .2)), mul-le-mul few (small .edges-few))
+room c = row-room _ _ _ (c .pre .1) (c .args .i) (c .pre .2)
 
 mul-at : tie.Need-mul-at
 mul-at c = let h = room c in search needs

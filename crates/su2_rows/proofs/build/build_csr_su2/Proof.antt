@@ -20,9 +20,10 @@ use Rattle.answers.specs.Answer.{numberAnswer}
 use Rattle.matrices.proofs.Weighing.{weights-fit, weights-refuse, past-weights}
 use Rattle.masks.proofs.Placing.{loops-of, states-number, masks-are}
 use Rattle.masks.proofs.Telling.{limit-refuses, past-masks, masks-known, masks-written}
+use Rattle.rows.proofs.MadeRows.{long-enough, coupling-fits, lists-are}
 use Rattle.su2_rows.specs.Rows.{su2-entries, su2-rows-call}
 use Rattle.su2_rows.proofs.RowLengths.{entries-number}
-use Rattle.su2_rows.proofs.ListedRows.{long-enough, coupling-fits, entries-few, lists-are}
+use Rattle.su2_rows.proofs.ListedRows.{entries-few}
 use borrow.Author.Needs.{needs}
 use Rattle.su2_rows.proofs.build.build_csr_su2.Statement.{statement}
 use Rattle.su2_rows.proofs.build.build_csr_su2.Tie as tie

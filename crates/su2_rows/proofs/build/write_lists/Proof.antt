@@ -37,7 +37,7 @@ same-length-3 c = search needs
 
 returns : tie.Need-returns
 returns c =
-    let written = c .before .before .before .before .before .before in
+    let written = c .before .before .before .before .before .before .before .before in
     let made = written .before .before .before .before .before .before .before .before in
     let start = made .before .before .before .before .before .before .before .before in
     rows-written _ _ _ _ _ _ _ (start .pre .0) _ _ _ (made .write-tables .ensures) _ (start .pre .2 .0) (start .pre .2 .1) _ _ _ _ _ _ (rw (← (triangles-long (start .args .c))) at (written .write-rows .ensures))

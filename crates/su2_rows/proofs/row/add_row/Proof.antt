@@ -4,7 +4,7 @@ use native.Mathlib.Omega.{arith}
 use lib.ListN.{length, take}
 use Rattle.rows.specs.Entries.{pairs}
 use Rattle.rows.proofs.Pairs.{pairs-length}
-use Rattle.su2_rows.proofs.RowSteps.{made-row, made-fits}
+use Rattle.rows.proofs.MadeRows.{made-row, made-fits}
 use borrow.Author.Needs.{needs}
 use Rattle.su2_rows.proofs.row.add_row.Statement.{statement}
 use Rattle.su2_rows.proofs.row.add_row.Tie as tie

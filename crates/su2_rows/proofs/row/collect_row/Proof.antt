@@ -1,19 +1,20 @@
-use Prim.Native.Nat.{_+_, _-_, _≤_}
+use Prim.Native.Nat.{_+_, _-_, _<_, _≤_}
 use mathlib.Core.Path.{_≡_, refl, sym, _∙_}
 use native.Mathlib.Omega.{arith}
 use lib.ListN.{length, take}
 use Rattle.rows.specs.Entries.{pairs}
-use Rattle.su2_rows.specs.Rows.{table-entries}
-use Rattle.su2_rows.proofs.RowSteps.{diagonal-pushed, triangle-pushed, pushed-few}
+use Rattle.su2_rows.specs.Rows.{diagonal-first}
+use Rattle.rows.proofs.MadeRows.{pushed-few}
+use Rattle.su2_rows.proofs.RowSteps.{diagonal-pushed, triangle-pushed}
 use borrow.Author.Needs.{needs}
 use Rattle.su2_rows.proofs.row.collect_row.Statement.{statement}
 use Rattle.su2_rows.proofs.row.collect_row.Tie as tie
 
 abbrev Inv-loop : tie.InvT-loop
-Inv-loop row-columns₀ row-values₀ i diagonal places terms n column kept m₀ t₀ row-columns row-values m t = (t ≤ n) × (length row-columns ≡ length row-columns₀) × (length row-values ≡ length row-values₀) × (take m (pairs row-columns row-values) ≡ table-entries places terms t column diagonal) × (m ≤ t + 1)
+Inv-loop row-columns₀ row-values₀ i diagonal flips terms n column kept m₀ t₀ row-columns row-values m t = (t ≤ n) × (length row-columns ≡ length row-columns₀) × (length row-values ≡ length row-values₀) × (take m (pairs row-columns row-values) ≡ diagonal-first column diagonal (take t (pairs flips terms))) × (m ≤ t + 1)
 
 abbrev μ-loop : tie.MeasureT-loop
-μ-loop row-columns₀ row-values₀ i diagonal places terms n column kept m₀ t₀ row-columns row-values m t = n - t
+μ-loop row-columns₀ row-values₀ i diagonal flips terms n column kept m₀ t₀ row-columns row-values m t = n - t
 
 cast-column : tie.Need-cast-column Inv-loop μ-loop
 cast-column c = search needs
@@ -27,7 +28,7 @@ push-entry-requires c κs = search needs
 loop-holds : tie.Need-loop-holds Inv-loop μ-loop
 loop-holds c =
     let pushed = c .before .before .before .before .push-entry .ensures in
-    (omega arith, refl, refl, diagonal-pushed _ _ _ _ _ _ _ (rw (c .before .before .before .before .before .before .before .is-kept .ensures) at pushed), pushed-few pushed)
+    (omega arith, refl, refl, diagonal-pushed _ _ _ _ _ (rw (c .before .before .before .before .before .before .before .is-kept .ensures) at pushed), pushed-few pushed)
 
 mul-push-entry : tie.Need-mul-push-entry Inv-loop μ-loop
 mul-push-entry c = search needs
@@ -60,7 +61,9 @@ loop-again c =
     let at-loop = c .before .before .before .before .before .before .before .before .before .before in
     let inv = at-loop .loop .inv in
     let added = c .before .before .before .before .push-entry2 in
-    (omega arith, added .kept .0 ∙ inv .1, added .kept .1 .0 ∙ inv .2, triangle-pushed _ _ _ _ _ _ _ _ _ (inv .3) (added .ensures), omega (arith, inv .4, pushed-few (added .ensures)))
+    let start = at-loop .before .before .before .before .before .before .before .before .before .before .before .before .before in
+    let inside : at-loop .loop .t < length (start .args .flips .now) = omega (arith, start .pre .3, c .before .before .before .before .before .before .before .before .before .loop-test .taken) in
+    (omega arith, added .kept .0 ∙ inv .1, added .kept .1 .0 ∙ inv .2, triangle-pushed _ _ _ _ _ _ _ _ _ (start .pre .4) inside (inv .3) (added .ensures), omega (arith, inv .4, pushed-few (added .ensures)))
 
 same-length : tie.Need-same-length Inv-loop μ-loop
 same-length c = search needs

@@ -1,0 +1,4 @@
+pub mod Examples
+pub mod Finished
+pub mod Judging
+pub mod Record

@@ -1,0 +1,3 @@
+pub mod Matvec
+pub mod Walk
+pub mod Runs

@@ -1,0 +1,11 @@
+pub mod Treads
+pub mod TreePaths
+pub mod SearchParents
+pub mod AcceptedLoops
+pub mod LoopCycles
+pub mod Filling
+pub mod Climbs
+pub mod Noting
+pub mod LoopLists
+pub mod LoopReads
+pub mod LoopsTold

@@ -1,0 +1,4 @@
+pub mod Walks
+pub mod Parents
+pub mod Loops
+pub mod Climbing

@@ -1,0 +1,4 @@
+// The paths in the spanning tree of a complex, and its fundamental loops.
+
+pub mod climbing;
+pub mod fundamental;

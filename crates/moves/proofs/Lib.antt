@@ -1,0 +1,7 @@
+pub mod Seeking
+pub mod Digits
+pub mod Collecting
+pub mod Numbers
+pub mod Zeros
+pub mod Arriving
+pub mod MoveTables

@@ -1,0 +1,212 @@
+use Prim.Native.Nat.{_+_, _-_, _<_, _≤_}
+use mathlib.Core.Path.{_≡_, refl, sym, ap, _∙_}
+use native.Mathlib.Omega.{arith}
+use lib.IntN.{pos, natAbs}
+use lib.ListN.{getD, length, take}
+use mir.Syntax.{w32}
+use mir.Val.{toZ, ofZ}
+use Rattle.mathematics.proofs.Signed.{small-back, size-neg}
+use Rattle.rows.specs.Entries.{pairs}
+use Rattle.rows.proofs.MadeRows.{pushed-few}
+use Rattle.moves.specs.Numbers.{number-in}
+use Rattle.moves.specs.Moves.{Moves, goes, collected, pointed, Pointers}
+use Rattle.moves.specs.Tables.{tables}
+use Rattle.moves.proofs.Collecting.{pointers-same, pointed-pointers, diagonal-collected, move-collected, move-pointed}
+use borrow.Author.Needs.{needs}
+use Rattle.moves.proofs.row.collect_row.Statement.{statement}
+use Rattle.moves.proofs.row.collect_row.Tie as tie
+
+abbrev Inv-loop : tie.InvT-loop
+Inv-loop state i diagonal lambda sides units lows highs terms n-moves words n number pointers₀ row-columns₀ row-values₀ kept m₀ k₀ pointers row-columns row-values m k =
+    (k ≤ n-moves) × (length row-columns ≡ length row-columns₀) × (length row-values ≡ length row-values₀)
+    × (take m (pairs row-columns row-values) ≡ collected (tables sides units lows highs terms) lambda (number-in words) n state number pointers₀ i diagonal k)
+    × (m ≤ k + 1) × (pointers ≡ pointed (tables sides units lows highs terms) lambda (number-in words) n state number pointers₀ k)
+
+abbrev μ-loop : tie.MeasureT-loop
+μ-loop state i diagonal lambda sides units lows highs terms n-moves words n number pointers₀ row-columns₀ row-values₀ kept m₀ k₀ pointers row-columns row-values m k = n-moves - k
+
+abbrev Loop : Type 0
+Loop = tie.At-loop Inv-loop μ-loop
+
+abbrev start : Loop → tie.Start Inv-loop μ-loop
+start c = c .before .before .before .before .before .before .before .before .before .before .before .before .before
+
+abbrev tables-of : Loop → Moves
+tables-of c = let a = start c .args in tables (a .sides .now) (a .units .now) (a .lows .now) (a .highs .now) (a .terms .now)
+
+abbrev loop-of : tie.After-move-sides Inv-loop μ-loop → Loop
+loop-of c = c .before .before .before
+
+-- the unit of the move
+unit-back : (c : Loop) → c .loop .k < start c .args .n-moves → toZ w32 (ofZ w32 (getD (start c .args .units .now) (c .loop .k) (pos 0))) ≡ getD (start c .args .units .now) (c .loop .k) (pos 0)
+unit-back c inside = small-back (getD (start c .args .units .now) (c .loop .k) (pos 0)) (omega (arith, start c .pre .0 .units-small (c .loop .k) inside))
+
+-- whether it is taken
+taken-is : (c : tie.After-stays Inv-loop μ-loop) → c .stays .result ≡ goes (tables-of (loop-of (c .before .before))) (start (loop-of (c .before .before)) .args .lambda) (start (loop-of (c .before .before)) .args .state .now) (loop-of (c .before .before) .loop .k)
+unfolding goes
+taken-is c =
+    let at-loop = loop-of (c .before .before) in
+    c .stays .ensures ∙ rw (unit-back at-loop (c .before .before .before .before .loop-test .taken), ← (c .before .before .move-sides .ensures))
+
+-- the pointers are still in range
+pointers-right : (c : Loop) → Pointers (start c .args .n) (c .loop .pointers)
+pointers-right c =
+    let a = start c .args in
+    pointers-same (c .loop .inv .5) (pointed-pointers (tables-of c) (a .lambda) (number-in (a .words .now)) (a .n) (a .state .now) (a .number) (a .pointers .now) (c .loop .k) (start c .pre .2))
+
+is-kept-requires : tie.Need-is-kept-requires Inv-loop μ-loop
+is-kept-requires c κs = search needs
+
+cast-push-entry : tie.Need-cast-push-entry Inv-loop μ-loop
+cast-push-entry c = search needs
+
+push-entry-requires : tie.Need-push-entry-requires Inv-loop μ-loop
+push-entry-requires c κs = search needs
+
+loop-holds : tie.Need-loop-holds Inv-loop μ-loop
+unfolding pointed
+loop-holds c =
+    let pushed = c .before .before .before .before .push-entry .ensures in
+    let s = c .before .before .before .before .before .before .before .before .before .before .before .before in
+    let first = rw (c .before .before .before .before .before .before .before .is-kept .ensures) at pushed in
+    (omega arith, refl, refl, diagonal-collected _ _ _ _ _ _ _ _ _ _ _ _ first, pushed-few pushed, refl)
+
+mul-by : tie.Need-mul-by Inv-loop μ-loop
+mul-by c = search needs
+
+element-copy-out-by : tie.Need-element-copy-out-by Inv-loop μ-loop
+element-copy-out-by c = search needs
+
+move-sides-requires : tie.Need-move-sides-requires Inv-loop μ-loop
+move-sides-requires c κs = search needs
+
+opposite-requires : tie.Need-opposite-requires Inv-loop μ-loop
+opposite-requires c κs =
+    let at-loop = loop-of c in
+    let inside = c .before .before .loop-test .taken in
+    rw (unit-back at-loop inside) (start at-loop .pre .0 .units-small (at-loop .loop .k) inside)
+
+stays-requires : tie.Need-stays-requires Inv-loop μ-loop
+stays-requires c κs =
+    let at-loop = loop-of (c .before) in
+    let moves = start at-loop .pre .1 in
+    let inside = c .before .before .before .loop-test .taken in
+    let unit = unit-back at-loop inside in
+    let small = start at-loop .pre .0 .units-small (at-loop .loop .k) inside in (
+      rw (c .before .move-sides .ensures) at (moves .movable (at-loop .loop .k) inside),
+      moves .truncation,
+      rw unit small,
+      small-back (c .opposite .result) (omega (arith, ap natAbs (c .opposite .ensures), size-neg (toZ w32 (ofZ w32 (getD (start at-loop .args .units .now) (at-loop .loop .k) (pos 0)))), ap natAbs unit, small)) ∙ c .opposite .ensures,
+    )
+
+mul-push-move : tie.Need-mul-push-move Inv-loop μ-loop
+mul-push-move c = search needs
+
+element-copy-out-push-move : tie.Need-element-copy-out-push-move Inv-loop μ-loop
+element-copy-out-push-move c = search needs
+
+mul-push-move-2 : tie.Need-mul-push-move-2 Inv-loop μ-loop
+mul-push-move-2 c = search needs
+
+element-copy-out-push-move-2 : tie.Need-element-copy-out-push-move-2 Inv-loop μ-loop
+element-copy-out-push-move-2 c = search needs
+
+add-push-move : tie.Need-add-push-move Inv-loop μ-loop
+add-push-move c =
+    let at-loop = c .before .before .before .before .before .before .before in
+    let small = start at-loop .pre .0 .highs-small (at-loop .loop .k) (c .before .before .before .before .before .before .loop-test .taken) in
+    let few = start at-loop .pre .6 in
+    search needs
+
+mul-push-move-3 : tie.Need-mul-push-move-3 Inv-loop μ-loop
+mul-push-move-3 c = search needs
+
+element-copy-out-push-move-3 : tie.Need-element-copy-out-push-move-3 Inv-loop μ-loop
+element-copy-out-push-move-3 c = search needs
+
+push-move-requires : tie.Need-push-move-requires Inv-loop μ-loop
+push-move-requires c κs =
+    let at-loop = c .before .before .before .before .before .before .before .before .before .before .before in
+    let s = start at-loop in
+    let inside : at-loop .loop .k < s .args .n-moves = c .before .before .before .before .before .before .before .before .before .before .loop-test .taken in
+    let pointers = pointers-right at-loop in
+    let pushed = at-loop .before .before .before .before .before .push-entry .kept in (
+      s .pre .3,
+      s .pre .4,
+      s .pre .0 .lows-small (at-loop .loop .k) inside,
+      omega (arith, pointers .long, inside, s .pre .0 .few),
+      pointers .below (at-loop .loop .k),
+      omega (arith, at-loop .loop .inv .1, at-loop .loop .inv .4, inside, pushed .0, s .pre .7),
+      at-loop .loop .inv .1 ∙ pushed .0 ∙ s .pre .8 ∙ sym (at-loop .loop .inv .2 ∙ pushed .1 .0),
+    )
+
+add-k : tie.Need-add-k Inv-loop μ-loop
+add-k c =
+    let at-loop = c .before .before .before .before .before .before .before .before .before .before .before .before .before .before .before .before .before .before in
+    let few = start at-loop .pre .0 .few in
+    let inside = c .before .before .before .before .before .before .before .before .before .before .before .before .before .before .before .before .before .loop-test .taken in
+    search needs
+
+loop-less : tie.Need-loop-less Inv-loop μ-loop
+loop-less c = search needs
+
+loop-again : tie.Need-loop-again Inv-loop μ-loop
+loop-again c =
+    let at-loop = c .before .before .before .before .before .before .before .before .before .before .before .before .before .before .before .before .before .before in
+    let s = start at-loop in
+    let inside : at-loop .loop .k < s .args .n-moves = c .before .before .before .before .before .before .before .before .before .before .before .before .before .before .before .before .before .loop-test .taken in
+    let pushed = c .before .before .before .before .before .before .push-move in
+    let taken = taken-is (c .before .before .before .before .before .before .before .before .before .before .before .before .before) in (
+      omega arith,
+      pushed .kept .1 .1 .1 .1 .1 .1 .1 .1 .0 ∙ at-loop .loop .inv .1,
+      pushed .kept .1 .1 .1 .1 .1 .1 .1 .1 .1 .0 ∙ at-loop .loop .inv .2,
+      move-collected (tables-of at-loop) _ _ _ _ _ _ _ _ _ _ _ _ _ _ _ _ taken (at-loop .loop .inv .5) (pushed .ensures) (at-loop .loop .inv .3),
+      omega (arith, pushed .ensures .room, at-loop .loop .inv .4),
+      move-pointed (tables-of at-loop) _ _ _ _ _ _ (s .args .i) (s .args .diagonal) _ _ _ _ _ _ _ _ taken (at-loop .loop .inv .5) (pushed .ensures),
+    )
+
+same-length : tie.Need-same-length Inv-loop μ-loop
+same-length c = pointers-right (c .before) .long ∙ sym (start (c .before) .pre .2 .long)
+
+same-length-2 : tie.Need-same-length-2 Inv-loop μ-loop
+same-length-2 c = search needs
+
+same-length-3 : tie.Need-same-length-3 Inv-loop μ-loop
+same-length-3 c = search needs
+
+returns : tie.Need-returns Inv-loop μ-loop
+returns c =
+    let at-loop = c .before in
+    let past : at-loop .loop .k ≡ start at-loop .args .n-moves = omega arith in
+    (rw past at (at-loop .loop .inv .3), omega (arith, at-loop .loop .inv .4, past), rw past at (at-loop .loop .inv .5))
+
+pub collect-row-spec : {M : Type 1} → statement M
+collect-row-spec =
+    tie.close
+    (tie.spec
+    Inv-loop
+    μ-loop
+    is-kept-requires
+    cast-push-entry
+    push-entry-requires
+    loop-holds
+    mul-by
+    element-copy-out-by
+    move-sides-requires
+    opposite-requires
+    stays-requires
+    mul-push-move
+    element-copy-out-push-move
+    mul-push-move-2
+    element-copy-out-push-move-2
+    add-push-move
+    mul-push-move-3
+    element-copy-out-push-move-3
+    push-move-requires
+    add-k
+    loop-less
+    loop-again
+    same-length
+    same-length-2
+    same-length-3
+    returns)

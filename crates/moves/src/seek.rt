@@ -1,0 +1,24 @@
+// A place by its number, in a list of words whose lower halves rise.
+ghost use mathlib.Core.Path.{_≡_};
+ghost use Prim.Native.Nat.{_-_, _^_, _≤_, _<_};
+ghost use lib.ListN.{length};
+ghost use Rattle.moves.specs.Numbers.{sought, lower, number-in};
+
+// The lower 20 bits of a word.
+pub fn lower(word: u32) -> usize
+    ensures { λ r. ⌜ (r ≡ lower word) × (r < 2 ^ 20) ⌝ }
+{
+    (word % 1048576) as usize
+}
+
+// The first place from one on whose number with low added is not below high, or n.
+pub fn seek(words: &[u32], n: usize, from: usize, low: usize, high: usize) -> usize
+    requires { ⌜ (from ≤ n) × (n ≤ length (now words)) × (low ≤ 2 ^ 30) ⌝ }
+    ensures { λ r. ⌜ (r ≡ sought (number-in (now (words .entry))) low high from (n - from)) × (r ≤ n) ⌝ }
+{
+    let mut place = from;
+    while place < n && lower(words[place]) + low < high {
+        place += 1;
+    }
+    place
+}

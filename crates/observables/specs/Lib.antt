@@ -1,0 +1,3 @@
+pub mod Electric
+pub mod Wilson
+pub mod Walking
