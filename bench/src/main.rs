@@ -14,7 +14,7 @@ use std::process::ExitCode;
 use std::time::Instant;
 
 type Table = (&'static str, fn());
-const TABLES: [Table; 10] = [
+const TABLES: [Table; 11] = [
     ("pentachora", from_pentachorons),
     ("triangles", tri_edge_indices),
     ("states", enumerate_gauge_invariant),
@@ -22,6 +22,7 @@ const TABLES: [Table; 10] = [
     ("masks", masks::table),
     ("dense", dense::table),
     ("rows", rows::table),
+    ("growth", rows::growth),
     ("products", rows::products),
     ("su2_products", even_products::table),
     ("amplitudes", amplitudes::table),

@@ -102,6 +102,27 @@ pub fn same(one: &[f64], other: &[f64]) -> bool {
     one.len() == other.len() && one.iter().zip(other).all(|(one, other)| one.to_bits() == other.to_bits())
 }
 
+/// The port alone on the tetrahedron, with about twice as many entries from line to line.
+pub fn growth() {
+    println!("growth of row lists (build_csr on K4, the port alone)");
+    let row = |words: [String; 5]| columns("", [3, 8, 9, 9, 13], words);
+    row(["L", "states", "entries", "port ms", "ns an entry"].map(String::from));
+    for lambda in [6, 8, 10, 13, 16, 20, 25, 32, 40, 50] {
+        let record = without_last(4, 0);
+        let (sheet, weights) = (sheet_with(&record, lambda), weights(&record));
+        let mut coupling = [0.0; 3];
+        assert_eq!(port::u1_params(G_SQUARED, &mut coupling), 0);
+        let (states, entries) = (port::count_states(&sheet) as usize, port::count_entries(&sheet) as usize);
+        let mut lists = Lists { states: vec![0; 6 * states], starts: vec![0; states + 1], columns: vec![0; entries], values: vec![0.0; entries] };
+        let port = milliseconds(|| {
+            let Lists { states, starts, columns, values } = black_box(&mut lists);
+            port::build_csr(black_box(&sheet), coupling, true, &weights, states, starts, columns, values)
+        });
+        let [states, entries_told] = [states, entries].map(|number| number.to_string());
+        row([lambda.to_string(), states, entries_told, format!("{port:.3}"), format!("{:.2}", 1e6 * port / entries as f64)]);
+    }
+}
+
 /// Both sides are given the Rust's row lists and a vector; the port judges them, the Rust does not and makes a fresh list for the product.
 pub fn products() {
     println!("products (the port judges the row lists and the vector each time; the Rust judges nothing)");
