@@ -35,8 +35,8 @@ use Rattle.observables.specs.Wilson.{path-of, stays, walked, with-reached, wils
 use Rattle.plaquettes.specs.Triangle.{hits, target, moved-state, sides-within}
 use Rattle.loops.specs.Parents.{parentsOf, climb, tree-path}
 use Rattle.loops.specs.Loops.{parents, path, loop-of, fundamental-loops}
-use Rattle.even_sets.specs.EvenSets.{chosen, meeting, even, su2-states, mask-place}
-use Rattle.masks.specs.Flips.{triangle-mask, flips}
+use Rattle.su2_even_sets.specs.EvenSets.{chosen, meeting, even, su2-states, mask-place}
+use Rattle.su2_masks.specs.Flips.{triangle-mask, flips}
 use Rattle.su2_quantum.specs.Dense.{su2-electric-entry, su2-entry, su2-dense}
 use Rattle.su2_loops.specs.Loop.{met, sign-of, su2-loop-sum, su2-expectation, path-right, loop-tests}
 use Rattle.lines.specs.Lines.{ascii, last-digits, decimal, signedText, valueText, valuesText, stateLine, stateLines, named, countsText, firstLine}

@@ -27,7 +27,7 @@ use Rattle.hamiltonian.specs.Dense.{u1-dense-tests}
 use Rattle.lanczos.specs.Matvec.{u1-product-tests}
 use Rattle.observables.specs.Electric.{electric-tests}
 use Rattle.observables.specs.Wilson.{wilson-tests}
-use Rattle.masks.specs.Basis.{su2-tests, su2-basis-tests}
+use Rattle.su2_masks.specs.Basis.{su2-tests, su2-basis-tests}
 use Rattle.su2_quantum.specs.Dense.{su2-dense-tests}
 use Rattle.refusals.specs.Sentences.{text-tests}
 use Rattle.rows.specs.Product.{product-tests}

@@ -24,7 +24,7 @@ use Rattle.observables.specs.Electric.{field-squares, electric-tests}
 use Rattle.observables.specs.Wilson.{path-of, wilson, wilson-tests}
 use Rattle.loops.specs.Walks.{Step}
 use Rattle.loops.specs.Loops.{fundamental-loops}
-use Rattle.even_sets.specs.EvenSets.{su2-states}
+use Rattle.su2_even_sets.specs.EvenSets.{su2-states}
 use Rattle.su2_quantum.specs.Dense.{su2-dense, su2-dense-tests}
 use Rattle.su2_loops.specs.Loop.{su2-expectation, su2-loop-tests}
 use Rattle.lines.specs.Lines.{ascii}

@@ -10,7 +10,7 @@ use Rattle.complex.specs.Complex.{Complex, complexOf}
 use Rattle.complex.specs.Judge.{refusal}
 use Rattle.complex.proofs.Accepting.{accepted}
 use Rattle.matrices.specs.declared.coupling.KSParams.{KSParams}
-use Rattle.even_sets.specs.EvenSets.{su2-states}
+use Rattle.su2_even_sets.specs.EvenSets.{su2-states}
 use Rattle.su2_rows.specs.Rows.{su2-entries, RowsKnown}
 use Rattle.su2_rows.specs.Entries.{entries-number, EntriesKnown}
 

@@ -12,7 +12,7 @@ use Rattle.mathematics.specs.Counting.{below, keep}
 use Rattle.complex.specs.Complex.{Complex, uncharged}
 use Rattle.complex.specs.Search.{touches}
 use Rattle.matrices.specs.Coupling.{float-of}
-use Rattle.even_sets.specs.EvenSets.{chosen, meeting, even, su2-states}
+use Rattle.su2_even_sets.specs.EvenSets.{chosen, meeting, even, su2-states}
 use Rattle.su2_loops.specs.Loop.{met, sign-of, su2-loop-sum, su2-expectation}
 
 triangle : Complex

@@ -21,8 +21,8 @@ use Rattle.mathematics.proofs.Bits.{bit-below, bit-of-zero, bit-power, bit-powe
 use Rattle.mathematics.proofs.Totals.{total, total-same, keep-total}
 use Rattle.complex.specs.Complex.{Complex}
 use Rattle.complex.specs.Judge.{Accepted}
-use Rattle.even_sets.specs.EvenSets.{chosen, su2-states}
-use Rattle.even_sets.proofs.EvenLists.{even-complete}
+use Rattle.su2_even_sets.specs.EvenSets.{chosen, su2-states}
+use Rattle.su2_even_sets.proofs.EvenLists.{even-complete}
 use Rattle.su2_loops.specs.Loop.{met, sign-of, su2-loop-sum, su2-expectation, path-mask, mask-sum}
 
 -- ---- bit by bit

@@ -17,8 +17,8 @@ use Rattle.complex.specs.Complex.{Complex}
 use Rattle.matrices.specs.Coupling.{float-of}
 use Rattle.matrices.specs.Weights.{bounded}
 use Rattle.gauss_law.specs.Listing.{limit}
-use Rattle.even_sets.specs.EvenSets.{chosen, su2-states}
-use Rattle.masks.specs.Basis.{su2-tests}
+use Rattle.su2_even_sets.specs.EvenSets.{chosen, su2-states}
+use Rattle.su2_masks.specs.Basis.{su2-tests}
 
 -- how many edges of the set x the path names; an edge named twice counts once
 unfoldable pub met : Complex → List ℕ → ℕ → ℕ

@@ -2,10 +2,10 @@
 use acceptance::judge;
 use answers::expectation::Expectation;
 use complex::SimplicialComplex;
-use even_sets::closing_loops;
-use masks::write_masks;
 use matrices::weights::all_bounded;
 use numbers::byte;
+use su2_even_sets::closing_loops;
+use su2_masks::write_masks;
 ghost use mathlib.Core.Path.{_≡_};
 ghost use Prim.Native.Nat.{ℕ, _<_, _≤_};
 ghost use lib.ListN.{getD, length};

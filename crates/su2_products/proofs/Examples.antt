@@ -14,8 +14,8 @@ use Rattle.complex.specs.Complex.{Complex, uncharged}
 use Rattle.complex.specs.Search.{touches}
 use Rattle.complex.specs.Sides.{sides, side}
 use Rattle.matrices.specs.Coupling.{float-of, su2-params}
-use Rattle.even_sets.specs.EvenSets.{chosen, meeting, even, su2-states, mask-place}
-use Rattle.masks.specs.Flips.{triangle-mask}
+use Rattle.su2_even_sets.specs.EvenSets.{chosen, meeting, even, su2-states, mask-place}
+use Rattle.su2_masks.specs.Flips.{triangle-mask}
 use Rattle.su2_rows.specs.Rows.{su2-diagonal}
 use Rattle.su2_products.specs.Product.{su2-electric-part, su2-product-at, su2-product}
 

@@ -18,11 +18,11 @@ use Rattle.complex.specs.Judge.{Accepted}
 use Rattle.matrices.specs.declared.coupling.KSParams.{KSParams}
 use Rattle.matrices.specs.Coupling.{float-of}
 use Rattle.matrices.specs.Squares.{energy}
-use Rattle.even_sets.specs.declared.Forest.{Forest}
-use Rattle.even_sets.specs.EvenSets.{su2-states}
-use Rattle.masks.specs.Flips.{su2-target}
-use Rattle.masks.proofs.Placing.{states-number}
-use Rattle.masks.proofs.Flips.{su2-target-read, flip-within}
+use Rattle.su2_even_sets.specs.declared.Forest.{Forest}
+use Rattle.su2_even_sets.specs.EvenSets.{su2-states}
+use Rattle.su2_masks.specs.Flips.{su2-target}
+use Rattle.su2_masks.proofs.Placing.{states-number}
+use Rattle.su2_masks.proofs.Flips.{su2-target-read, flip-within}
 use Rattle.su2_rows.specs.Rows.{su2-diagonal, Tables}
 use Rattle.rows.proofs.MadeRows.{map-each}
 use Rattle.su2_products.specs.Product.{su2-electric-part, su2-product-at, su2-product, listed-part, flip-part, listed-product-at, BlockFits, ProductOf}

@@ -18,11 +18,11 @@ use Rattle.matrices.specs.Coupling.{float-of, su2-right}
 use Rattle.matrices.specs.Weights.{weight, vector-tests}
 use Rattle.matrices.specs.Squares.{energy}
 use Rattle.gauss_law.specs.Listing.{limit}
-use Rattle.even_sets.specs.declared.Forest.{Forest}
-use Rattle.even_sets.specs.EvenSets.{su2-states}
-use Rattle.masks.specs.Basis.{su2-tests}
-use Rattle.masks.specs.Flips.{su2-target}
-use Rattle.masks.specs.Place.{LoopsOf}
+use Rattle.su2_even_sets.specs.declared.Forest.{Forest}
+use Rattle.su2_even_sets.specs.EvenSets.{su2-states}
+use Rattle.su2_masks.specs.Basis.{su2-tests}
+use Rattle.su2_masks.specs.Flips.{su2-target}
+use Rattle.su2_masks.specs.Place.{LoopsOf}
 use Rattle.su2_rows.specs.Rows.{su2-diagonal}
 
 -- from 0.0; the diagonal of state i × its amplitude is added

@@ -2,14 +2,14 @@
 use acceptance::judge;
 use answers::Answer;
 use complex::SimplicialComplex;
-use even_sets::Forest;
-use even_sets::closing_loops;
-use masks::write_masks;
 use matrices::coupling::KSParams;
 use matrices::coupling::is_su2;
 use matrices::electric::mask_energy;
 use matrices::weights::judge_vector;
 use numbers::smaller;
+use su2_even_sets::Forest;
+use su2_even_sets::closing_loops;
+use su2_masks::write_masks;
 use su2_rows::tables::write_tables;
 ghost use mathlib.Core.Path.{_≡_};
 ghost use mathlib.Core.List.{List, _++_, map};
@@ -23,7 +23,7 @@ ghost use Rattle.mathematics.specs.Calls.{Answered};
 ghost use Rattle.answers.specs.Answer.{numberAnswer};
 ghost use Rattle.complex.specs.Complex.{complexOf};
 ghost use Rattle.matrices.specs.Weights.{weight, Weighed};
-ghost use Rattle.even_sets.specs.EvenSets.{su2-states};
+ghost use Rattle.su2_even_sets.specs.EvenSets.{su2-states};
 ghost use Rattle.su2_products.specs.Product.{su2-product, su2-product-call, listed-part, flip-part, listed-product-at, BlockFits, ProductOf};
 
 // The electric parts of the states from a place on go into a block.

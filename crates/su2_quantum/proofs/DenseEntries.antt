@@ -17,12 +17,12 @@ use Rattle.matrices.specs.declared.coupling.KSParams.{KSParams}
 use Rattle.matrices.specs.Coupling.{float-of}
 use Rattle.matrices.specs.Matrix.{matrix-rows, Matrix, passed}
 use Rattle.matrices.proofs.Matrices.{matrix-is, matrix-same, passed-all}
-use Rattle.even_sets.specs.declared.Forest.{Forest}
-use Rattle.even_sets.specs.EvenSets.{su2-states, mask-place}
+use Rattle.su2_even_sets.specs.declared.Forest.{Forest}
+use Rattle.su2_even_sets.specs.EvenSets.{su2-states, mask-place}
 use Rattle.su2_quantum.specs.Dense.{su2-electric-entry, su2-entry, su2-dense, MatrixOf}
-use Rattle.masks.specs.Flips.{triangle-mask}
-use Rattle.masks.proofs.Placing.{states-number}
-use Rattle.masks.proofs.Flips.{flip-within, flips-told}
+use Rattle.su2_masks.specs.Flips.{triangle-mask}
+use Rattle.su2_masks.proofs.Placing.{states-number}
+use Rattle.su2_masks.proofs.Flips.{flip-within, flips-told}
 
 -- ---- a matrix with a row for each state
 module _ (c : Complex) (f : Forest) (n room : ℕ) (m : MatrixOf c f n room) where

@@ -11,10 +11,10 @@ use Rattle.complex.specs.Judge.{Accepted}
 use Rattle.matrices.specs.declared.coupling.KSParams.{KSParams}
 use Rattle.matrices.specs.Coupling.{float-of}
 use Rattle.matrices.proofs.Steps.{none-taken, one-taken}
-use Rattle.even_sets.specs.EvenSets.{su2-states}
-use Rattle.masks.specs.Flips.{flips}
+use Rattle.su2_even_sets.specs.EvenSets.{su2-states}
+use Rattle.su2_masks.specs.Flips.{flips}
 use Rattle.su2_quantum.specs.Dense.{su2-electric-entry, su2-entry}
-use Rattle.masks.proofs.Flips.{one-flip, never-flipped}
+use Rattle.su2_masks.proofs.Flips.{one-flip, never-flipped}
 
 module _ (c : Complex) (p : KSParams) (w : ℕ → Float) (i j : ℕ) where
   adds : ℕ → Float → Float

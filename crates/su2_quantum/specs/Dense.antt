@@ -14,11 +14,11 @@ use Rattle.matrices.specs.declared.coupling.KSParams.{KSParams}
 use Rattle.matrices.specs.Coupling.{float-of, su2-right}
 use Rattle.matrices.specs.Weights.{weight, weights-tests}
 use Rattle.matrices.specs.Matrix.{matrix-rows}
-use Rattle.even_sets.specs.declared.Forest.{Forest}
-use Rattle.even_sets.specs.EvenSets.{su2-states}
-use Rattle.masks.specs.Basis.{su2-tests}
-use Rattle.masks.specs.Flips.{flips}
-use Rattle.masks.specs.Place.{LoopsOf}
+use Rattle.su2_even_sets.specs.declared.Forest.{Forest}
+use Rattle.su2_even_sets.specs.EvenSets.{su2-states}
+use Rattle.su2_masks.specs.Basis.{su2-tests}
+use Rattle.su2_masks.specs.Flips.{flips}
+use Rattle.su2_masks.specs.Place.{LoopsOf}
 use Rattle.gauss_law.specs.Listing.{limit}
 use Rattle.matrices.specs.Squares.{energy}
 

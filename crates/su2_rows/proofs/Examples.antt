@@ -16,8 +16,8 @@ use Rattle.complex.specs.Sides.{sides, side}
 use Rattle.matrices.specs.Coupling.{float-of, su2-params}
 use Rattle.rows.specs.Row.{summed, entry, row-of}
 use Rattle.rows.specs.RowLists.{kept, rows-to, row-starts, row-columns}
-use Rattle.even_sets.specs.EvenSets.{chosen, meeting, even, su2-states, mask-place}
-use Rattle.masks.specs.Flips.{triangle-mask, flips}
+use Rattle.su2_even_sets.specs.EvenSets.{chosen, meeting, even, su2-states, mask-place}
+use Rattle.su2_masks.specs.Flips.{triangle-mask, flips}
 use Rattle.su2_rows.specs.Rows.{su2-diagonal, su2-given, su2-row}
 
 triangle : Complex

@@ -15,10 +15,10 @@ use Rattle.matrices.specs.declared.coupling.KSParams.{KSParams}
 use Rattle.matrices.specs.Weights.{weights-tests}
 use Rattle.rows.specs.RowLists.{rows-to, RowsWritten}
 use Rattle.rows.proofs.MadeRows.{rows-agree, written-agree}
-use Rattle.even_sets.specs.declared.Forest.{Forest}
-use Rattle.even_sets.specs.EvenSets.{su2-states}
-use Rattle.masks.proofs.Placing.{states-number}
-use Rattle.masks.proofs.Flips.{flip-within}
+use Rattle.su2_even_sets.specs.declared.Forest.{Forest}
+use Rattle.su2_even_sets.specs.EvenSets.{su2-states}
+use Rattle.su2_masks.proofs.Placing.{states-number}
+use Rattle.su2_masks.proofs.Flips.{flip-within}
 use Rattle.su2_rows.specs.Rows.{su2-row, su2-entries, table-rows, Tables, RowsFit, RowsOf}
 use Rattle.su2_rows.proofs.RowLengths.{entries-number}
 use Rattle.su2_rows.proofs.TableRows.{table-below, table-row-is}

@@ -27,11 +27,11 @@ use Rattle.matrices.specs.Coupling.{su2-right}
 use Rattle.rows.specs.Row.{entry, row-of}
 use Rattle.rows.specs.RowLists.{kept, rows-to}
 use Rattle.rows.proofs.RowsWritten.{rows-length}
-use Rattle.even_sets.specs.EvenSets.{su2-states}
-use Rattle.even_sets.proofs.EvenLists.{even-complete}
-use Rattle.even_sets.proofs.Degrees.{even-zero}
-use Rattle.masks.specs.Flips.{flips, su2-joined}
-use Rattle.masks.proofs.Flips.{never-flipped, su2-joined-count}
+use Rattle.su2_even_sets.specs.EvenSets.{su2-states}
+use Rattle.su2_even_sets.proofs.EvenLists.{even-complete}
+use Rattle.su2_even_sets.proofs.Degrees.{even-zero}
+use Rattle.su2_masks.specs.Flips.{flips, su2-joined}
+use Rattle.su2_masks.proofs.Flips.{never-flipped, su2-joined-count}
 use Rattle.su2_rows.specs.Rows.{su2-diagonal, su2-given, su2-row, su2-entries}
 use Rattle.su2_rows.proofs.KeptDiagonals.{energy-kept, no-energy}
 

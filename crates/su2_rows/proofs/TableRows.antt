@@ -25,12 +25,12 @@ use Rattle.matrices.specs.Squares.{energy}
 use Rattle.rows.specs.Row.{values-at, entry, row-of}
 use Rattle.rows.specs.RowLists.{kept, made-rows}
 use Rattle.rows.proofs.Columns.{values-append}
-use Rattle.even_sets.specs.declared.Forest.{Forest}
-use Rattle.even_sets.specs.EvenSets.{su2-states, mask-place}
-use Rattle.masks.specs.Flips.{triangle-mask, flips}
-use Rattle.masks.specs.Place.{LoopsOf}
-use Rattle.masks.proofs.Placing.{states-number}
-use Rattle.masks.proofs.Flips.{flips-told, flip-within}
+use Rattle.su2_even_sets.specs.declared.Forest.{Forest}
+use Rattle.su2_even_sets.specs.EvenSets.{su2-states, mask-place}
+use Rattle.su2_masks.specs.Flips.{triangle-mask, flips}
+use Rattle.su2_masks.specs.Place.{LoopsOf}
+use Rattle.su2_masks.proofs.Placing.{states-number}
+use Rattle.su2_masks.proofs.Flips.{flips-told, flip-within}
 use Rattle.rows.proofs.MadeRows.{map-each}
 use Rattle.su2_rows.specs.Rows.{su2-diagonal, su2-given, su2-row, table-entries, table-rows, Tables}
 

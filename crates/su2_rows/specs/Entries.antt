@@ -9,8 +9,8 @@ use Rattle.complex.specs.Complex.{Complex}
 use Rattle.matrices.specs.declared.coupling.KSParams.{KSParams}
 use Rattle.matrices.specs.Coupling.{su2-right}
 use Rattle.gauss_law.specs.Listing.{limit}
-use Rattle.even_sets.specs.EvenSets.{su2-states}
-use Rattle.masks.specs.Basis.{su2-tests}
+use Rattle.su2_even_sets.specs.EvenSets.{su2-states}
+use Rattle.su2_masks.specs.Basis.{su2-tests}
 use Rattle.su2_rows.specs.Rows.{su2-entries}
 
 -- one for each state and triangle, and one for each state on the diagonal, all but the first, which has no edge

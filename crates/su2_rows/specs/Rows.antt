@@ -19,11 +19,11 @@ use Rattle.matrices.specs.Squares.{energy}
 use Rattle.rows.specs.Row.{values-at, row-of, RowOf}
 use Rattle.rows.specs.RowLists.{kept, rows-to, row-starts, row-columns, row-values, RowAppended, made-rows, AllRowsFit}
 use Rattle.gauss_law.specs.Listing.{limit}
-use Rattle.even_sets.specs.declared.Forest.{Forest}
-use Rattle.even_sets.specs.EvenSets.{su2-states, mask-place}
-use Rattle.masks.specs.Basis.{su2-tests}
-use Rattle.masks.specs.Flips.{triangle-mask, flips}
-use Rattle.masks.specs.Place.{LoopsOf}
+use Rattle.su2_even_sets.specs.declared.Forest.{Forest}
+use Rattle.su2_even_sets.specs.EvenSets.{su2-states, mask-place}
+use Rattle.su2_masks.specs.Basis.{su2-tests}
+use Rattle.su2_masks.specs.Flips.{triangle-mask, flips}
+use Rattle.su2_masks.specs.Place.{LoopsOf}
 
 -- the electric factor times the number of edges in state i
 unfoldable pub su2-diagonal : Complex → KSParams → ℕ → Float

@@ -4,12 +4,12 @@ use crate::tables::write_tables;
 use acceptance::judge;
 use answers::Answer;
 use complex::SimplicialComplex;
-use even_sets::Forest;
-use even_sets::closing_loops;
-use masks::write_masks;
 use matrices::coupling::KSParams;
 use matrices::coupling::is_su2;
 use matrices::weights::judge_weights;
+use su2_even_sets::Forest;
+use su2_even_sets::closing_loops;
+use su2_masks::write_masks;
 ghost use mathlib.Core.Path.{_≡_};
 ghost use mathlib.Core.List.{List, _++_};
 ghost use Prim.Native.Nat.{ℕ};
@@ -19,7 +19,7 @@ ghost use Rattle.answers.specs.Answer.{numberAnswer};
 ghost use Rattle.complex.specs.Complex.{complexOf};
 ghost use Rattle.matrices.specs.Weights.{weight, Weighed};
 ghost use Rattle.rows.specs.RowLists.{RowsWritten};
-ghost use Rattle.even_sets.specs.EvenSets.{su2-states};
+ghost use Rattle.su2_even_sets.specs.EvenSets.{su2-states};
 ghost use Rattle.su2_rows.specs.Rows.{su2-row, su2-entries, su2-rows-call, RowsOf};
 
 // The rows of all states go to the beginning of three lists. Another list begins with the states.

@@ -2,7 +2,7 @@
 use acceptance::judge;
 use answers::Answer;
 use complex::SimplicialComplex;
-use even_sets::closing_loops;
+use su2_even_sets::closing_loops;
 ghost use Rattle.mathematics.specs.Calls.{Answered, none-lent};
 ghost use Rattle.answers.specs.Answer.{numberAnswer};
 ghost use Rattle.complex.specs.Complex.{complexOf};

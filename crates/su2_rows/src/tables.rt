@@ -1,16 +1,16 @@
 // What all rows need of each triangle, found once.
 use complex::SimplicialComplex;
-use even_sets::Forest;
-use masks::flip::triangle_place;
 use matrices::coupling::KSParams;
 use matrices::weights::weight_of;
+use su2_even_sets::Forest;
+use su2_masks::flip::triangle_place;
 use triangles::all_sides;
 use triangles::sides_at;
 ghost use Prim.Native.Nat.{_≤_};
 ghost use lib.ListN.{length};
 ghost use Rattle.complex.specs.Complex.{complexOf};
 ghost use Rattle.matrices.specs.Weights.{weight, Weighed};
-ghost use Rattle.masks.specs.Place.{LoopsOf};
+ghost use Rattle.su2_masks.specs.Place.{LoopsOf};
 ghost use Rattle.su2_rows.specs.Rows.{Tables};
 
 // The place of each triangle's edges, and its magnetic factor × weight.

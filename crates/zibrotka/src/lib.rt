@@ -44,7 +44,7 @@ ghost use Rattle.shifts.specs.Shift.{shift-call};
 ghost use Rattle.matrices.specs.Coupling.{coupling-call, u1-params, su2-params};
 ghost use Rattle.plaquettes.specs.Triangle.{triangle-call};
 ghost use Rattle.hamiltonian.specs.Dense.{u1-dense-call};
-ghost use Rattle.masks.specs.Basis.{su2-basis-call, su2-counted-call};
+ghost use Rattle.su2_masks.specs.Basis.{su2-basis-call, su2-counted-call};
 ghost use Rattle.su2_quantum.specs.Dense.{su2-dense-call};
 ghost use Rattle.rows.specs.Product.{product-call};
 ghost use Rattle.su2_rows.specs.Rows.{su2-rows-call};

@@ -13,10 +13,10 @@ use Rattle.complex.specs.Complex.{complexOf}
 use Rattle.complex.specs.Judge.{refusal}
 use Rattle.complex.proofs.Refusing.{record-refuses}
 use Rattle.gauss_law.proofs.Spanned.{edges-long}
-use Rattle.even_sets.specs.EvenSets.{su2-states}
-use Rattle.masks.specs.Place.{LoopsOf}
-use Rattle.masks.proofs.Placing.{loops-of, states-number, masks-are}
-use Rattle.masks.proofs.Telling.{limit-refuses, past-masks, masks-known, masks-written}
+use Rattle.su2_even_sets.specs.EvenSets.{su2-states}
+use Rattle.su2_masks.specs.Place.{LoopsOf}
+use Rattle.su2_masks.proofs.Placing.{loops-of, states-number, masks-are}
+use Rattle.su2_masks.proofs.Telling.{limit-refuses, past-masks, masks-known, masks-written}
 use Rattle.su2_loops.specs.Loop.{loop-tests, su2-loop-call}
 use Rattle.su2_loops.proofs.Judging.{loop-fits, loop-refuses, past-loop}
 use Rattle.su2_loops.proofs.Shared.{sum-told}

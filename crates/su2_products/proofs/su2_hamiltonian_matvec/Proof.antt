@@ -15,12 +15,12 @@ use Rattle.complex.proofs.Refusing.{record-refuses}
 use Rattle.matrices.specs.Coupling.{su2-right}
 use Rattle.matrices.specs.Weights.{vector-tests}
 use Rattle.matrices.proofs.Vectors.{vector-refuses, past-vector, weights-fit, vector-fits}
-use Rattle.even_sets.specs.EvenSets.{su2-states}
-use Rattle.masks.specs.Place.{LoopsOf}
+use Rattle.su2_even_sets.specs.EvenSets.{su2-states}
+use Rattle.su2_masks.specs.Place.{LoopsOf}
 use Rattle.triangles.proofs.SidesFound.{triangles-long}
 use Rattle.answers.specs.Answer.{numberAnswer}
-use Rattle.masks.proofs.Placing.{loops-of, states-number, masks-are}
-use Rattle.masks.proofs.Telling.{limit-refuses, past-masks, masks-known, masks-written}
+use Rattle.su2_masks.proofs.Placing.{loops-of, states-number, masks-are}
+use Rattle.su2_masks.proofs.Telling.{limit-refuses, past-masks, masks-known, masks-written}
 use Rattle.su2_products.specs.Product.{su2-product-call}
 use Rattle.su2_products.proofs.Telling.{long-enough}
 use borrow.Author.Needs.{needs}

@@ -12,7 +12,7 @@ use Rattle.triangles.proofs.AllSides.{own-sides}
 use Rattle.matrices.specs.Weights.{weight}
 use Rattle.matrices.specs.Matrix.{Matrix}
 use Rattle.matrices.proofs.Weighing.{weight-there}
-use Rattle.masks.proofs.Placing.{loops-readable}
+use Rattle.su2_masks.proofs.Placing.{loops-readable}
 use Rattle.su2_quantum.specs.Dense.{su2-electric-entry, su2-entry, MatrixOf}
 use Rattle.su2_quantum.proofs.DenseEntries.{rows-number, rows-few, flips-within, triangle-matrix}
 use borrow.Author.Needs.{needs}

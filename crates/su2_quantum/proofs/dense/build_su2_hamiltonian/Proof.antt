@@ -15,12 +15,12 @@ use Rattle.complex.specs.Judge.{refusal}
 use Rattle.complex.proofs.Refusing.{record-refuses}
 use Rattle.matrices.specs.Coupling.{su2-right}
 use Rattle.matrices.specs.Weights.{weights-tests}
-use Rattle.masks.specs.Place.{LoopsOf}
+use Rattle.su2_masks.specs.Place.{LoopsOf}
 use Rattle.triangles.proofs.SidesFound.{triangles-long}
 use Rattle.answers.specs.Answer.{numberAnswer}
 use Rattle.matrices.proofs.Weighing.{weights-fit, weights-refuse, past-weights}
-use Rattle.masks.proofs.Placing.{loops-of, states-number, masks-are}
-use Rattle.masks.proofs.Telling.{limit-refuses, past-masks, masks-known, masks-written}
+use Rattle.su2_masks.proofs.Placing.{loops-of, states-number, masks-are}
+use Rattle.su2_masks.proofs.Telling.{limit-refuses, past-masks, masks-known, masks-written}
 use Rattle.su2_quantum.specs.Dense.{su2-dense-call}
 use Rattle.su2_quantum.proofs.DenseTelling.{long-enough}
 use borrow.Author.Needs.{needs}

@@ -4,7 +4,7 @@ use native.Mathlib.Omega.{arith}
 use lib.ListN.{length, length-append}
 use Rattle.complex.specs.Complex.{complexOf}
 use Rattle.matrices.specs.Coupling.{float-of}
-use Rattle.even_sets.specs.EvenSets.{su2-states}
+use Rattle.su2_even_sets.specs.EvenSets.{su2-states}
 use Rattle.su2_quantum.proofs.DenseEntries.{rows-number, rows-few, electric-matrix, matrix-written}
 use borrow.Author.Needs.{needs}
 use Rattle.su2_quantum.proofs.dense.write_matrix.Statement.{statement}

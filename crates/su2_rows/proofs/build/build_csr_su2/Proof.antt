@@ -14,12 +14,12 @@ use Rattle.complex.specs.Judge.{refusal}
 use Rattle.complex.proofs.Refusing.{record-refuses}
 use Rattle.matrices.specs.Coupling.{su2-right}
 use Rattle.matrices.specs.Weights.{weight, weights-tests}
-use Rattle.masks.specs.Place.{LoopsOf}
+use Rattle.su2_masks.specs.Place.{LoopsOf}
 use Rattle.triangles.proofs.SidesFound.{triangles-long}
 use Rattle.answers.specs.Answer.{numberAnswer}
 use Rattle.matrices.proofs.Weighing.{weights-fit, weights-refuse, past-weights}
-use Rattle.masks.proofs.Placing.{loops-of, states-number, masks-are}
-use Rattle.masks.proofs.Telling.{limit-refuses, past-masks, masks-known, masks-written}
+use Rattle.su2_masks.proofs.Placing.{loops-of, states-number, masks-are}
+use Rattle.su2_masks.proofs.Telling.{limit-refuses, past-masks, masks-known, masks-written}
 use Rattle.rows.proofs.MadeRows.{long-enough, coupling-fits, lists-are}
 use Rattle.su2_rows.specs.Rows.{su2-entries, su2-rows-call}
 use Rattle.su2_rows.proofs.RowLengths.{entries-number}

@@ -9,9 +9,9 @@ use Rattle.complex.specs.Judge.{refusal}
 use Rattle.complex.proofs.Refusing.{record-refuses}
 use Rattle.triangles.proofs.SidesFound.{triangles-long}
 use Rattle.answers.specs.Answer.{numberAnswer}
-use Rattle.masks.specs.Place.{LoopsOf}
-use Rattle.masks.proofs.Placing.{loops-of, states-number}
-use Rattle.masks.proofs.Telling.{limit-refuses, past-masks, masks-known}
+use Rattle.su2_masks.specs.Place.{LoopsOf}
+use Rattle.su2_masks.proofs.Placing.{loops-of, states-number}
+use Rattle.su2_masks.proofs.Telling.{limit-refuses, past-masks, masks-known}
 use Rattle.su2_rows.specs.Entries.{entries-number, su2-entries-call}
 use Rattle.su2_rows.proofs.ListedRows.{entries-few}
 use Rattle.su2_rows.proofs.RowLengths as lengths

@@ -10,8 +10,8 @@ use Rattle.triangles.proofs.SidesFound.{triangles-long, sides-below}
 use Rattle.triangles.proofs.AllSides.{own-sides}
 use Rattle.matrices.specs.Weights.{weight}
 use Rattle.matrices.proofs.Weighing.{weight-there}
-use Rattle.masks.specs.Place.{LoopsOf}
-use Rattle.masks.proofs.Placing.{loops-readable}
+use Rattle.su2_masks.specs.Place.{LoopsOf}
+use Rattle.su2_masks.proofs.Placing.{loops-readable}
 use Rattle.su2_rows.specs.Rows.{Tables}
 use Rattle.su2_rows.proofs.TableRows.{place-few, table-more}
 use borrow.Author.Needs.{needs}
