@@ -265,19 +265,18 @@ def call_picture():
 
 
 def main():
-    made = {"crates.svg": crates_picture(), "call.svg": call_picture()}
-    wrong = []
-    for name, picture in made.items():
+    wrong = 0
+    for name, picture in (("crates.svg", crates_picture()), ("call.svg", call_picture())):
         path = os.path.join(docs, name)
-        if sys.argv[1:] == ["--check"]:
-            if not os.path.exists(path) or open(path, encoding="utf-8").read() != picture:
-                wrong.append(name)
-        else:
+        if sys.argv[1:] != ["--check"]:
             with open(path, "w", encoding="utf-8") as f:
                 f.write(picture)
-    for name in wrong:
-        print(f"docs/{name} is not what docs/picture.py makes: run it")
-    return 1 if wrong else 0
+            continue
+        with open(path, encoding="utf-8") as f:
+            if f.read() != picture:
+                wrong = 1
+                print(f"docs/{name} is not what docs/picture.py makes: run it")
+    return wrong
 
 
 if __name__ == "__main__":
