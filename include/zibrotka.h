@@ -267,7 +267,6 @@ int64_t zibrotka_build_csr_su2(const uint8_t *sheet, size_t sheet_len,
 int64_t zibrotka_su2_count_entries(const uint8_t *sheet, size_t sheet_len);
 
 /*
- * The number of entries that zibrotka_build_csr writes, whatever the coupling and the weights are: for each state one for each triangle and
  * The product of the matrix of zibrotka_build_su2_hamiltonian with a vector of n amplitudes, one for each mask, without a matrix. From 0.0,
  * (`electric` times the number of edges in the set) times the set's own amplitude is added; then each triangle by rising number adds
  * (`magnetic` times its weight) times the amplitude of the mask that it flips to. n sums go to the front of `result`, the masks to that of
