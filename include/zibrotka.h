@@ -1,7 +1,7 @@
 /*
  * Gauge-invariant states on a triangle complex: the calls of libzibrotka.a.
  *
- * Every call answers one signed number: its value, or minus one of the refusals below. A call that refuses leaves every lent list and
+ * Every call but zibrotka_release answers one signed number: its value, or minus one of the refusals below. A call that refuses leaves every lent list and
  * number as it was; one that succeeds changes no entry of a list beyond its result. Each call judges its whole input itself.
  *
  * A list is a pointer and a length. An empty one may be NULL with length 0. What a call writes to must not overlap anything else that
@@ -48,9 +48,9 @@ enum zibrotka_refusal {
     ZIBROTKA_PENTACHORON = 11,
     /* a list does not have the length that it must have */
     ZIBROTKA_LENGTH = 12,
-    /* a number is outside its range: no such edge, triangle or state, or a direction that is not 1 or -1 */
+    /* a number is outside its range: no such edge, triangle, state, column or refusal, starts that do not run from 0 to the number of entries, or a direction that is not 1 or -1 */
     ZIBROTKA_NUMBER = 13,
-    /* a float is outside its range, or a coupling record's factors are not those of its coupling */
+    /* a float is outside its range, or a coupling record's factors are not those of its coupling in the mode of the call */
     ZIBROTKA_FLOAT = 14,
     /* a list for the result, or a work list, is too short */
     ZIBROTKA_ROOM = 15,
@@ -59,6 +59,10 @@ enum zibrotka_refusal {
     /* the configuration is not in the basis */
     ZIBROTKA_NOT_LISTED = 17
 };
+
+/* The version that this header belongs to, as one number: 10000 times the first part, plus 100 times the second, plus the third. */
+#define ZIBROTKA_RELEASE 10000
+#define ZIBROTKA_RELEASE_TEXT "1.0.0"
 
 /* The longest flat lists that a sheet can hold. */
 #define ZIBROTKA_EDGE_BYTES 126
@@ -144,7 +148,7 @@ int64_t zibrotka_check_gauss_law(const uint8_t *sheet, size_t sheet_len, const i
 int64_t zibrotka_enumerate_gauge_invariant(const uint8_t *sheet, size_t sheet_len, int32_t *states, size_t states_len);
 
 /*
- * The number of states that zibrotka_enumerate_gauge_invariant lists, without a list: minus one of 1 to 10, or at least 1.
+ * The number of states that zibrotka_enumerate_gauge_invariant lists, without a list. Answers it, at least 1, or minus one of 1 to 10.
  */
 int64_t zibrotka_count_states(const uint8_t *sheet, size_t sheet_len);
 
@@ -187,7 +191,7 @@ int64_t zibrotka_apply_triangle_shift(const uint8_t *sheet, size_t sheet_len,
 int64_t zibrotka_su2_basis(const uint8_t *sheet, size_t sheet_len, uint64_t *states, size_t states_len);
 
 /*
- * The number of masks that zibrotka_su2_basis lists, without a list: minus one of 1 to 10, or at least 1.
+ * The number of masks that zibrotka_su2_basis lists, without a list. Answers it, at least 1, or minus one of 1 to 10.
  */
 int64_t zibrotka_su2_count_states(const uint8_t *sheet, size_t sheet_len);
 
@@ -231,9 +235,9 @@ int64_t zibrotka_build_su2_hamiltonian(const uint8_t *sheet, size_t sheet_len,
 
 /*
  * The matrix of zibrotka_build_hamiltonian as row lists, over the same n states. A row holds `electric` times the sum of squares of its
- * state on the diagonal where that is not 0, and for each triangle that shifts its state to another or another to it (`magnetic` times 0.5)
- * times its weight, 0 or not; columns rise. n + 1 starts go to the front of `starts`: where each row begins, and where the last one ends.
- * The columns and values of all rows, one after the other, go to the fronts of `columns` and `values`, the states to that of `states`. The
+ * state on the diagonal, where that is not 0. For each triangle that shifts its state to another, or another to it, it holds in that other
+ * state's column (`magnetic` times 0.5) times the triangle's weight, also where that is 0. Columns rise. n + 1 starts go to the front of
+ * `starts`: where each row begins, and where the last one ends. The columns and values of all rows, one after the other, go to the fronts of `columns` and `values`, the states to that of `states`. The
  * coupling and the weights come as there. Answers the number of entries, which zibrotka_count_entries tells too, or minus one of 1 to 10,
  * 12, 14 or 15 (fewer than n times E entries in `states`, than n + 1 in `starts`, or than the entries in `columns` or in `values`).
  */
@@ -247,8 +251,8 @@ int64_t zibrotka_build_csr(const uint8_t *sheet, size_t sheet_len,
 
 /*
  * The matrix of zibrotka_build_su2_hamiltonian as row lists, over the same n masks. A row holds `electric` times the number of edges in its
- * set on the diagonal where that is not 0, and for each triangle `magnetic` times its weight, 0 or not; entries of one column are added in
- * this order, triangles by rising number, and columns rise. n + 1 starts go to the front of `starts`: where each row begins, and where the
+ * set on the diagonal where that is not 0, and for each triangle, in the column of the mask that it flips to, `magnetic` times its weight,
+ * also where that is 0. Columns rise. n + 1 starts go to the front of `starts`: where each row begins, and where the
  * last one ends. The columns and values of all rows, one after the other, go to the fronts of `columns` and `values`, the masks to that of
  * `states`. The coupling and the weights come as there. Answers the number of entries, which is (T + 1) times n less 1, or minus one of 1
  * to 10, 12, 14 or 15 (fewer than n entries in `states`, than n + 1 in `starts`, or than the entries in `columns` or in `values`).
@@ -361,6 +365,9 @@ int64_t zibrotka_matvec(const uint32_t *starts, size_t starts_len,
  * end. Answers the number of bytes written, 1 to 200, or minus 13 (no refusal has the number) or 15 (fewer bytes than the sentence).
  */
 int64_t zibrotka_refusal_text(uint64_t number, uint8_t *text, size_t text_len);
+
+/* The version of the library. It is ZIBROTKA_RELEASE where the library and this header belong together. */
+uint64_t zibrotka_release(void);
 
 #ifdef __cplusplus
 }

@@ -747,6 +747,8 @@ static int texts(void)
     const char *leaves = "a shifted edge leaves -L to L";
     uint8_t text[ZIBROTKA_TEXT_BYTES + 8];
 
+    CHECK(zibrotka_release() == ZIBROTKA_RELEASE);
+
     memset(text, 0xEE, sizeof text);
     CHECK(zibrotka_refusal_text(0, text, sizeof text) == -ZIBROTKA_NUMBER);
     CHECK(zibrotka_refusal_text(18, text, sizeof text) == -ZIBROTKA_NUMBER);

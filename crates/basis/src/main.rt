@@ -165,7 +165,7 @@ fn run(words: usize) -> Status {
             return help();
         }
         if is_word(1, b"--version") {
-            return tell(b"basis 0.3, of Zibrotka\n");
+            return tell(b"basis 1.0.0, of Zibrotka\n");
         }
     }
     usage(words)

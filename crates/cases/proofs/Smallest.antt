@@ -1,5 +1,5 @@
--- The number that a call refuses with is the smallest that holds, since the numbers of its tests rise. (From pentachora they do not: the scope
--- paper gives that call an order of its own.)
+-- The number that a call refuses with is the smallest that holds, since the numbers of its tests rise. (From pentachora they do not: that call has an
+-- order of its own.)
 use Prim.Native.Nat.{ℕ}
 use mathlib.Core.List.{List}
 use mathlib.Core.Bool.{Bool}

@@ -1,4 +1,4 @@
--- The worked cases of the scope paper that it asks to have proved, as one table of expected values.
+-- The starred cases of docs/SCOPE.md, as one table of expected values.
 use Prim.Native.Nat.{ℕ}
 use Prim.Native.String.{String}
 use mathlib.Core.List.{List, [], _∷_, map, flatten}

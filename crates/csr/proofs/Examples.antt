@@ -22,6 +22,7 @@ use Rattle.plaquettes.specs.Triangle.{moved-state, sides-within, target, hits}
 use Rattle.plaquettes.specs.Joined.{staying}
 use Rattle.csr.specs.Csr.{diagonal, kept-diagonal, given-values, csr-row}
 use Rattle.csr.specs.Count.{row-count, over-states}
+use Rattle.csr.specs.Entries.{triangle-hits, hits-number}
 
 triangle : Complex
 triangle = record { vertices = 3; edges = (0 ∷ 1 ∷ []) ∷ (0 ∷ 2 ∷ []) ∷ (1 ∷ 2 ∷ []) ∷ []; triangles = (0 ∷ 1 ∷ 2 ∷ []) ∷ []; charges = uncharged }
@@ -44,3 +45,8 @@ values-are = refl
 six : over-states (row-count triangle 1 (u1-params (float-of 1))) (states triangle 1) ≡ 6
 unfolding triangle over-states row-count staying diagonal kept squares u1-params float-of add mul div neg ofInt ofBits lt sides-within triangle-move shifted raised side sides choose same position every-entry within states listing tree-edges free-edges values placed lawful gauss flow equal listed every below keep counted flatMap search served serve scan look touches across
 six = refl
+
+-- 6 = 3 - 1 + 2 × 2
+two-hits : hits-number triangle 1 ≡ 2
+unfolding triangle hits-number triangle-hits hits target moved-state sides-within triangle-move shifted raised side sides choose same position every-entry within place comes-before smaller decided states listing tree-edges free-edges values placed lawful gauss flow equal listed every below keep counted flatMap search served serve scan look touches across
+two-hits = refl

@@ -10,3 +10,4 @@ pub mod FirstWords
 pub mod Examples
 pub mod KeptDiagonals
 pub mod EntryNumbers
+pub mod HitsCounted

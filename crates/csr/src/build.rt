@@ -1,5 +1,5 @@
 // The U(1) Hamiltonian as row lists.
-use crate::count::count_entries;
+use crate::count::count_rows;
 use crate::fill::write_rows;
 use crate::words::write_numbers;
 use crate::words::write_starts;
@@ -106,7 +106,7 @@ pub fn build_csr(
     let blocks = basis.blocks;
     let n = count_states(w, lambda, blocks);
     let all = all_sides(c);
-    let entries = count_entries(w, lambda, blocks, &all, c.n_triangles);
+    let entries = count_rows(w, lambda, blocks, &all, c.n_triangles);
     if (states.len() < n * w.n_edges)
         | ((starts.len() < n + 1) | ((columns.len() < entries) | (values.len() < entries)))
     {

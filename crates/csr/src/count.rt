@@ -99,7 +99,7 @@ fn count_walked(
 }
 
 // How many entries the rows of all states have, n the number of the triangles whose edges are listed.
-pub fn count_entries(w: Walker, lambda: usize, blocks: usize, all: &[u8; 768], n: usize) -> usize
+pub fn count_rows(w: Walker, lambda: usize, blocks: usize, all: &[u8; 768], n: usize) -> usize
     requires { ⌜ Fit w lambda blocks × AllCountable lambda (states-of w lambda blocks) (now all) n ⌝ }
     ensures { λ r. ⌜ r ≡ over-states (row-entries lambda (now (all .entry)) n) (states-of w lambda blocks) ⌝ }
 {

@@ -1,4 +1,5 @@
 // How many entries the row lists have.
+use crate::count::count_rows;
 use answers::Answer;
 use complex::SimplicialComplex;
 use enumeration::prepare_basis;
@@ -8,8 +9,7 @@ ghost use Rattle.answers.specs.Answer.{numberAnswer};
 ghost use Rattle.complex.specs.Complex.{complexOf};
 ghost use Rattle.csr.specs.Entries.{entries-call};
 
-// How many entries the row lists of a record have, whatever the coupling and the weights are.
-// The record is judged first.
+// How many entries the row lists of a record have, whatever the coupling and the weights are. The record is judged first.
 pub fn count_entries(c: SimplicialComplex, lambda: usize) -> Answer
     ensures { λ r. ⌜ Answered (entries-call (complexOf c) lambda) (numberAnswer r) none-lent ⌝ }
 {
@@ -20,6 +20,6 @@ pub fn count_entries(c: SimplicialComplex, lambda: usize) -> Answer
     }
     let all = all_sides(c);
     let n = c.n_triangles;
-    let entries = crate::count::count_entries(basis.walker, lambda, basis.blocks, &all, n);
+    let entries = count_rows(basis.walker, lambda, basis.blocks, &all, n);
     Answer::Number(entries)
 }

@@ -1,6 +1,7 @@
 -- The states still to come, one less with each step.
 use Prim.Native.Nat.{ℕ, zero, suc, _+_, _-_, _^_, _≤_, _<_}
 use mathlib.Core.List.{List, [], _∷_, _++_, map, map-append, append-nil, append-assoc}
+use mathlib.Core.Bool.{Bool}
 use mathlib.Core.Path.{_≡_, refl, sym, ap, _∙_}
 use native.Mathlib.Omega.{arith}
 use native.Mathlib.Numerals.{add-one}
@@ -14,6 +15,7 @@ use Rattle.walker.specs.declared.blocks.Span.{Span}
 use Rattle.walker.specs.Walker.{stepped, block-rows, block, width, walked, walked-states}
 use Rattle.walker.specs.Steps.{Small, Addable, CyclesFit, FreeFit, Walkable}
 use Rattle.walker.specs.Blocks.{SpanOfBlock}
+use Rattle.walker.specs.Edges.{Edges}
 use Rattle.walker.proofs.BlockRows.{rows-none, rows-length}
 use Rattle.walker.proofs.BlockValues.{row-small}
 use Rattle.walker.proofs.Stepping.{cycle-long, cycle-signs}
@@ -57,6 +59,14 @@ module _ (free : List ℕ) (cycle : ℕ → List ℤ) (L n : ℕ) (s : List ℤ)
       states-suc s (suc k)
       ∙ rw (states-shift k, walked-shift k) (append-assoc b (walked-states free cycle L n next k) _)
       ∙ ap (λ l. b ++ l) (sym (states-suc next k))
+
+-- ---- the first cycle as a part of the table
+pub cycle-part-long : (free : List ℕ) (cycles : List ℤ) (L n : ℕ) (s : List ℤ) (k : ℕ) → Walkable free cycles L n s k → length (take (length s - 0) cycles) ≡ length s
+cycle-part-long free cycles L n s k fit = rw (sub-zero (length s)) (cycle-long (length s) n L cycles (fit .cycles-fit) 0 (omega arith))
+
+-- its edges of one kind
+pub edges-here : {z : List ℤ} {still : Bool} {list : List ℕ} {count m : ℕ} → length z ≡ m → Edges z still (length z) list count → Edges z still m list count
+edges-here long h = rw long at h
 
 -- ---- at a block, as the code has it
 module _ (free : List ℕ) (cycles : List ℤ) (L n : ℕ) (s : List ℤ) (left : ℕ) (fit : Walkable free cycles L n s left) (more : 0 < left) where

@@ -3,10 +3,13 @@ use crate::first_state;
 use crate::next_block;
 use numbers::sizes::MOST_EDGES;
 use numbers::usize_to_i32;
-use walker::blocks::interval;
 use walker::blocks::size;
 use walker::blocks::width;
-use walker::blocks::write_block;
+use walker::edges::block_span;
+use walker::edges::edges_of;
+use walker::rows::rows_ahead;
+use walker::rows::rows_at_once;
+use walker::rows::write_rows;
 use walker::steps::add;
 use walker::steps::step;
 ghost use mathlib.Core.Path.{_≡_};
@@ -31,11 +34,28 @@ pub fn count_blocks(
     ensures { λ r. ⌜ r ≡ length (walked-states (now (free .entry)) (row (length (now (config .entry))) (now (cycles .entry))) lambda «n_free» (now (config .entry)) blocks) ⌝ }
 {
     let n = width(n_free, lambda);
+    let edges = config.len();
+    let still = edges_of(&cycles[0..edges], true);
+    let still_list = still.list;
+    let n_still = still.count;
+    let moved = edges_of(&cycles[0..edges], false);
+    let moved_list = moved.list;
+    let n_moved = moved.count;
     let mut count = 0;
     let mut left = blocks;
     while 0 < left {
         let m = config.len();
-        count += size(interval(config, &cycles[0..m], lambda, n));
+        let span = block_span(
+            config,
+            &cycles[0..m],
+            &still_list,
+            n_still,
+            &moved_list,
+            n_moved,
+            lambda,
+            n,
+        );
+        count += size(span);
         step(config, free, n_free, cycles, lambda);
         left -= 1;
     }
@@ -55,12 +75,30 @@ pub fn write_blocks(
     ensures { λ r. ⌜ StatesWritten (walked-states (now (free .entry)) (row (length (now (config .entry))) (now (cycles .entry))) lambda «n_free» (now (config .entry)) blocks) (now (states .entry)) (now (states .exit)) r ⌝ }
 {
     let n = width(n_free, lambda);
+    let edges = config.len();
+    let rows = rows_at_once(edges, n);
+    let ahead = rows_ahead(&cycles[0..edges], rows);
+    let still = edges_of(&cycles[0..edges], true);
+    let still_list = still.list;
+    let n_still = still.count;
+    let moved = edges_of(&cycles[0..edges], false);
+    let moved_list = moved.list;
+    let n_moved = moved.count;
     let mut count = 0;
     let mut left = blocks;
     while 0 < left {
         let m = config.len();
-        let span = interval(config, &cycles[0..m], lambda, n);
-        write_block(states, count * m, config, &cycles[0..m], span);
+        let span = block_span(
+            config,
+            &cycles[0..m],
+            &still_list,
+            n_still,
+            &moved_list,
+            n_moved,
+            lambda,
+            n,
+        );
+        write_rows(states, count * m, config, &cycles[0..m], span, &ahead, rows);
         count += size(span);
         step(config, free, n_free, cycles, lambda);
         left -= 1;

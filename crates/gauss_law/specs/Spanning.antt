@@ -34,7 +34,7 @@ tree-call c tree free =
       known = length (free-edges c) ≤ 63;
     }
 
--- ---- as the code keeps them
+-- ---- as the code keeps it
 -- the record is accepted, and t is its search
 pub record Spanned (c : SimplicialComplex) (t : SpanningTree) : Type 0 where
   pub accepted : refusal (complexOf c) ≡ 0

@@ -1,5 +1,5 @@
 -- The fundamental loops of a complex, what they are, and what the two calls tell of them.
-use Prim.Native.Nat.{ℕ, _+_, _≤_}
+use Prim.Native.Nat.{ℕ, _+_, _<_, _≤_}
 use mathlib.Core.List.{List, [], _∷_, _++_, map, flatten}
 use mathlib.Core.Bool.{Bool, _||_}
 use mathlib.Core.Path.{_≡_}
@@ -50,6 +50,11 @@ pub record FundamentalLoop (c : Complex) (f : ℕ) (l : List Step) : Type 0 wher
   pub closed : Walk (c .edges) (below (length (c .edges))) (first-end c f) l (first-end c f)
   pub once : EdgesOnce l
 
+-- what is known of the loops that are told: each is the fundamental loop of its free edge
+pub record LoopsKnown (c : Complex) : Type 0 where
+  pub few : length (free-edges c) ≤ 63
+  pub each : (j : ℕ) → j < length (free-edges c) → FundamentalLoop c (getD (free-edges c) j 0) (getD (fundamental-loops c) j [])
+
 -- How a loop and a list of values stand to each other where the loop goes over the values backwards: on each edge of the loop there is the value
 -- against its direction, on all others 0. (The values are those of the fundamental cycle of the free edge.)
 pub record Backwards (l : List Step) (z : List ℤ) : Type 0 where
@@ -85,7 +90,7 @@ loops-call c starts edges directions =
       value = length (free-edges c);
       before = (starts, edges, directions);
       after = (front (loop-starts c) starts, front (map edge-of (all-steps c)) edges, front (map direction-of (all-steps c)) directions);
-      known = length (free-edges c) ≤ 63;
+      known = LoopsKnown c;
     }
 
 -- the same without directions
@@ -100,5 +105,5 @@ su2-loops-call c starts edges =
       value = length (free-edges c);
       before = (starts, edges);
       after = (front (loop-starts c) starts, front (map edge-of (all-steps c)) edges);
-      known = length (free-edges c) ≤ 63;
+      known = LoopsKnown c;
     }

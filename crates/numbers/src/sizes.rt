@@ -1,4 +1,4 @@
-// The largest sizes that the papers allow, and what follows from them.
+// The largest sizes that docs/SCOPE.md allows, and what follows from them.
 
 pub const MOST_VERTICES: usize = 64;
 

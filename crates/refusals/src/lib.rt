@@ -52,11 +52,11 @@ pub fn refusal_text(number: usize, text: &mut [u8]) -> Answer
         12 => begin_with(text, b"a list does not have the length that it must have"),
         13 => begin_with(
             text,
-            b"a number is outside its range: no such edge, triangle or state, or a direction that is not 1 or -1",
+            b"a number is outside its range: no such edge, triangle, state, column or refusal, starts that do not run from 0 to the number of entries, or a direction that is not 1 or -1",
         ),
         14 => begin_with(
             text,
-            b"a float is outside its range, or a coupling record's factors are not those of its coupling",
+            b"a float is outside its range, or a coupling record's factors are not those of its coupling in the mode of the call",
         ),
         15 => begin_with(text, b"a list for the result, or a work list, is too short"),
         16 => begin_with(text, b"a shifted edge leaves -L to L"),

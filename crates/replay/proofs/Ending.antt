@@ -5,12 +5,13 @@ use mathlib.Core.Path.{_≡_, refl}
 use mathlib.Core.Bool.{Bool, true, false}
 use native.Mathlib.Omega.{arith}
 use lib.ListN.{getD, length, List·getD-eq-default}
-use Rattle.replay.specs.Cases.{caseWith, caseAt, well-formed, casesFrom, cases, behind}
-use Rattle.replay.proofs.Inside.{further}
+use Rattle.replay.specs.Layout.{caseAt, well-formed}
+use Rattle.replay.specs.Cases.{casesFrom, cases, behind}
+use Rattle.replay.proofs.Fields.{further}
 
 -- past the end there is no kind
 none-past : (list : List ℕ) (at : ℕ) → length list ≤ at → well-formed (length list) (caseAt list at) ≡ false
-unfolding caseAt caseWith well-formed
+unfolding caseAt well-formed
 none-past list at h = let e : getD list at 0 ≡ 0 = List·getD-eq-default list 0 h in rw e
 
 none-from : (k : ℕ) (list : List ℕ) (at : ℕ) → length list ≤ at + k → well-formed (length list) (caseAt list (behind at (casesFrom k list at))) ≡ false

@@ -1,8 +1,6 @@
-mod Agreeing
-mod Inside
-mod Padded
-mod Making
-mod Same
+mod Fields
+mod Choosing
+mod Decoding
 mod Walking
 mod Texts
 mod Ending

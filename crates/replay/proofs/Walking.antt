@@ -1,15 +1,17 @@
 -- The cases of a list, counted one after the other.
 use Prim.Native.Nat.{ℕ, zero, suc, _+_, _-_, _<_, _≤_}
 use mathlib.Core.List.{List, [], _∷_}
-use mathlib.Core.Path.{_≡_, refl}
+use mathlib.Core.Path.{_≡_, refl, sym, _∙_}
 use mathlib.Core.Bool.{Bool, true, false, not, cond}
 use native.Mathlib.Omega.{arith}
 use borrow.Author.Tests.{not-true, not-false}
 use lib.ListN.{length}
 use Rattle.mathematics.specs.Counting.{keep}
-use Rattle.replay.specs.declared.case.Case.{Case}
 use Rattle.replay.specs.declared.walk.Replayed.the-variants.{Cases, Malformed}
-use Rattle.replay.specs.Cases.{caseAt, well-formed, agreed, casesFrom, cases, behind, ends, differing, replayed}
+use Rattle.replay.specs.Layout.{Case, place, caseAt, well-formed}
+use Rattle.replay.specs.Agreement.{agreed}
+use Rattle.replay.specs.Cases.{casesFrom, cases, behind, ends, differing, replayed}
+use Rattle.replay.proofs.Fields.{further, case-inside, next-is, whole-of}
 
 -- what is left of the cases after some
 abbrev rest : List ℕ → ℕ → ℕ → List Case
@@ -21,7 +23,7 @@ pub record Walked (list : List ℕ) (at done differ : ℕ) : Type 0 where
   pub few : done ≤ at
   pub fewer : differ ≤ done
   pub number : done + length (rest list at done) ≡ length (cases list)
-  pub wrong : differ + length (differing list (rest list at done)) ≡ length (differing list (cases list))
+  pub wrong : differ + length (differing (rest list at done)) ≡ length (differing (cases list))
   pub end : behind at (rest list at done) ≡ behind 0 (cases list)
 
 pub walked-none : (list : List ℕ) → Walked list 0 0 0
@@ -39,11 +41,11 @@ unfolding casesFrom
 rest-none zero list at h = refl
 rest-none (suc k) list at h = rw h
 
-differing-next : (list : List ℕ) (c : Case) (l : List Case) → length (differing list (c ∷ l)) ≡ cond (agreed list c) 0 1 + length (differing list l)
+differing-next : (c : Case) (l : List Case) → length (differing (c ∷ l)) ≡ cond (agreed c) 0 1 + length (differing l)
 unfolding differing keep
-differing-next list c l = go (agreed list c)
+differing-next c l = go (agreed c)
   where
-    go : (b : Bool) → length (cond (not b) (c ∷ keep (λ c. not (agreed list c)) l) (keep (λ c. not (agreed list c)) l)) ≡ cond b 0 1 + length (keep (λ c. not (agreed list c)) l)
+    go : (b : Bool) → length (cond (not b) (c ∷ keep (λ c. not (agreed c)) l) (keep (λ c. not (agreed c)) l)) ≡ cond b 0 1 + length (keep (λ c. not (agreed c)) l)
     go true = omega arith
     go false = omega arith
 
@@ -58,24 +60,28 @@ one-more b n h = rw (not-true b h)
 pub none-more : (b : Bool) (n : ℕ) → not b ≡ false → n ≡ n + cond b 0 1
 none-more b n h = rw (not-false b h) (omega arith)
 
-pub walked-next : (list : List ℕ) (at done differ : ℕ) → Walked list at done differ → well-formed (length list) (caseAt list at) ≡ true → (c : Case) → c ≡ caseAt list at → at < c .next → c .next ≤ length list → (differ′ : ℕ) → differ′ ≡ differ + cond (agreed list c) 0 1 → Walked list (c .next) (done + 1) differ′
+pub walked-next : (list : List ℕ) (at done differ : ℕ) → Walked list at done differ → well-formed (length list) (caseAt list at) ≡ true → (next : ℕ) → next ≡ place list at 15 → (differ′ : ℕ) → differ′ ≡ differ + cond (agreed (caseAt list at)) 0 1 → Walked list next (done + 1) differ′
 unfolding behind
-walked-next list at done differ w h c e on within differ′ more =
+walked-next list at done differ w h next e differ′ more =
+    let c = caseAt list at in
     let d = w .few in
     let f = w .fewer in
-    let more-cases : done < length list = omega arith in
-    let r : rest list at done ≡ c ∷ rest list (c .next) (done + 1) = rw e (rest-next list at done more-cases h) in
-    let n : done + suc (length (rest list (c .next) (done + 1))) ≡ length (cases list) = rw r at (w .number) in
-    let m : differ + (cond (agreed list c) 0 1 + length (differing list (rest list (c .next) (done + 1)))) ≡ length (differing list (cases list)) =
-    rw (r, differing-next list c (rest list (c .next) (done + 1))) at (w .wrong) in
-    let one : cond {A = ℕ} (agreed list c) 0 1 ≤ 1 = at-most-one (agreed list c) in
+    let on : at < c .next = further list at in
+    let within : next ≤ length list = rw e (whole-of list at h) in
+    let is : c .next ≡ next = next-is list at ∙ sym e in
+    let more-cases : done < length list = omega (arith, whole-of list at h, case-inside list at (whole-of list at h)) in
+    let r : rest list at done ≡ c ∷ rest list next (done + 1) = rw (← is) (rest-next list at done more-cases h) in
+    let n : done + suc (length (rest list next (done + 1))) ≡ length (cases list) = rw r at (w .number) in
+    let m : differ + (cond (agreed c) 0 1 + length (differing (rest list next (done + 1)))) ≡ length (differing (cases list)) =
+    rw (r, differing-next c (rest list next (done + 1))) at (w .wrong) in
+    let one : cond {A = ℕ} (agreed c) 0 1 ≤ 1 = at-most-one (agreed c) in
     record {
       inside = within;
       few = omega arith;
       fewer = omega arith;
       number = omega arith;
       wrong = omega arith;
-      end = rw r at (w .end);
+      end = rw (r, is) at (w .end);
     }
 
 pub walked-all : (list : List ℕ) (at done differ : ℕ) → Walked list at done differ → well-formed (length list) (caseAt list at) ≡ false → replayed list ≡ cond (ends list at) (Cases done differ) (Malformed at)
@@ -83,8 +89,8 @@ unfolding replayed behind differing keep
 walked-all list at done differ w h =
     let z = rest-none (length list - done) list at h in
     let n : done + 0 ≡ length (cases list) = rw z at (w .number) in
-    let m : differ + 0 ≡ length (differing list (cases list)) = rw z at (w .wrong) in
+    let m : differ + 0 ≡ length (differing (cases list)) = rw z at (w .wrong) in
     let e : at ≡ behind 0 (cases list) = rw z at (w .end) in
     let n′ : length (cases list) ≡ done = omega arith in
-    let m′ : length (differing list (cases list)) ≡ differ = omega arith in
+    let m′ : length (differing (cases list)) ≡ differ = omega arith in
     rw (n′, m′, ← e)

@@ -1,3 +1,5 @@
+pub mod Layout
+pub mod Inputs
+pub mod Agreement
 pub mod Cases
-pub mod Comparing
 pub mod Text

@@ -1,25 +1,17 @@
 // Where the fields of a case stand in the list of answers; oracle/README.md has the format.
 use numbers::byte;
-use numbers::sizes::MOST_EDGES;
-use numbers::sizes::MOST_TRIANGLES;
+use numbers::smaller;
 ghost use mathlib.Core.Path.{_≡_};
-ghost use Prim.Native.Nat.{_+_, _<_, _≤_};
+ghost use Prim.Native.Nat.{_+_, _<_, _≤_, _^_};
 ghost use lib.ListN.{length, getD};
-ghost use Rattle.replay.specs.Cases.{caseWith, caseAt, well-formed};
+ghost use Rattle.sheet.specs.Sheet.{word};
+ghost use Rattle.replay.specs.Layout.{size, place, field, Whole};
 
-// Each list by its place and the number of its simplices; behind the triangles the numbers of their edges.
-pub struct Case {
-    pub kind: usize,
-    pub n_vertices: usize,
-    pub pentachora: usize,
-    pub n_pentachora: usize,
-    pub edges: usize,
-    pub n_edges: usize,
-    pub triangles: usize,
-    pub n_triangles: usize,
-    pub sides: usize,
-    pub next: usize,
-}
+// A case has this many fields.
+pub const FIELDS: usize = 15;
+
+// No field has more bytes.
+const MOST_BYTES: usize = 8192;
 
 // The byte at a place, 0 past the end.
 pub fn byte_at(list: &[u8], at: usize) -> usize
@@ -31,55 +23,41 @@ pub fn byte_at(list: &[u8], at: usize) -> usize
     0
 }
 
-// The case whose kind and pentachora are known.
-fn case_with(
-    list: &[u8],
-    kind: usize,
-    n_vertices: usize,
-    pentachora: usize,
-    n_pentachora: usize,
-) -> Case
-    requires { ⌜ (pentachora ≤ length (now list) + 3) × («n_pentachora» < 256) ⌝ }
-    ensures { λ r. ⌜ r ≡ caseWith (now (list .entry)) kind «n_vertices» pentachora «n_pentachora» ⌝ }
+// The number of two bytes from a place on.
+fn word_at(list: &[u8], at: usize) -> usize
+    requires { ⌜ at + 1 < 2 ^ 64 ⌝ }
+    ensures { λ r. ⌜ (r ≡ word (now (list .entry)) at) × (r < 65536) ⌝ }
 {
-    let counts = pentachora + 5 * n_pentachora;
-    let n_edges = byte_at(list, counts);
-    let n_triangles = byte_at(list, counts + 1) + 256 * byte_at(list, counts + 2);
-    let edges = counts + 3;
-    let triangles = edges + 2 * n_edges;
-    let sides = triangles + 3 * n_triangles;
-    let next = sides + 3 * n_triangles;
-    Case {
-        kind,
-        n_vertices,
-        pentachora,
-        n_pentachora,
-        edges,
-        n_edges,
-        triangles,
-        n_triangles,
-        sides,
-        next,
-    }
+    byte_at(list, at) + 256 * byte_at(list, at + 1)
 }
 
-// The case at a place.
-pub fn case_at(list: &[u8], at: usize) -> Case
-    requires { ⌜ at ≤ length (now list) ⌝ }
-    ensures { λ r. ⌜ (r ≡ caseAt (now (list .entry)) at) × (r .«n_pentachora» < 256) ⌝ }
+// The number of bytes of a field, by the two bytes at a place.
+fn size_at(list: &[u8], at: usize) -> usize
+    requires { ⌜ at + 1 < 2 ^ 64 ⌝ }
+    ensures { λ r. ⌜ (r ≡ size (now (list .entry)) at) × (r ≤ 8192) ⌝ }
 {
-    let kind = byte_at(list, at);
-    let n_vertices = byte_at(list, at + 1);
-    if kind == 1 {
-        return case_with(list, kind, n_vertices, at + 3, byte_at(list, at + 2));
-    }
-    case_with(list, kind, n_vertices, at + 2, 0)
+    smaller(word_at(list, at), MOST_BYTES)
 }
 
-// Whether there is such a kind, the counts are in their ranges and the case ends within the list.
-pub fn is_whole(list: &[u8], c: Case) -> bool
-    ensures { λ r. ⌜ r ≡ well-formed (length (now (list .entry))) c ⌝ }
+// Where a field of the case at a place begins.
+pub fn place(list: &[u8], at: usize, number: usize) -> usize
+    requires { ⌜ (at ≤ length (now list)) × (number ≤ 15) ⌝ }
+    ensures { λ r. ⌜ r ≡ place (now (list .entry)) at number ⌝ }
 {
-    ((c.kind == 1) | (c.kind == 2))
-        & ((c.n_edges <= MOST_EDGES) & ((c.n_triangles <= MOST_TRIANGLES) & (c.next <= list.len())))
+    let mut begin = at + 1;
+    for i in 0..number {
+        begin = begin + 2 + size_at(list, begin);
+    }
+    begin
+}
+
+// The bytes of a field of a case that ends within the list.
+pub fn field(list: &[u8], at: usize, number: usize) -> &[u8]
+    requires { ⌜ Whole (now list) at × (number < 15) ⌝ }
+    ensures { λ r. ⌜ (now r ≡ field (now (list .entry)) at number) × (length (now r) ≤ 8192) ⌝ }
+{
+    let begin = place(list, at, number);
+    let start = begin + 2;
+    let end = start + size_at(list, begin);
+    &list[start..end]
 }

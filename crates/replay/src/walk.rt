@@ -1,12 +1,13 @@
 // The walk over the list of answers, case by case.
+use crate::case::FIELDS;
 use crate::case::byte_at;
-use crate::case::case_at;
-use crate::case::is_whole;
+use crate::case::place;
 use crate::compare::case_same;
 ghost use mathlib.Core.Path.{_≡_};
 ghost use Prim.Native.Nat.{_≤_};
 ghost use lib.ListN.{length};
-ghost use Rattle.replay.specs.Cases.{caseAt, well-formed, ends, replayed};
+ghost use Rattle.replay.specs.Layout.{caseAt, well-formed};
+ghost use Rattle.replay.specs.Cases.{ends, replayed};
 
 // How many cases there are and how many differ, or where a case or the end of the list is not what the format says.
 pub enum Replayed {
@@ -19,7 +20,8 @@ fn stands(list: &[u8], at: usize) -> bool
     requires { ⌜ at ≤ length (now list) ⌝ }
     ensures { λ r. ⌜ r ≡ well-formed (length (now (list .entry))) (caseAt (now (list .entry)) at) ⌝ }
 {
-    is_whole(list, case_at(list, at))
+    let kind = byte_at(list, at);
+    ((1 <= kind) & (kind <= 25)) & (place(list, at, FIELDS) <= list.len())
 }
 
 // Whether the byte 0 stands at a place, and nothing behind it.
@@ -37,12 +39,11 @@ pub fn replay(list: &[u8]) -> Replayed
     let mut cases = 0;
     let mut differ = 0;
     while stands(list, at) {
-        let case = case_at(list, at);
-        if !case_same(list, case) {
+        if !case_same(list, at) {
             differ += 1;
         }
         cases += 1;
-        at = case.next;
+        at = place(list, at, FIELDS);
     }
     if ends(list, at) {
         return Replayed::Cases { cases, differ };

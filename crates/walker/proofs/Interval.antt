@@ -2,7 +2,7 @@
 use Prim.Native.Nat.{ℕ, zero, suc, _+_, _-_, _≤_, _<_}
 use mathlib.Core.List.{List, map, map-map}
 use mathlib.Core.Bool.{Bool, true, false, _&&_, cond}
-use mathlib.Core.Path.{_≡_, refl, _∙_, ap}
+use mathlib.Core.Path.{_≡_, refl, sym, _∙_, ap}
 use native.Mathlib.Omega.{arith}
 use native.Mathlib.Decide.{ℕ-discrete, decLe}
 use lib.Dec.{leb, ltb}
@@ -84,10 +84,10 @@ stop-bound L n s z zero = omega arith
 stop-bound L n s z (suc m) = omega (arith, stop-bound L n s z m)
 
 module _ (L n : ℕ) (s z : List ℤ) (signs : (e : ℕ) → natAbs (getD z e (pos 0)) ≤ 1) where
-  abbrev moves : ℕ → ℕ → ℤ
+  abbrev pub moves : ℕ → ℕ → ℤ
   moves d e = getD s e (pos 0) +ℤ pos d *ℤ getD z e (pos 0)
 
-  inside-span : (d m : ℕ) → d < n → ((e : ℕ) → e < m → natAbs (moves d e) ≤ L) → (first-within L n s z m ≤ d) × (d < end-within L n s z m)
+  pub inside-span : (d m : ℕ) → d < n → ((e : ℕ) → e < m → natAbs (moves d e) ≤ L) → (first-within L n s z m ≤ d) × (d < end-within L n s z m)
   unfolding first-within end-within
   inside-span d zero h k = (omega arith, h)
   inside-span d (suc m) h k =
@@ -95,7 +95,7 @@ module _ (L n : ℕ) (s z : List ℤ) (signs : (e : ℕ) → natAbs (getD z e (p
       let t = entry-inside L n d (getD s m (pos 0)) (getD z m (pos 0)) (signs m) h (k m (omega arith)) in
       (omega (arith, r .0, t .0), omega (arith, r .1, t .1))
 
-  span-inside : (d m : ℕ) → d < n → first-within L n s z m ≤ d → d < end-within L n s z m → (e : ℕ) → e < m → natAbs (moves d e) ≤ L
+  pub span-inside : (d m : ℕ) → d < n → first-within L n s z m ≤ d → d < end-within L n s z m → (e : ℕ) → e < m → natAbs (moves d e) ≤ L
   unfolding first-within end-within
   span-inside d zero h a b e k = absurd (omega arith)
   span-inside d (suc m) h a b e k = go (ℕ-discrete e m) (λ l. span-inside d m h (omega arith) (omega arith) e l)
@@ -105,26 +105,38 @@ module _ (L n : ℕ) (s z : List ℤ) (signs : (e : ℕ) → natAbs (getD z e (p
       go (no i) ih = ih (omega arith)
 
   module _ (long : length z ≡ length s) where
-    within-span : (d : ℕ) → d < n → within L (with-cycle s (pos d) z) ≡ (leb (first-within L n s z (length s)) d && ltb d (end-within L n s z (length s)))
+    -- a multiple is within the bounds where each of its entries is
+    pub within-entries : (d : ℕ) → within L (with-cycle s (pos d) z) ≡ true → (e : ℕ) → e < length s → natAbs (moves d e) ≤ L
     unfolding within
+    within-entries d t e k =
+        rw (added-at s (pos d) z e long) at (leb-true _ L (all-at (λ x. leb (natAbs x) L) (pos 0) (with-cycle s (pos d) z) t e (omega (arith, added-length s (pos d) z))))
+
+    pub entries-within : (d : ℕ) → ((e : ℕ) → e < length s → natAbs (moves d e) ≤ L) → within L (with-cycle s (pos d) z) ≡ true
+    unfolding within
+    entries-within d h =
+        at-all (λ x. leb (natAbs x) L) (pos 0) (with-cycle s (pos d) z) (λ e k. le-leb _ L (rw (added-at s (pos d) z e long) (h e (omega (arith, added-length s (pos d) z)))))
+
+    within-span : (d : ℕ) → d < n → within L (with-cycle s (pos d) z) ≡ (leb (first-within L n s z (length s)) d && ltb d (end-within L n s z (length s)))
     within-span d h =
         same-tests (within L (with-cycle s (pos d) z)) _
         (λ t.
-        let r = inside-span d (length s) h (λ e k. rw (added-at s (pos d) z e long) at (leb-true _ L (all-at (λ x. leb (natAbs x) L) (pos 0) (with-cycle s (pos d) z) t e (omega (arith, added-length s (pos d) z))))) in
+        let r = inside-span d (length s) h (within-entries d t) in
         and-both _ _ (le-leb _ d (r .0)) (lt-ltb d _ (r .1)))
         (λ t.
         let r = and-parts (leb (first-within L n s z (length s)) d) (ltb d (end-within L n s z (length s))) t in
-        at-all (λ x. leb (natAbs x) L) (pos 0) (with-cycle s (pos d) z)
-        (λ e k.
-        le-leb _ L
-        (rw (added-at s (pos d) z e long)
-        (span-inside d (length s) h (leb-true _ d (r .0)) (ltb-true d _ (r .1)) e (omega (arith, added-length s (pos d) z))))))
+        entries-within d (span-inside d (length s) h (leb-true _ d (r .0)) (ltb-true d _ (r .1))))
+
+    -- the multiples within the bounds, where they are an interval
+    kept-rows : (from to : ℕ) → to ≤ n → ((d : ℕ) → d < n → within L (with-cycle s (pos d) z) ≡ (leb from d && ltb d to)) → keep (within L) (map (λ d. with-cycle s (pos d) z) (below n)) ≡ block-rows s z from to
+    unfolding block-rows
+    kept-rows from to bound tests =
+        keep-map (within L) (λ d. with-cycle s (pos d) z) (below n)
+        ∙ ap (map (λ d. with-cycle s (pos d) z)) (keep-between (λ d. within L (with-cycle s (pos d) z)) from to n bound tests)
+        ∙ map-map (λ d. with-cycle s (pos d) z) (λ i. from + i) (below (to - from))
 
     pub block-kept : keep (within L) (map (λ d. with-cycle s (pos d) z) (below n)) ≡ block L n s z
-    unfolding block block-rows
-    block-kept =
-        let from = first-within L n s z (length s) in
-        let to = end-within L n s z (length s) in
-        keep-map (within L) (λ d. with-cycle s (pos d) z) (below n)
-        ∙ ap (map (λ d. with-cycle s (pos d) z)) (keep-between (λ d. within L (with-cycle s (pos d) z)) from to n (stop-bound L n s z (length s)) within-span)
-        ∙ map-map (λ d. with-cycle s (pos d) z) (λ i. from + i) (below (to - from))
+    unfolding block
+    block-kept = kept-rows (first-within L n s z (length s)) (end-within L n s z (length s)) (stop-bound L n s z (length s)) within-span
+
+    pub rows-by-tests : (from to : ℕ) → to ≤ n → ((d : ℕ) → d < n → within L (with-cycle s (pos d) z) ≡ (leb from d && ltb d to)) → block-rows s z from to ≡ block L n s z
+    rows-by-tests from to bound tests = sym (kept-rows from to bound tests) ∙ block-kept

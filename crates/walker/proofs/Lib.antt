@@ -1,3 +1,5 @@
+pub mod EdgeLists
+pub mod Raising
 pub mod Signs
 pub mod Counter
 pub mod Candidates

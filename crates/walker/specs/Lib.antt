@@ -1,4 +1,6 @@
 pub mod Walker
 pub mod Steps
 pub mod Blocks
+pub mod Rows
+pub mod Edges
 pub mod Tables

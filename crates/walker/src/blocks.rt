@@ -50,7 +50,7 @@ pub fn within(x: i32, lambda: usize) -> bool
     (negative(lambda) <= x) & (x <= usize_to_i32(lambda))
 }
 
-fn is_zero(sign: i8) -> bool
+pub fn is_zero(sign: i8) -> bool
     ensures { λ r. ⌜ r ≡ equal sign (pos 0) ⌝ }
 {
     sign == 0
@@ -65,7 +65,7 @@ fn turn(sign: i8, x: i32) -> i32
 }
 
 // A span narrowed by one entry, to which its sign is added.
-fn narrow(span: Span, x: i32, sign: i8, lambda: usize, width: usize) -> Span
+pub fn narrow(span: Span, x: i32, sign: i8, lambda: usize, width: usize) -> Span
     requires { ⌜ (span .to ≤ width) × (natAbs x ≤ 2 ^ 20) × (natAbs sign ≤ 1) × (lambda ≤ 1000) ⌝ }
     ensures { λ r. ⌜ Narrowed lambda width x sign span r ⌝ }
 {
@@ -111,7 +111,7 @@ pub fn size(span: Span) -> usize
 }
 
 // An assignment with a cycle added a number of times goes to a place of the list.
-fn write_row(states: &mut [i32], at: usize, config: &[i32], cycle: &[i8], times: usize)
+pub fn write_row(states: &mut [i32], at: usize, config: &[i32], cycle: &[i8], times: usize)
     requires { ⌜ Addable (now config) (pos times) (now cycle) × (times ≤ 2 ^ 20) × (at + length (now config) ≤ length (now states)) ⌝ }
     ensures { λ _. ⌜ now (states .exit) ≡ put (now (states .entry)) at (with-cycle (now (config .entry)) (pos times) (now (cycle .entry))) ⌝ }
 {

@@ -29,6 +29,7 @@ use u1_exports::export_enumerate_gauge_invariant;
 use u1_exports::export_hamiltonian_matvec;
 use u1_exports::export_u1_params;
 use u1_exports::export_wilson_loop;
+ghost use mathlib.Core.Path.{_≡_};
 ghost use Rattle.mathematics.specs.Calls.{none-lent};
 ghost use Rattle.triangles.specs.Indices.{indices-call};
 ghost use Rattle.pentachora.specs.Pentachora.{pentachora-call};
@@ -498,4 +499,12 @@ pub extern "C" fn zibrotka_refusal_text(number: u64, text: &mut [u8]) -> i64
     ensures { λ r. ⌜ Exported (text-call number (now (text .entry))) r (now (text .exit)) ⌝ }
 {
     export_refusal_text(number, text)
+}
+
+// The version of the library as one number, 10000 times the first part, plus 100 times the second, plus the third: 1.0.0.
+#[no_mangle]
+pub extern "C" fn zibrotka_release() -> u64
+    ensures { λ r. ⌜ r ≡ 10000 ⌝ }
+{
+    10000
 }

@@ -239,8 +239,8 @@ fn any_amplitudes(random: &mut Random, count: usize) -> Vec<f64> {
     amplitudes
 }
 
-/// Loops one after the other, each there or back, with a few steps of any sort among them; now and then a fault.
-fn any_path(random: &mut Random, sheet: &Sheet) -> Path {
+/// Loops one after the other, each there or back, with a few steps of any sort among them.
+pub fn right_path(random: &mut Random, sheet: &Sheet) -> Path {
     let n_edges = sheet.complex.edges.len() as u64;
     let mut steps = vec![];
     if n_edges > 0 && reference::read_sheet(&reference::encode(sheet)).is_ok() {
@@ -260,9 +260,14 @@ fn any_path(random: &mut Random, sheet: &Sheet) -> Path {
             }
         }
     }
-    let mut path = Path::of(&steps);
+    Path::of(&steps)
+}
+
+/// The same; now and then a fault.
+fn any_path(random: &mut Random, sheet: &Sheet) -> Path {
+    let mut path = right_path(random, sheet);
     if random.one_in(10) {
-        damage(random, &mut path, n_edges);
+        damage(random, &mut path, sheet.complex.edges.len() as u64);
     }
     path
 }

@@ -83,7 +83,7 @@ pub struct Applied {
 }
 
 impl Applied {
-    fn judge(&self, basis: &Basis, rooms: [usize; 2]) -> Result<(), u8> {
+    pub fn judge(&self, basis: &Basis, rooms: [usize; 2]) -> Result<(), u8> {
         let Ask { coupling, weights, .. } = &self.ask;
         smallest([
             weights.judge(basis.sheet.complex.triangles.len()),
@@ -172,7 +172,7 @@ pub struct Squares {
 }
 
 impl Squares {
-    fn judge(&self, basis: &Basis, rooms: [usize; 2]) -> Result<(), u8> {
+    pub fn judge(&self, basis: &Basis, rooms: [usize; 2]) -> Result<(), u8> {
         smallest([
             weights::judge(&self.amplitudes, basis.count()),
             room(rooms[0], basis.flat().len()),
@@ -281,7 +281,7 @@ pub struct Expected {
 }
 
 impl Expected {
-    fn judge(&self, basis: &Basis, work: usize) -> Result<(), u8> {
+    pub fn judge(&self, basis: &Basis, work: usize) -> Result<(), u8> {
         smallest([
             weights::judge(&self.amplitudes, basis.count()),
             self.path.judge(basis.sheet.complex.edges.len()),

@@ -121,7 +121,7 @@ impl<B: Matrix> Dense<B> {
     }
 
     /// The first of 12, 14 and 15 that holds.
-    fn judge(&self, basis: &B, rooms: [usize; 2]) -> Result<(), u8> {
+    pub fn judge(&self, basis: &B, rooms: [usize; 2]) -> Result<(), u8> {
         self.ask.weights.judge(basis.sheet().complex.triangles.len())?;
         B::MODE.judge(self.ask.coupling)?;
         if rooms[0] < basis.flat().len() || rooms[1] < basis.count() * basis.count() { Err(15) } else { Ok(()) }

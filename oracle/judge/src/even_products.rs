@@ -48,7 +48,7 @@ pub struct EvenProduct {
 
 impl EvenProduct {
     /// The first of 12, 14 and 15 that holds.
-    fn judge(&self, basis: &EvenSets, rooms: [usize; 2]) -> Result<(), u8> {
+    pub fn judge(&self, basis: &EvenSets, rooms: [usize; 2]) -> Result<(), u8> {
         let weighed = self.ask.weights.judge(basis.sheet.complex.triangles.len());
         if weighed == Err(12) || self.vector.len() != basis.count() {
             return Err(12);
@@ -149,7 +149,7 @@ pub struct EvenLoop {
 
 impl EvenLoop {
     /// The first of 12, 13, 14 and 15 that holds.
-    fn judge(&self, basis: &EvenSets, room: usize) -> Result<(), u8> {
+    pub fn judge(&self, basis: &EvenSets, room: usize) -> Result<(), u8> {
         if self.vector.len() != basis.count() {
             return Err(12);
         }

@@ -76,7 +76,7 @@ pub struct GaussLaw {
 
 impl GaussLaw {
     /// Whether the Rust could be asked, and what is expected.
-    fn expected(&self) -> Result<(bool, Result<bool, u8>), String> {
+    pub fn expected(&self) -> Result<(bool, Result<bool, u8>), String> {
         let complex = match reference::read_sheet(&self.sheet) {
             Ok(sheet) => sheet.complex,
             Err(number) => return Ok((true, Err(number))),

@@ -25,7 +25,7 @@ impl Listing {
     }
 
     /// The number of states and all their values, or one of 1 to 10.
-    fn expected(&self) -> Result<Result<(usize, Vec<i32>), u8>, String> {
+    pub fn expected(&self) -> Result<Result<(usize, Vec<i32>), u8>, String> {
         let sheet = match reference::read_for_basis(&self.sheet) {
             Ok((sheet, _)) => sheet,
             Err(number) => return Ok(Err(number)),

@@ -72,13 +72,8 @@ fn main() -> ExitCode {
             std::fs::write(file, bytes).map_err(|why| format!("{file}: {why}"))
         }
         ["replay", file] => {
-            case::watch();
-            let mut tally = Tally::default();
             let bytes = std::fs::read(file).map_err(|why| format!("{file}: {why}"));
-            bytes.and_then(|bytes| record::replay(&bytes, &mut tally)).map(|cases| {
-                println!("{cases} cases replayed");
-                println!("{}", tally.last_line());
-            })
+            bytes.and_then(|bytes| record::replay(&bytes)).map(|cases| println!("{cases} cases replayed, no difference"))
         }
         _ => Err(USAGE.into()),
     };

@@ -29,7 +29,7 @@ impl Masks {
     }
 
     /// The masks, or the first refusal that holds.
-    fn expected(&self, room: usize) -> Result<Result<Vec<u64>, u8>, String> {
+    pub fn expected(&self, room: usize) -> Result<Result<Vec<u64>, u8>, String> {
         match reference::read_for_masks(&self.sheet) {
             Ok((_, count)) if (room as u64) < count => Ok(Err(15)),
             Ok((sheet, count)) => by_rust(&sheet, count).map(|space| Ok(space.states().to_vec())),

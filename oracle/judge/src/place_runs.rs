@@ -251,7 +251,7 @@ fn any_number(random: &mut Random, count: usize) -> u64 {
 }
 
 /// Small, as wide as the band, just wider, and at the ends of 32 bits.
-fn any_delta(random: &mut Random, basis: &Basis) -> i32 {
+pub fn any_delta(random: &mut Random, basis: &Basis) -> i32 {
     let lambda = basis.sheet.lambda as i32;
     match random.below(4) {
         0 => random.pick(&[i32::MIN, i32::MIN + 1, i32::MAX, i32::MAX - 1]),
@@ -262,7 +262,7 @@ fn any_delta(random: &mut Random, basis: &Basis) -> i32 {
 }
 
 /// Mostly a listed one or its neighbour, else anything.
-fn any_configuration(random: &mut Random, basis: &Basis) -> Vec<i32> {
+pub fn any_configuration(random: &mut Random, basis: &Basis) -> Vec<i32> {
     let states = basis.space.states();
     let mut configuration = states[random.place(states)].clone();
     match random.below(8) {

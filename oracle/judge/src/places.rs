@@ -17,7 +17,7 @@ pub struct Place {
 }
 
 impl Place {
-    fn expected(&self, basis: &Basis, room: usize) -> Result<Result<usize, u8>, String> {
+    pub fn expected(&self, basis: &Basis, room: usize) -> Result<Result<usize, u8>, String> {
         let expected = reference::config_to_index(&basis.sheet, basis.space.states(), &self.configuration, room);
         if matches!(expected, Ok(_) | Err(17)) {
             agree(basis.space.config_to_index(&self.configuration), &expected)?;

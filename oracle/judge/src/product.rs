@@ -18,7 +18,7 @@ pub struct Product {
 }
 
 impl Product {
-    fn judge(&self, room: usize) -> Result<(), u8> {
+    pub fn judge(&self, room: usize) -> Result<(), u8> {
         let RowLists { starts, columns, values } = &self.rows;
         let count = self.vector.len();
         if starts.len() != count + 1 || columns.len() != values.len() {

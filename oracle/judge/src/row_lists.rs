@@ -102,6 +102,13 @@ impl<B> Clone for Counted<B> {
     }
 }
 
+impl<B: Rowed> Counted<B> {
+    /// How many entries the Rust's row lists have.
+    pub fn entries(&self, basis: &B) -> Result<usize, String> {
+        Ok(by_both(basis, B::MODE.params(self.g_squared), &self.weights)?.values.len())
+    }
+}
+
 impl<B: Rowed> Case for Counted<B> {
     fn compare(&self, tally: &mut Tally) -> Result<(), String> {
         let basis = self.given.basis()?;
@@ -109,10 +116,7 @@ impl<B: Rowed> Case for Counted<B> {
         tally.count(B::STATES, refusal);
         tally.count(B::ENTRIES, refusal);
         let expected = match basis {
-            Ok(basis) => {
-                let lists = by_both(basis, B::MODE.params(self.g_squared), &self.weights)?;
-                [basis.count(), lists.values.len()].map(|count| count as i64)
-            }
+            Ok(basis) => [basis.count(), self.entries(basis)?].map(|count| count as i64),
             Err(number) => [-i64::from(number); 2],
         };
         same_answer(B::count_states(&self.given.bytes), expected[0]).map_err(|what| format!("states: {what}"))?;
@@ -204,7 +208,7 @@ impl<B: Csr> Rows<B> {
     }
 
     /// The first of 12, 14 and 15 that holds, with lists that are so long and must be so long.
-    fn judge(&self, basis: &B, rooms: [usize; 4], needs: [usize; 4]) -> Result<(), u8> {
+    pub fn judge(&self, basis: &B, rooms: [usize; 4], needs: [usize; 4]) -> Result<(), u8> {
         self.ask.weights.judge(basis.sheet().complex.triangles.len())?;
         B::MODE.judge(self.ask.coupling)?;
         if rooms.iter().zip(needs).any(|(&room, need)| room < need) { Err(15) } else { Ok(()) }

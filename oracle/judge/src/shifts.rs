@@ -22,7 +22,7 @@ type Reached = Result<(Vec<i32>, usize), u8>;
 
 impl EdgeShift {
     /// The kind that is counted, and what is expected.
-    fn expected(&self, basis: &Basis, rooms: (usize, usize)) -> Result<(Kind, Reached), String> {
+    pub fn expected(&self, basis: &Basis, rooms: (usize, usize)) -> Result<(Kind, Reached), String> {
         let (configuration, edge, delta) = (&self.configuration, self.edge, self.delta);
         let expected = reference::apply_shift(&basis.sheet, basis.space.states(), configuration, edge, delta, rooms);
         if matches!(expected, Ok(_) | Err(16 | 17)) {
@@ -122,7 +122,7 @@ pub struct TriangleShift {
 }
 
 impl TriangleShift {
-    fn expected(&self, basis: &Basis, room: usize) -> Result<Result<usize, u8>, String> {
+    pub fn expected(&self, basis: &Basis, room: usize) -> Result<Result<usize, u8>, String> {
         let expected = reference::apply_triangle_shift(&basis.sheet, basis.space.states(), self.triangle, self.state, room);
         if matches!(expected, Ok(_) | Err(16)) {
             agree(basis.space.apply_triangle_shift(self.triangle as usize, self.state as usize), &expected)?;

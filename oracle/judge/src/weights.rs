@@ -80,9 +80,17 @@ pub fn any(random: &mut Random, n_triangles: usize) -> Weights {
 /// All of one sort, or of every sort.
 pub fn right(random: &mut Random, len: usize) -> Vec<f64> {
     let sort = random.below(8);
+    of_sort(random, sort, len)
+}
+
+/// How many sorts there are.
+pub const SORTS: u64 = 6;
+
+/// All of one sort, by its number; from `SORTS` on of every sort.
+pub fn of_sort(random: &mut Random, sort: u64, len: usize) -> Vec<f64> {
     (0..len)
         .map(|_| {
-            let sort = if sort < 6 { sort } else { random.below(6) };
+            let sort = if sort < SORTS { sort } else { random.below(SORTS) };
             weight(random, sort)
         })
         .collect()

@@ -31,7 +31,7 @@ use borrow.Author.Needs.{needs}
 use Rattle.csr.proofs.build.build_csr.Statement.{statement}
 use Rattle.csr.proofs.build.build_csr.Tie as tie
 
--- the weights and the coupling are judged by the paper's own tests
+-- the weights and the coupling are judged by the definition's own tests
 weighed : (c : tie.After-judge-weights) → c .judge-weights .result ≡ first (weights-tests (length (complexOf (c .before .before .before .before .before .before .before .before .args .c) .triangles)) (u1-right (c .before .before .before .before .before .before .before .before .args .p)) (c .before .before .before .before .before .before .before .before .args .given) (c .before .before .before .before .before .before .before .before .args .weights .now))
 weighed c = rw (triangles-long (c .before .before .before .before .before .before .before .before .args .c), ← (c .before .is-u1 .ensures)) (c .judge-weights .ensures)
 
@@ -52,7 +52,7 @@ right c = sym (weighed (c .before)) ∙ c .if2 .left
 
 -- ---- the states and the entries are counted
 abbrev Counted : Type 0
-Counted = tie.After-count-entries
+Counted = tie.After-count-rows
 
 abbrev judged : Counted → tie.Else2
 judged c = c .before .before .before .before .before
@@ -66,11 +66,11 @@ counted c = c .before .before .before .count-states .ensures ∙ ap length (basi
 abbrev entries : Counted → ℕ
 entries c = csr-entries (the-complex (judged c)) (start (judged c) .args .lambda) (start (judged c) .args .p) (weight (start (judged c) .args .given) (start (judged c) .args .weights .now))
 
-told : (c : Counted) → c .count-entries .result ≡ entries c
+told : (c : Counted) → c .count-rows .result ≡ entries c
 told c =
     let b = basis (judged c) in
     let a = start (judged c) .args in
-    c .count-entries .ensures
+    c .count-rows .ensures
     ∙ counted-entries (the-complex (judged c)) (b .walks .accepted) (a .lambda) (b .truncation) _ (c .before .before .all-sides .ensures) _ (b .listed) _ (sym (triangles-long (a .c)))
     ∙ sym (entries-same (the-complex (judged c)) (b .walks .accepted) (a .lambda) (b .truncation) (a .p) (weight (a .given) (a .weights .now)) (right-low (a .p) (coupling-fits _ _ _ _ (right (judged c)))))
 
@@ -84,7 +84,7 @@ sizes c =
 -- the test of the room is that of the four lists
 no-room : (c : Counted)
     → (short (the-complex (judged c)) (start (judged c) .args .lambda) (length (start (judged c) .args .states .now)) || (ltb (length (start (judged c) .args .starts .now)) (length (states (the-complex (judged c)) (start (judged c) .args .lambda)) + 1) || (ltb (length (start (judged c) .args .columns .now)) (entries c) || ltb (length (start (judged c) .args .values .now)) (entries c))))
-    ≡ (ltb (length (start (judged c) .args .states .now)) (states-number c * judged c .before .before .before .before .prepare-basis .result .walker .«n_edges») || (ltb (length (start (judged c) .args .starts .now)) (states-number c + 1) || (ltb (length (start (judged c) .args .columns .now)) (c .count-entries .result) || ltb (length (start (judged c) .args .values .now)) (c .count-entries .result))))
+    ≡ (ltb (length (start (judged c) .args .states .now)) (states-number c * judged c .before .before .before .before .prepare-basis .result .walker .«n_edges») || (ltb (length (start (judged c) .args .starts .now)) (states-number c + 1) || (ltb (length (start (judged c) .args .columns .now)) (c .count-rows .result) || ltb (length (start (judged c) .args .values .now)) (c .count-rows .result))))
 no-room c = rw (short-told _ _ _ _ (basis (judged c)) (length (start (judged c) .args .states .now)), ← (c .before .before .before .count-states .ensures), ← (counted c), ← (told c))
 
 prepare-basis-requires : tie.Need-prepare-basis-requires
@@ -112,8 +112,8 @@ count-states-requires c κs = basis (c .before) .fit
 all-sides-requires : tie.Need-all-sides-requires
 all-sides-requires c κs = accepted (c .before .before .before .before .before .before .before .before .before .before .before .args .c) .1 (can (c .before .before) .accepted)
 
-count-entries-requires : tie.Need-count-entries-requires
-count-entries-requires c κs =
+count-rows-requires : tie.Need-count-rows-requires
+count-rows-requires c κs =
     let here = c .before .before .before .before in
     let b = basis here in
     (b .fit, all-countable (the-complex here) (b .walks .accepted) (start here .args .lambda) (b .truncation) _ (c .before .all-sides .ensures) _ (b .listed) _ (sym (triangles-long (start here .args .c))) (b .few))
@@ -132,7 +132,7 @@ returns-3 c =
     refuses _ (past-basis (passed .before .before .before .before .prepare-basis .ensures) (passed .before .before .before .if1 .left) (past-weights _ _ _ _ (right passed) (here (no-room seen ∙ c .if3 .taken)))) refl
 
 -- the lists are long enough
-room : (c : tie.Else3) → (states-number (c .before .before) * judged (c .before .before) .before .before .before .before .prepare-basis .result .walker .«n_edges» ≤ length (start (judged (c .before .before)) .args .states .now)) × (states-number (c .before .before) + 1 ≤ length (start (judged (c .before .before)) .args .starts .now)) × (c .before .before .count-entries .result ≤ length (start (judged (c .before .before)) .args .columns .now)) × (c .before .before .count-entries .result ≤ length (start (judged (c .before .before)) .args .values .now))
+room : (c : tie.Else3) → (states-number (c .before .before) * judged (c .before .before) .before .before .before .before .prepare-basis .result .walker .«n_edges» ≤ length (start (judged (c .before .before)) .args .states .now)) × (states-number (c .before .before) + 1 ≤ length (start (judged (c .before .before)) .args .starts .now)) × (c .before .before .count-rows .result ≤ length (start (judged (c .before .before)) .args .columns .now)) × (c .before .before .count-rows .result ≤ length (start (judged (c .before .before)) .args .values .now))
 room c =
     let first-fell = or-fell _ _ (c .if3 .left) in
     let second-fell = or-fell _ _ (first-fell .1) in
@@ -198,7 +198,7 @@ build-csr-spec =
     returns-2
     count-states-requires
     all-sides-requires
-    count-entries-requires
+    count-rows-requires
     mul-if3
     add-if3
     returns-3

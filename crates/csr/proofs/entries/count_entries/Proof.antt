@@ -29,8 +29,8 @@ returns c = refuses _ (basis-refuses (c .before .prepare-basis .ensures) (c .if1
 all-sides-requires : tie.Need-all-sides-requires
 all-sides-requires c κs = accepted _ .1 (basis c .walks .accepted)
 
-count-entries-requires : tie.Need-count-entries-requires
-count-entries-requires c κs =
+count-rows-requires : tie.Need-count-rows-requires
+count-rows-requires c κs =
     let of = basis (c .before .before) in
     (of .fit, all-countable _ (of .walks .accepted) _ (of .truncation) _ (c .before .all-sides .ensures) _ (of .listed) _ (sym (triangles-long (c .before .before .before .before .args .c))) (of .few))
 
@@ -42,11 +42,11 @@ returns-2 c =
     let of = basis judged in
     let right = of .walks .accepted in
     ends (entries-call _ _) (past-basis (judged .before .prepare-basis .ensures) (judged .if1 .left) none)
-    (c .count-entries .ensures ∙ counted-entries _ right _ (of .truncation) _ (made .all-sides .ensures) _ (of .listed) _ (sym (triangles-long (judged .before .before .args .c))))
+    (c .count-rows .ensures ∙ counted-entries _ right _ (of .truncation) _ (made .all-sides .ensures) _ (of .listed) _ (sym (triangles-long (judged .before .before .args .c))))
     refl
     (entries-known _ right _ (of .truncation) (of .few))
 
 pub count-entries-spec : {M : Type 1} → statement M
 count-entries-spec =
     tie.close
-    (tie.spec prepare-basis-requires returns all-sides-requires count-entries-requires returns-2)
+    (tie.spec prepare-basis-requires returns all-sides-requires count-rows-requires returns-2)

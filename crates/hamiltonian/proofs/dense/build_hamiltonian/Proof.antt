@@ -23,7 +23,7 @@ use borrow.Author.Needs.{needs}
 use Rattle.hamiltonian.proofs.dense.build_hamiltonian.Statement.{statement}
 use Rattle.hamiltonian.proofs.dense.build_hamiltonian.Tie as tie
 
--- the weights and the coupling are judged by the paper's own tests
+-- the weights and the coupling are judged by the definition's own tests
 weighed : (c : tie.After-judge-weights) → c .judge-weights .result ≡ first (weights-tests (length (complexOf (c .before .before .before .before .before .before .args .c) .triangles)) (u1-right (c .before .before .before .before .before .before .args .p)) (c .before .before .before .before .before .before .args .given) (c .before .before .before .before .before .before .args .weights .now))
 weighed c = rw (triangles-long (c .before .before .before .before .before .before .args .c), ← (c .before .is-u1 .ensures)) (c .judge-weights .ensures)
 

@@ -33,7 +33,7 @@ basis c = c .before .before .before .prepare-basis .ensures .basis (c .before .b
 counted : (c : tie.After-count-states) → c .count-states .result ≡ length (states (complexOf (start c .args .c)) (start c .args .lambda))
 counted c = c .count-states .ensures ∙ ap length (basis c .listed)
 
--- the weights, the coupling and the vector are judged by the paper's own tests
+-- the weights, the coupling and the vector are judged by the definition's own tests
 judged : (c : tie.After-judge-vector) → c .judge-vector .result ≡ first (vector-tests (length (states (complexOf (start (c .before .before) .args .c)) (start (c .before .before) .args .lambda))) (start (c .before .before) .args .vector .now) (length (complexOf (start (c .before .before) .args .c) .triangles)) (u1-right (start (c .before .before) .args .p)) (start (c .before .before) .args .given) (start (c .before .before) .args .weights .now))
 judged c = rw (triangles-long (start (c .before .before) .args .c), ← (c .before .is-u1 .ensures), ← (counted (c .before .before))) (c .judge-vector .ensures)
 

@@ -5,11 +5,13 @@ use Rattle.mathematics.proofs.Calls.{none, here, past, refuses, ends}
 use Rattle.answers.specs.Answer.{numberAnswer}
 use Rattle.complex.specs.Complex.{complexOf}
 use Rattle.complex.specs.Judge.{refusal}
+use Rattle.complex.proofs.Accepting as accepting
 use Rattle.complex.proofs.Refusing.{record-refuses, past-record}
 use Rattle.gauss_law.specs.Spanning.{Spanned}
 use Rattle.gauss_law.proofs.Spanned.{accepted-searchable, searched-spanned}
 use Rattle.loops.specs.Climbing.{Parented}
 use Rattle.loops.specs.Loops.{loops-call}
+use Rattle.loops.proofs.AcceptedLoops.{loops-fundamental}
 use Rattle.loops.proofs.LoopsTold.{long-enough, room-told, lists-are}
 use Rattle.loops.proofs.Noting.{spanned-orderly, noted-parented}
 use Rattle.loops.proofs.fundamental.fundamental_loops.Statement.{statement}
@@ -78,9 +80,10 @@ returns-3 c =
     let decided = c .before .before .before .before .before .before .before .before .before in
     let counted = decided .before in
     let of = counted .before .before .free-edges .ensures in
+    let whole = accepted (counted .before .before .before .before .before .before) in
     let told = room-told _ _ of _ (counted .total-steps .ensures) _ _ _ in
-    ends _ (past-record _ (accepted (counted .before .before .before .before .before .before)) (past (told ∙ decided .if2 .left) none)) (of .count) (lists-are (c .before .before .before .before .before .write-loops .ensures))
-    (rw (← of .count) (of .few))
+    ends _ (past-record _ whole (past (told ∙ decided .if2 .left) none)) (of .count) (lists-are (c .before .before .before .before .before .write-loops .ensures))
+    (record { few = rw (← of .count) (of .few); each = loops-fundamental _ (accepting.accepted _ .0 whole) })
 
 pub fundamental-loops-spec : {M : Type 1} → statement M
 fundamental-loops-spec =

@@ -1,48 +1,75 @@
-use Rattle.replay.proofs.Same.{complex-is, tests-agree}
+use Rattle.replay.specs.Layout.{caseAt}
+use Rattle.replay.specs.Agreement.{agreed}
+use Rattle.replay.proofs.Choosing.{up-to, above}
 use borrow.Author.Needs.{needs}
 use Rattle.replay.proofs.compare.case_same.Statement.{statement}
 use Rattle.replay.proofs.compare.case_same.Tie as tie
 
-mul-edges-in : tie.Need-mul-edges-in
-mul-edges-in c = search needs
+byte-at-requires : tie.Need-byte-at-requires
+byte-at-requires c κs = search needs
 
-edges-in-requires : tie.Need-edges-in-requires
-edges-in-requires c κs = search needs
-
-mul-triangles-in : tie.Need-mul-triangles-in
-mul-triangles-in c = search needs
-
-triangles-in-requires : tie.Need-triangles-in-requires
-triangles-in-requires c κs = search needs
-
-judge-requires : tie.Need-judge-requires
-judge-requires c κs = search needs
-
-all-sides-same-requires : tie.Need-all-sides-same-requires
-all-sides-same-requires c κs = search needs
-
-made-same-requires : tie.Need-made-same-requires
-made-same-requires c κs = search needs
+complexes-same-requires : tie.Need-complexes-same-requires
+complexes-same-requires c κs = search needs
 
 returns : tie.Need-returns
+unfolding agreed caseAt
 returns c =
-    let sided = c .before in
-    let judged = sided .before in
-    let tripled = judged .before in
-    let paired = tripled .before .before in
-    let s = paired .before .before .before in
-    let same = complex-is (s .args .list .now) (s .args .case) (s .pre) _ _ (paired .edges-in .ensures) (tripled .triangles-in .ensures) in
-    rw (judged .judge .ensures, sided .all-sides-same .ensures, c .made-same .ensures, same) (tests-agree (s .args .list .now) (s .args .case) (s .pre))
+    let chose = c .before in
+    let k = chose .before .byte-at .ensures .0 in
+    rw (up-to k 5 (chose .if1 .taken)) (c .complexes-same .ensures)
+
+states-same-requires : tie.Need-states-same-requires
+states-same-requires c κs = search needs
+
+returns-2 : tie.Need-returns-2
+unfolding agreed caseAt
+returns-2 c =
+    let chose = c .before in
+    let k = chose .before .before .byte-at .ensures .0 in
+    rw (above k 5 (chose .before .if1 .left), up-to k 11 (chose .if2 .taken)) (c .states-same .ensures)
+
+matrices-same-requires : tie.Need-matrices-same-requires
+matrices-same-requires c κs = search needs
+
+returns-3 : tie.Need-returns-3
+unfolding agreed caseAt
+returns-3 c =
+    let chose = c .before in
+    let k = chose .before .before .before .byte-at .ensures .0 in
+    rw (above k 5 (chose .before .before .if1 .left), above k 11 (chose .before .if2 .left), up-to k 17 (chose .if3 .taken)) (c .matrices-same .ensures)
+
+z2-same-requires : tie.Need-z2-same-requires
+z2-same-requires c κs = search needs
+
+returns-4 : tie.Need-returns-4
+unfolding agreed caseAt
+returns-4 c =
+    let chose = c .before in
+    let k = chose .before .before .before .before .byte-at .ensures .0 in
+    rw (above k 5 (chose .before .before .before .if1 .left), above k 11 (chose .before .before .if2 .left), above k 17 (chose .before .if3 .left), up-to k 24 (chose .if4 .taken)) (c .z2-same .ensures)
+
+rows-same-requires : tie.Need-rows-same-requires
+rows-same-requires c κs = search needs
+
+returns-5 : tie.Need-returns-5
+unfolding agreed caseAt
+returns-5 c =
+    let chose = c .before in
+    let k = chose .before .before .before .before .byte-at .ensures .0 in
+    rw (above k 5 (chose .before .before .before .if1 .left), above k 11 (chose .before .before .if2 .left), above k 17 (chose .before .if3 .left), above k 24 (chose .if4 .left)) (c .rows-same .ensures)
 
 pub case-same-spec : {M : Type 1} → statement M
 case-same-spec =
     tie.close
     (tie.spec
-    mul-edges-in
-    edges-in-requires
-    mul-triangles-in
-    triangles-in-requires
-    judge-requires
-    all-sides-same-requires
-    made-same-requires
-    returns)
+    byte-at-requires
+    complexes-same-requires
+    returns
+    states-same-requires
+    returns-2
+    matrices-same-requires
+    returns-3
+    z2-same-requires
+    returns-4
+    rows-same-requires
+    returns-5)

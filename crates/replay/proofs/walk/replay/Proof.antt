@@ -1,14 +1,13 @@
-use borrow.Author.Needs.{needs}
-use Prim.Native.Nat.{_-_, _<_, _≤_}
+use Prim.Native.Nat.{_-_}
 use mathlib.Core.Bool.{cond}
 use mathlib.Core.Logic.{⊎-elim}
 use mathlib.Core.Path.{_≡_, sym, _∙_}
 use native.Mathlib.Omega.{arith}
 use lib.ListN.{length}
 use Rattle.replay.specs.declared.walk.Replayed.the-variants.{Cases, Malformed}
+use Rattle.replay.specs.Layout.{Whole}
 use Rattle.replay.specs.Cases.{ends, replayed}
-use Rattle.replay.specs.Comparing.{Whole}
-use Rattle.replay.proofs.Inside.{inside}
+use Rattle.replay.proofs.Fields.{later, case-inside, whole-of}
 use Rattle.replay.proofs.Walking.{Walked, walked-none, walked-next, walked-all, one-more, none-more}
 use Rattle.replay.proofs.walk.replay.Statement.{statement}
 use Rattle.replay.proofs.walk.replay.Tie as tie
@@ -25,36 +24,38 @@ loop-holds c = walked-none _
 stands-requires : tie.Need-stands-requires Inv-loop μ-loop
 stands-requires c κs = c .loop .inv .inside
 
-case-at-requires : tie.Need-case-at-requires Inv-loop μ-loop
-case-at-requires c κs = search needs
-
 -- the case lies within the list
-fits : (c : tie.After-case-at Inv-loop μ-loop) → Whole (length (c .before .before .before .before .before .args .list .now)) (c .case-at .result) × (c .before .before .before .loop .at < c .case-at .result .next) × (c .case-at .result .next ≤ length (c .before .before .before .before .before .args .list .now))
-fits c = inside _ _ _ (c .case-at .ensures .0) (c .case-at .ensures .1) (sym (c .before .before .stands .ensures) ∙ c .before .if1 .taken)
+fits : (c : tie.Then1 Inv-loop μ-loop) → Whole (c .before .before .before .before .args .list .now) (c .before .before .loop .at)
+fits c = whole-of _ _ (sym (c .before .stands .ensures) ∙ c .if1 .taken)
 
 case-same-requires : tie.Need-case-same-requires Inv-loop μ-loop
-case-same-requires c κs = fits c .0
+case-same-requires c κs = fits c
 
 add-differ : tie.Need-add-differ Inv-loop μ-loop
-add-differ c = omega (arith, fits (c .before .before))
+add-differ c = omega (arith, case-inside _ _ (fits (c .before .before)))
 
 add-cases : tie.Need-add-cases Inv-loop μ-loop
-add-cases c = omega (arith, fits (c .before .before))
+add-cases c = omega (arith, case-inside _ _ (fits (c .before .before)))
+
+place-requires : tie.Need-place-requires Inv-loop μ-loop
+place-requires c κs = (c .before .before .before .before .loop .inv .inside, omega arith)
 
 loop-less : tie.Need-loop-less Inv-loop μ-loop
-loop-less c = omega (arith, fits (c .before .before))
+loop-less c =
+    let test = c .before .before .before in
+    omega (arith, later (test .before .before .before .before .args .list .now) (test .before .before .loop .at) 15, c .place .ensures, fits test)
 
 loop-again : tie.Need-loop-again Inv-loop μ-loop
 loop-again c =
-    let read = c .before .before in
-    let f = fits read in
-    let now = read .before .before .before .loop in
-    let same = c .before .case-same .ensures in
-    walked-next _ _ _ _ (now .inv) (sym (read .before .before .stands .ensures) ∙ read .before .if1 .taken) _ (read .case-at .ensures .0) (f .1) (f .2) _
+    let same = c .before .before in
+    let test = same .before in
+    let now = test .before .before .loop in
+    let agrees = same .case-same .ensures in
+    walked-next _ _ _ _ (now .inv) (sym (test .before .stands .ensures) ∙ test .if1 .taken) _ (c .place .ensures) _
     (⊎-elim
-    (λ w. w .1 ∙ rw same at (one-more (c .before .case-same .result) (now .differ) (w .0 .taken)))
-    (λ w. w .1 ∙ rw same at (none-more (c .before .case-same .result) (now .differ) (w .0 .left)))
-    (c .if2 .came))
+    (λ w. w .1 ∙ rw agrees at (one-more (same .case-same .result) (now .differ) (w .0 .taken)))
+    (λ w. w .1 ∙ rw agrees at (none-more (same .case-same .result) (now .differ) (w .0 .left)))
+    (c .before .if2 .came))
 
 -- no case is left
 all-walked : (c : tie.Else1 Inv-loop μ-loop) → replayed (c .before .before .before .before .args .list .now) ≡ cond (ends (c .before .before .before .before .args .list .now) (c .before .before .loop .at)) (Cases (c .before .before .loop .cases) (c .before .before .loop .differ)) (Malformed (c .before .before .loop .at))
@@ -77,10 +78,10 @@ replay-spec =
     μ-loop
     loop-holds
     stands-requires
-    case-at-requires
     case-same-requires
     add-differ
     add-cases
+    place-requires
     loop-less
     loop-again
     ends-requires

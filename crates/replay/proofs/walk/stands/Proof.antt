@@ -1,16 +1,17 @@
-use mathlib.Core.Path.{_∙_}
+use Rattle.replay.specs.Layout.{caseAt, well-formed}
 use borrow.Author.Needs.{needs}
 use Rattle.replay.proofs.walk.stands.Statement.{statement}
 use Rattle.replay.proofs.walk.stands.Tie as tie
 
-case-at-requires : tie.Need-case-at-requires
-case-at-requires c κs = search needs
+byte-at-requires : tie.Need-byte-at-requires
+byte-at-requires c κs = search needs
 
-is-whole-requires : tie.Need-is-whole-requires
-is-whole-requires c κs = search needs
+place-requires : tie.Need-place-requires
+place-requires c κs = search needs
 
 returns : tie.Need-returns
-returns c = c .is-whole .ensures ∙ rw (c .before .case-at .ensures .0)
+unfolding well-formed caseAt
+returns c = rw (c .before .byte-at .ensures .0, c .place .ensures)
 
 pub stands-spec : {M : Type 1} → statement M
-stands-spec = tie.close (tie.spec case-at-requires is-whole-requires returns)
+stands-spec = tie.close (tie.spec byte-at-requires place-requires returns)

@@ -47,7 +47,7 @@ number c = power-shifted (c .before .closing-loops .result .count) (omega (arith
 abbrev at-start : tie.Else3 → tie.Start
 at-start c = c .before .before .before .before .before .before .before .before .before .before .before .before
 
--- the weights and the coupling are judged by the paper's own tests
+-- the weights and the coupling are judged by the definition's own tests
 judged : (c : tie.After-judge-weights) → c .judge-weights .result ≡ first (weights-tests (length (complexOf (c .before .before .before .before .before .before .before .before .before .before .before .args .c) .triangles)) (su2-right (c .before .before .before .before .before .before .before .before .before .before .before .args .p)) (c .before .before .before .before .before .before .before .before .before .before .before .args .given) (c .before .before .before .before .before .before .before .before .before .before .before .args .weights .now))
 judged c = rw (triangles-long (c .before .before .before .before .before .before .before .before .before .before .before .args .c), ← (c .before .is-su2 .ensures)) (c .judge-weights .ensures)
 

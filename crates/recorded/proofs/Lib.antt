@@ -1,0 +1,5 @@
+pub mod Numbers
+pub mod Reading
+pub mod Holding
+pub mod Agreeing
+pub mod Examples

@@ -1,0 +1,5 @@
+pub mod Room
+pub mod States
+pub mod Places
+pub mod Matrix
+pub mod Products
