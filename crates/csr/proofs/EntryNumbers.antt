@@ -1,26 +1,25 @@
 -- The number of entries is the same for every coupling in its range, and small.
-use Prim.Native.Nat.{ℕ, zero, suc, _+_, _*_, _^_, _<_, _≤_}
+use Prim.Native.Nat.{ℕ, suc, _+_, _*_, _^_, _<_, _≤_}
 use mathlib.Core.List.{List, [], _∷_}
 use mathlib.Core.Bool.{Bool, true, false, cond}
 use mathlib.Core.Path.{_≡_, ap, _∙_}
 use native.Mathlib.Nat.{mul-le-mul-left}
 use native.Mathlib.Omega.{arith}
-use lib.IntN.{ℤ, pos, negsuc, natAbs}
+use lib.IntN.{ℤ, pos, natAbs}
 use lib.Ieee.{Float}
 use lib.ListN.{getD, length}
 use Rattle.complex.specs.Complex.{Complex}
 use Rattle.complex.specs.Judge.{Accepted}
 use Rattle.gauss_law.specs.Gauss.{State}
 use Rattle.gauss_law.specs.Listing.{states}
-use Rattle.gauss_law.specs.Shifts.{triangle-move}
 use Rattle.matrices.specs.declared.coupling.KSParams.{KSParams}
 use Rattle.matrices.specs.Coupling.{float-of}
 use Rattle.matrices.specs.Squares.{squares}
 use Rattle.matrices.proofs.Squares.{square-small}
 use Rattle.rows.specs.RowLists.{kept}
 use Rattle.rows.proofs.KeptDiagonals.{NotBelow}
-use Rattle.plaquettes.specs.Triangle.{sides-within}
 use Rattle.plaquettes.specs.Joined.{staying}
+use Rattle.plaquettes.proofs.Joined.{staying-few}
 use Rattle.plaquettes.proofs.TriangleTelling.{state-there}
 use Rattle.csr.specs.Csr.{diagonal, csr-entries}
 use Rattle.csr.specs.Count.{row-count, over-states}
@@ -36,17 +35,6 @@ squares-few (x ∷ s) h =
     let this = square-small x (h 0 (omega arith)) in
     let others = squares-few s (λ e k. h (suc e) (omega arith)) in
     omega arith
-
-staying-few : (c : Complex) (L : ℕ) (s : List ℤ) (n : ℕ) → staying c L s n ≤ 2 * n
-unfolding staying
-staying-few c L s zero = omega arith
-staying-few c L s (suc t) = go (staying-few c L s t) (sides-within c L t (triangle-move c t (pos 1) s)) (sides-within c L t (triangle-move c t (negsuc 0) s))
-  where
-    go : staying c L s t ≤ 2 * t → (a b : Bool) → staying c L s t + (cond a 1 0 + cond b 1 0) ≤ 2 * suc t
-    go h true true = omega arith
-    go h true false = omega arith
-    go h false true = omega arith
-    go h false false = omega arith
 
 row-few : (c : Complex) → Accepted c → (L : ℕ) (p : KSParams) (s : List ℤ) → row-count c L p s ≤ 513
 unfolding row-count
