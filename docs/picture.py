@@ -18,8 +18,8 @@ KINDS = {
     "exports": ("#d5efd8", "#2c7a45", "exports: the static library"),
     "programs": ("#e8def6", "#6a45b0", "text, programs, worked cases"),
 }
-U1 = "law_check cycles walker cursor enumeration hilbert shifts plaquettes hamiltonian moves csr lanczos observables".split()
-PROGRAMS = "lines refusals pages streams basis recorded replay cases".split()
+U1 = "law_check cycles walker cursor enumeration hilbert shifts plaquettes hamiltonian moves entries csr lanczos electric wilson".split()
+PROGRAMS = "lines refusals pages streams basis recorded recorded_fields replay cases".split()
 FONT = 'font-family="Helvetica, Arial, sans-serif"'
 
 

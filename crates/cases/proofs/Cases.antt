@@ -28,10 +28,10 @@ use Rattle.matrices.specs.Terms.{dense-plaquette-term, row-plaquette-term}
 use Rattle.hamiltonian.specs.Dense.{u1-electric-entry, u1-entry, u1-dense}
 use Rattle.rows.specs.Row.{summed, entry, row-of}
 use Rattle.rows.specs.RowLists.{kept, rows-to, row-starts}
-use Rattle.csr.specs.Csr.{diagonal, kept-diagonal, given-values, csr-row, csr-entries}
+use Rattle.entries.specs.Rows.{diagonal, kept-diagonal, given-values, csr-row, csr-entries}
 use Rattle.lanczos.specs.Matvec.{electric-product, with-hit, states-added, triangles-added, u1-product}
-use Rattle.observables.specs.Electric.{field-term, field-sum, field-squares}
-use Rattle.observables.specs.Wilson.{path-of, stays, walked, with-reached, wilson-sum, wilson, step-right}
+use Rattle.electric.specs.Electric.{field-term, field-sum, field-squares}
+use Rattle.wilson.specs.Wilson.{path-of, stays, walked, with-reached, wilson-sum, wilson, step-right}
 use Rattle.plaquettes.specs.Triangle.{hits, target, moved-state, sides-within}
 use Rattle.loops.specs.Parents.{parentsOf, climb, tree-path}
 use Rattle.loops.specs.Loops.{parents, path, loop-of, fundamental-loops}

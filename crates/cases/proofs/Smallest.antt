@@ -25,12 +25,12 @@ use Rattle.matrices.specs.Coupling.{coupling-tests}
 use Rattle.matrices.specs.Weights.{weights-tests, vector-tests}
 use Rattle.hamiltonian.specs.Dense.{u1-dense-tests}
 use Rattle.lanczos.specs.Matvec.{u1-product-tests}
-use Rattle.observables.specs.Electric.{electric-tests}
-use Rattle.observables.specs.Wilson.{wilson-tests}
+use Rattle.electric.specs.Electric.{electric-tests}
+use Rattle.wilson.specs.Wilson.{wilson-tests}
 use Rattle.su2_masks.specs.Basis.{su2-tests, su2-basis-tests}
 use Rattle.su2_quantum.specs.Dense.{su2-dense-tests}
 use Rattle.refusals.specs.Sentences.{text-tests}
-use Rattle.rows.specs.Product.{product-tests}
+use Rattle.matvec.specs.Product.{product-tests}
 use Rattle.held_rows.specs.Lists.{lists-tests}
 use Rattle.su2_rows.specs.Rows.{su2-rows-tests}
 use Rattle.csr.specs.Csr.{csr-tests}

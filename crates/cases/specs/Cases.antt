@@ -18,10 +18,11 @@ use Rattle.matrices.specs.Weights.{weight}
 use Rattle.plaquettes.specs.Triangle.{shifted-state, triangle-tests}
 use Rattle.hamiltonian.specs.Dense.{u1-dense, u1-dense-tests}
 use Rattle.rows.specs.RowLists.{row-starts}
-use Rattle.csr.specs.Csr.{csr-tests, csr-row, csr-entries}
+use Rattle.entries.specs.Rows.{csr-row, csr-entries}
+use Rattle.csr.specs.Csr.{csr-tests}
 use Rattle.lanczos.specs.Matvec.{u1-product, u1-product-tests}
-use Rattle.observables.specs.Electric.{field-squares, electric-tests}
-use Rattle.observables.specs.Wilson.{path-of, wilson, wilson-tests}
+use Rattle.electric.specs.Electric.{field-squares, electric-tests}
+use Rattle.wilson.specs.Wilson.{path-of, wilson, wilson-tests}
 use Rattle.loops.specs.Walks.{Step}
 use Rattle.loops.specs.Loops.{fundamental-loops}
 use Rattle.su2_even_sets.specs.EvenSets.{su2-states}

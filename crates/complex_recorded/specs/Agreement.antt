@@ -10,7 +10,7 @@ use Rattle.triangles.specs.Indices.{indices-call}
 use Rattle.pentachora.specs.Pentachora.{pentachora-call}
 use Rattle.gauss_law.specs.Spanning.{tree-call}
 use Rattle.loops.specs.Loops.{loops-call, su2-loops-call}
-use Rattle.rows.specs.Product.{product-call}
+use Rattle.matvec.specs.Product.{product-call}
 use Rattle.exports.specs.Exports.{on-sheet, stored, second-lent, in-place, zero-told}
 use Rattle.recorded.specs.Bytes.{holds-bytes, holds-i8s, holds-u32s, holds-u64s, holds-floats}
 use Rattle.recorded.specs.Answers.{agrees}

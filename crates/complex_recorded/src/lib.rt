@@ -1,4 +1,7 @@
 // The calls on complexes, sheets, trees, loops and row lists, held against recorded answers: the number that each tells and the lists that it leaves.
+pub mod complex_cases;
+pub mod row_cases;
+
 use complex_exports::export_from_pentachorons;
 use complex_exports::export_fundamental_loops;
 use complex_exports::export_spanning_tree;

@@ -17,7 +17,7 @@ use Rattle.matrices.specs.declared.coupling.KSParams.{KSParams}
 use Rattle.rows.specs.RowLists.{rows-to, row-starts, row-columns, row-values, made-rows, RowsWritten}
 use Rattle.rows.proofs.RowsWritten.{rows-length-next}
 use Rattle.rows.proofs.MadeRows.{rows-agree}
-use Rattle.csr.specs.Csr.{csr-row, csr-entries}
+use Rattle.entries.specs.Rows.{csr-row, csr-entries}
 use Rattle.csr.specs.Words.{upper, begins, FirstWords}
 use Rattle.csr.specs.Fill.{Walk, walk-entries, WalkAt, Writable, WalkOf}
 use Rattle.csr.proofs.Walked.{entries-below, rows-told, walking}

@@ -26,7 +26,7 @@ use Rattle.plaquettes.specs.Triangle.{moved-state, sides-within, target, hits}
 use Rattle.plaquettes.specs.Joined.{joins}
 use Rattle.plaquettes.proofs.Moves.{target-none, stays-at}
 use Rattle.plaquettes.proofs.Hits.{hits-target, hits-back, no-return}
-use Rattle.csr.specs.Csr.{diagonal, kept-diagonal, given-values, csr-row}
+use Rattle.entries.specs.Rows.{diagonal, kept-diagonal, given-values, csr-row}
 use Rattle.moves.specs.Moves.{moved-entry}
 use Rattle.csr.specs.Found.{found}
 

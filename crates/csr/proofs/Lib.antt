@@ -1,13 +1,6 @@
-pub mod Counted
-pub mod Zero
-pub mod Counting
 pub mod Found
 pub mod Filling
 pub mod Walked
 pub mod Built
 pub mod WalkMade
 pub mod FirstWords
-pub mod Examples
-pub mod KeptDiagonals
-pub mod EntryNumbers
-pub mod HitsCounted

@@ -19,10 +19,10 @@ use Rattle.plaquettes.proofs.Moves.{small-everywhere}
 use Rattle.moves.specs.Numbers.{number, lower, Numbered}
 use Rattle.moves.specs.Tables.{tables, MovesWritten}
 use Rattle.moves.proofs.Numbers.{number-few}
-use Rattle.csr.specs.Csr.{csr-entries}
+use Rattle.entries.specs.Rows.{csr-entries}
 use Rattle.csr.specs.Words.{FirstWords}
 use Rattle.csr.specs.Fill.{walkOf, WalkOf}
-use Rattle.csr.proofs.EntryNumbers.{entries-few}
+use Rattle.entries.proofs.EntryNumbers.{entries-few}
 
 lower-small : (x : ℕ) → x < limit → lower x ≡ x
 unfolding lower

@@ -21,7 +21,7 @@ use Rattle.rows.specs.RowLists.{kept, made-rows}
 use Rattle.plaquettes.proofs.TriangleTelling.{state-there}
 use Rattle.moves.specs.Moves.{collected, pointed, unit-of, moved-entry, entry-of, Behind, Pointers, StateMoves}
 use Rattle.moves.proofs.Arriving.{behind-next, collected-told}
-use Rattle.csr.specs.Csr.{diagonal, csr-row}
+use Rattle.entries.specs.Rows.{diagonal, csr-row}
 use Rattle.csr.specs.Found.{found}
 use Rattle.csr.specs.Fill.{Walk, entries-from, pointers-after, pointers-at, walk-entries, Walking, WalkOf}
 use Rattle.csr.proofs.Found.{found-row, found-below}

@@ -1,11 +1,11 @@
--- The U(1) Hamiltonian as row lists: for each state the columns that have an entry, rising, with their values.
-use Prim.Native.Nat.{ℕ, zero, suc, _+_, _≤_}
+-- The U(1) Hamiltonian as row lists.
+use Prim.Native.Nat.{ℕ, _+_, _≤_}
 use mathlib.Core.List.{List, [], _∷_, _++_}
-use mathlib.Core.Bool.{Bool, _||_, cond}
-use lib.Dec.{eqb, ltb}
+use mathlib.Core.Bool.{Bool, _||_}
+use lib.Dec.{ltb}
 use lib.IntN.{ℤ}
 use lib.Ieee.{Float}
-use lib.ListN.{getD, length}
+use lib.ListN.{length}
 use Rattle.mathematics.specs.Writing.{front}
 use Rattle.mathematics.specs.Calls.{Call}
 use Rattle.complex.specs.Complex.{Complex}
@@ -14,35 +14,9 @@ use Rattle.gauss_law.specs.Listing.{states, limit}
 use Rattle.matrices.specs.declared.coupling.KSParams.{KSParams}
 use Rattle.matrices.specs.Coupling.{u1-right}
 use Rattle.matrices.specs.Weights.{weight, weights-tests}
-use Rattle.matrices.specs.Squares.{squares, energy}
-use Rattle.matrices.specs.Terms.{row-plaquette-term}
-use Rattle.rows.specs.Row.{row-of}
-use Rattle.rows.specs.RowLists.{kept, rows-to, row-starts, row-columns, row-values}
-use Rattle.plaquettes.specs.Joined.{joins}
+use Rattle.rows.specs.RowLists.{row-starts, row-columns, row-values}
+use Rattle.entries.specs.Rows.{csr-row, csr-entries}
 
--- the electric factor times the sum of squares of a state
-unfoldable pub diagonal : KSParams → List ℤ → Float
-diagonal p s = energy (p .electric) (squares s)
-
--- the diagonal of a state, where it is kept
-unfoldable pub kept-diagonal : KSParams → List ℤ → List Float
-kept-diagonal p s = cond (kept (diagonal p s)) (diagonal p s ∷ []) []
-
--- The values given for entry (i, j), in order: on the diagonal the electric term, where it is kept; then the term of each of the first n
--- triangles, rising, that joins the states i and j.
-unfoldable pub given-values : Complex → ℕ → KSParams → (ℕ → Float) → ℕ → ℕ → ℕ → List Float
-given-values c L p w zero i j = cond (eqb i j) (kept-diagonal p (getD (states c L) i [])) []
-given-values c L p w (suc t) i j = given-values c L p w t i j ++ cond (joins c L t i j) (row-plaquette-term p (w t) ∷ []) []
-
--- row i: for each column that is given a value, rising, the first of its values with the others added in order
-unfoldable pub csr-row : Complex → ℕ → KSParams → (ℕ → Float) → ℕ → List (ℕ × Float)
-csr-row c L p w i = row-of (given-values c L p w (length (c .triangles)) i) (length (states c L))
-
--- how many entries all rows have
-unfoldable pub csr-entries : Complex → ℕ → KSParams → (ℕ → Float) → ℕ
-csr-entries c L p w = length (rows-to (csr-row c L p w) (length (states c L)))
-
--- ---- the call
 -- 4, 5, 7 to 10, then 12 and 14 for the weights and the coupling, and 15 for a list that is too short: for the basis, for a start of each row
 -- and the end of the last, for the columns or for the values
 abbrev pub csr-tests : Complex → ℕ → KSParams → Bool → List Float → ℕ → ℕ → ℕ → ℕ → List (ℕ × Bool)

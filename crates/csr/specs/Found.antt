@@ -11,7 +11,7 @@ use Rattle.matrices.specs.declared.coupling.KSParams.{KSParams}
 use Rattle.matrices.specs.Terms.{row-plaquette-term}
 use Rattle.rows.specs.RowLists.{kept}
 use Rattle.moves.specs.Moves.{moved-entry}
-use Rattle.csr.specs.Csr.{diagonal}
+use Rattle.entries.specs.Rows.{diagonal}
 
 -- the diagonal where it is kept, then triangle by triangle the target forward and the target back
 unfoldable pub found : Complex → ℕ → KSParams → (ℕ → Float) → ℕ → ℕ → List (ℕ × Float)

@@ -1,18 +1,18 @@
 // The U(1) Hamiltonian as row lists.
-use crate::count::count_rows;
 use crate::fill::write_rows;
 use crate::words::write_numbers;
 use crate::words::write_starts;
 use answers::Answer;
 use complex::SimplicialComplex;
-use cursor::tables::count_states;
-use cursor::tables::write_states;
+use entries::count::count_rows;
 use enumeration::prepare_basis;
 use matrices::coupling::KSParams;
 use matrices::coupling::is_u1;
 use matrices::weights::judge_weights;
 use moves::tables::write_moves;
 use plaquettes::target::Sizes;
+use runs::count_states;
+use runs::write_states;
 use triangles::all_sides;
 ghost use mathlib.Core.Path.{_≡_};
 ghost use Prim.Native.Nat.{_+_, _*_, _^_, _<_, _≤_};
@@ -23,7 +23,8 @@ ghost use Rattle.complex.specs.Complex.{complexOf};
 ghost use Rattle.matrices.specs.Weights.{weight, Weighed};
 ghost use Rattle.rows.specs.RowLists.{RowsWritten};
 ghost use Rattle.plaquettes.specs.Targets.{BasisList};
-ghost use Rattle.csr.specs.Csr.{csr-row, csr-entries, csr-call};
+ghost use Rattle.entries.specs.Rows.{csr-row, csr-entries};
+ghost use Rattle.csr.specs.Csr.{csr-call};
 
 // The rows of all states go to the beginning of three lists. Another list begins with the states.
 fn write_lists(

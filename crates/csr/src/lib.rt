@@ -1,7 +1,5 @@
 // The Kogut-Susskind Hamiltonian of U(1) as row lists.
 
 pub mod build;
-pub mod count;
-pub mod entries;
 pub mod fill;
 pub mod words;

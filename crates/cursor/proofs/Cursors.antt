@@ -1,11 +1,9 @@
 -- The states still to come, one less with each step.
 use Prim.Native.Nat.{ℕ, zero, suc, _+_, _-_, _^_, _≤_, _<_}
-use mathlib.Core.List.{List, [], _∷_, _++_, map, map-append, append-nil, append-assoc}
-use mathlib.Core.Bool.{Bool}
+use mathlib.Core.List.{List, [], _∷_, _++_, map, map-append}
 use mathlib.Core.Path.{_≡_, refl, sym, ap, _∙_}
 use native.Mathlib.Omega.{arith}
-use native.Mathlib.Numerals.{add-one}
-use native.Mathlib.Nat.{sub-zero, add-zero, mul-le-mul}
+use native.Mathlib.Nat.{sub-zero, add-zero}
 use lib.IntN.{ℤ, pos}
 use lib.ListN.{length, take, drop, length-append, length-drop}
 use Rattle.mathematics.specs.Counting.{below, applied}
@@ -15,11 +13,10 @@ use Rattle.walker.specs.declared.blocks.Span.{Span}
 use Rattle.walker.specs.Walker.{stepped, block-rows, block, width, walked, walked-states}
 use Rattle.walker.specs.Steps.{Small, Addable, CyclesFit, FreeFit, Walkable}
 use Rattle.walker.specs.Blocks.{SpanOfBlock}
-use Rattle.walker.specs.Edges.{Edges}
 use Rattle.walker.proofs.BlockRows.{rows-none, rows-length}
 use Rattle.walker.proofs.BlockValues.{row-small}
 use Rattle.walker.proofs.Stepping.{cycle-long, cycle-signs}
-use Rattle.walker.proofs.BlockStates.{width-bound, walked-none, states-none, states-few, states-next}
+use Rattle.walker.proofs.BlockStates.{width-bound, walked-none, walked-next, walked-on, states-none, states-next, states-on, states-counted}
 use Rattle.cursor.specs.Cursor.{states-left}
 
 -- ---- the first row of a block
@@ -42,31 +39,19 @@ module _ (free : List ℕ) (cycle : ℕ → List ℤ) (L n : ℕ) (s : List ℤ)
   abbrev next : List ℤ
   next = stepped free cycle L (n - 1) 1 s
 
-  walked-shift : (k : ℕ) → walked free cycle L n s (suc k) ≡ walked free cycle L n next k
-  unfolding walked applied
-  walked-shift zero = refl
-  walked-shift (suc k) = ap (stepped free cycle L (n - 1) 1) (walked-shift k)
+  next-is : walked free cycle L n s 1 ≡ next
+  next-is = walked-next free cycle L n s 0 ∙ ap (stepped free cycle L (n - 1) 1) (walked-none free cycle L n s)
 
-  states-suc : (t : List ℤ) (k : ℕ) → walked-states free cycle L n t (suc k) ≡ walked-states free cycle L n t k ++ block L (width L n) (walked free cycle L n t k) (cycle 0)
-  states-suc t k = ap (walked-states free cycle L n t) (sym (add-one k)) ∙ states-next free cycle L n t k
+  walked-shift : (k : ℕ) → walked free cycle L n s (suc k) ≡ walked free cycle L n next k
+  walked-shift k =
+      let e : 1 + k ≡ suc k = omega arith in
+      (rw (e, next-is) at (walked-on free cycle L n s 1 k))
 
   states-shift : (k : ℕ) → walked-states free cycle L n s (suc k) ≡ block L (width L n) s (cycle 0) ++ walked-states free cycle L n next k
-  states-shift zero =
-      let b = block L (width L n) s (cycle 0) in
-      states-suc s 0 ∙ rw (states-none free cycle L n s, walked-none free cycle L n s, states-none free cycle L n next) (sym (append-nil b))
-  states-shift (suc k) =
-      let b = block L (width L n) s (cycle 0) in
-      states-suc s (suc k)
-      ∙ rw (states-shift k, walked-shift k) (append-assoc b (walked-states free cycle L n next k) _)
-      ∙ ap (λ l. b ++ l) (sym (states-suc next k))
-
--- ---- the first cycle as a part of the table
-pub cycle-part-long : (free : List ℕ) (cycles : List ℤ) (L n : ℕ) (s : List ℤ) (k : ℕ) → Walkable free cycles L n s k → length (take (length s - 0) cycles) ≡ length s
-cycle-part-long free cycles L n s k fit = rw (sub-zero (length s)) (cycle-long (length s) n L cycles (fit .cycles-fit) 0 (omega arith))
-
--- its edges of one kind
-pub edges-here : {z : List ℤ} {still : Bool} {list : List ℕ} {count m : ℕ} → length z ≡ m → Edges z still (length z) list count → Edges z still m list count
-edges-here long h = rw long at h
+  states-shift k =
+      let e : 1 + k ≡ suc k = omega arith in
+      let one : walked-states free cycle L n s 1 ≡ block L (width L n) s (cycle 0) = states-next free cycle L n s 0 ∙ rw (states-none free cycle L n s, walked-none free cycle L n s) in
+      (rw (e, one, next-is) at (states-on free cycle L n s 1 k))
 
 -- ---- at a block, as the code has it
 module _ (free : List ℕ) (cycles : List ℤ) (L n : ℕ) (s : List ℤ) (left : ℕ) (fit : Walkable free cycles L n s left) (more : 0 < left) where
@@ -132,8 +117,8 @@ module _ (free : List ℕ) (cycles : List ℤ) (L n : ℕ) (s : List ℤ) (left 
     pub block-passed : (d to : ℕ) → states-left free cycle L n s left d to ≡ block-rows s (cycle 0) d to ++ walked-states free (row (length new) cycles) L n new (left - 1)
     block-passed d to = from-here d to ∙ ap (λ l. block-rows s (cycle 0) d to ++ l) (sym rest-is)
 
-    states-on : walked-states free cycle L n s left ≡ block L (width L n) s (cycle 0) ++ walked-states free (row (length new) cycles) L n new (left - 1)
-    states-on = ap (walked-states free cycle L n s) one-more ∙ states-shift free cycle L n s (left - 1) ∙ ap (λ l. block L (width L n) s (cycle 0) ++ l) (sym rest-is)
+    from-next : walked-states free cycle L n s left ≡ block L (width L n) s (cycle 0) ++ walked-states free (row (length new) cycles) L n new (left - 1)
+    from-next = ap (walked-states free cycle L n s) one-more ∙ states-shift free cycle L n s (left - 1) ∙ ap (λ l. block L (width L n) s (cycle 0) ++ l) (sym rest-is)
 
   -- another state of the block
   pub more-rows : (d to : ℕ) → d < to → states-left free cycle L n s left d to ≡ with-cycle s (pos d) (cycle 0) ∷ states-left free cycle L n s left (d + 1) to
@@ -157,34 +142,11 @@ module _ (free : List ℕ) (cycles : List ℤ) (L n : ℕ) (s : List ℤ) (left 
         ∙ ap (λ l. l ++ walked-states free cycle L n (next free cycle L n s) (left - 1)) rows-here
         ∙ sym (ap (walked-states free cycle L n s) one-more ∙ states-shift free cycle L n s (left - 1))
 
-    -- the rows of the block are the first states
-    pub block-first : (new : List ℤ) → new ≡ stepped free cycle L (n - 1) 1 s → walked-states free cycle L n s left ≡ block-rows s (cycle 0) (r .from) (r .to) ++ walked-states free (row (length new) cycles) L n new (left - 1)
-    block-first new is = states-on new is ∙ ap (λ l. l ++ walked-states free (row (length new) cycles) L n new (left - 1)) (sym rows-here)
-
-    pub block-fits : (number : ℕ) (all : List (List ℤ)) → walked-states free cycle L n s left ≡ drop number all → number ≤ length all → number + (r .to - r .from) ≤ length all
-    block-fits number all is inside =
-        let rest = walked-states free cycle L n (next free cycle L n s) (left - 1) in
-        omega (
-          arith,
-          ap length (ap (walked-states free cycle L n s) one-more ∙ states-shift free cycle L n s (left - 1)),
-          length-append (block L (width L n) s (cycle 0)) rest,
-          ap length rows-here,
-          rows-length s (cycle 0) (r .from) (r .to),
-          ap length is,
-          length-drop number all,
-        )
-
-    -- the size of the block is added
-    pub counted-here : (new : List ℤ) → new ≡ stepped free cycle L (n - 1) 1 s → length (walked-states free cycle L n s left) ≡ r .to - r .from + length (walked-states free (row (length new) cycles) L n new (left - 1))
-    counted-here new is =
-        let rest = walked-states free (row (length new) cycles) L n new (left - 1) in
-        omega (arith, ap length (block-first new is), length-append (block-rows s (cycle 0) (r .from) (r .to)) rest, rows-length s (cycle 0) (r .from) (r .to))
-
     pub none-here : (r .from < r .to → ⊥) → (new : List ℤ) → new ≡ stepped free cycle L (n - 1) 1 s
         → walked-states free (row (length new) cycles) L n new (left - 1) ≡ walked-states free cycle L n s left
     none-here empty new is =
         let none : r .to - r .from ≡ 0 = omega (arith, empty) in
-        sym (states-on new is ∙ rw (← rows-here, rows-none s (cycle 0) (r .from) (r .to) none))
+        sym (from-next new is ∙ rw (← rows-here, rows-none s (cycle 0) (r .from) (r .to) none))
 
 -- behind the last state
 pub behind : (free : List ℕ) (cycles : List ℤ) (L n : ℕ) (s old : List ℤ) (left blocks : ℕ) → left ≡ 0 → walked-states free (row (length s) cycles) L n s left ≡ walked-states free (row (length old) cycles) L n old blocks
@@ -208,8 +170,7 @@ last-row s z d to low high more =
 
 -- all states have a number
 pub few-states : (free : List ℕ) (cycles : List ℤ) (L n : ℕ) (s : List ℤ) (k : ℕ) → Walkable free cycles L n s k → 0 + length (walked-states free (row (length s) cycles) L n s k) ≤ 2 ^ 40
-few-states free cycles L n s k walkable =
-    omega (arith, states-few free (row (length s) cycles) L n s k, mul-le-mul (walkable .few) (width-bound L n (walkable .cycles-fit .truncation)))
+few-states free cycles L n s k walkable = omega (arith, states-counted free cycles L n s k walkable)
 
 -- a part of a list of 63 that was written anew
 pub anew-long : (s list : List ℤ) (m : ℕ) → length s ≡ m → m ≤ 63 → length list ≡ 63 → length (s ++ drop (m - 0) list) ≡ 63

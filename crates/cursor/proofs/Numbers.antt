@@ -1,19 +1,16 @@
 -- A cursor stands at the state with its number.
-use Prim.Native.Nat.{ℕ, _+_, _-_, _*_, _≤_, _<_}
-use mathlib.Core.List.{List, [], _++_, flatten}
+use Prim.Native.Nat.{ℕ, _+_, _-_, _≤_, _<_}
+use mathlib.Core.List.{List, [], _++_}
 use mathlib.Core.Path.{_≡_, refl, sym, ap, _∙_}
 use native.Mathlib.Omega.{arith}
-use native.Mathlib.Nat.{add-zero, mul-le-mul-right}
+use native.Mathlib.Nat.{add-zero}
 use native.Mathlib.Decide.{decLt}
 use lib.IntN.{ℤ, pos}
-use lib.ListN.{getD, length, take, drop, length-append, length-drop, List·getD-append}
-use lib.Seq.{take-add, take-at, drop-at, drop-drop, getD-drop}
-use Rattle.mathematics.specs.Writing.{put}
-use Rattle.mathematics.proofs.Puts.{put-none, put-more}
-use Rattle.mathematics.proofs.Flat.{flatten-append}
+use lib.ListN.{getD, length, drop, length-append, length-drop, List·getD-append}
+use lib.Seq.{drop-at, drop-drop, getD-drop}
 use Rattle.cycles.specs.Cycles.{row, with-cycle}
 use Rattle.walker.specs.Walker.{block-rows}
-use Rattle.walker.proofs.BlockRows.{rows-length, rows-long, rows-at}
+use Rattle.walker.proofs.BlockRows.{rows-length, rows-at}
 use Rattle.cursor.specs.declared.Cursor.{Cursor}
 use Rattle.cursor.specs.Cursor.{states-left, states-from, state-here, Standing, NextBlock, CursorAt}
 use Rattle.cursor.proofs.Cursors.{from-here, more-rows, some-rows}
@@ -85,33 +82,3 @@ module _ (free : List ℕ) (cycles : List ℤ) (L n : ℕ) where
   fewer s new c r standing some next =
       let rows = block-rows s (row (length s) cycles 0) (c .d) (c .to) in
       omega (arith, standing .some some, ap length (next .states), length-append rows (states-from free cycles L n new r), rows-length s (row (length s) cycles 0) (c .d) (c .to))
-
-pub block-room : (count k n m size : ℕ) → count + k ≤ n → n * m ≤ size → count * m + k * m ≤ size
-block-room count k n m size few enough = omega (arith, mul-le-mul-right m few)
-
--- ---- the states of one block more, of all of them, are written
-module _ (all : List (List ℤ)) (m number : ℕ) (rows rest : List (List ℤ)) (k : ℕ) (size : length rows ≡ k) (both : drop number all ≡ rows ++ rest) where
-  taken : take (number + k) all ≡ take number all ++ rows
-  taken = take-add number k all ∙ ap (λ l. take number all ++ l) (ap (take k) both ∙ take-at rows rest k size)
-
-  pub dropped : drop (number + k) all ≡ rest
-  dropped = sym (drop-drop k number all) ∙ ap (drop k) both ∙ drop-at rows rest k size
-
-  pub block-inside : number ≤ length all → number + k ≤ length all
-  block-inside h = omega (arith, length-drop number all, ap length both, length-append rows rest, size)
-
-  pub written-long : length (flatten rows) ≡ k * m → length (flatten (take number all)) ≡ number * m → length (flatten (take (number + k) all)) ≡ (number + k) * m
-  written-long rows-sized long =
-      rw taken (ap length (flatten-append (take number all) rows) ∙ omega (arith, length-append (flatten (take number all)) (flatten rows), long, rows-sized))
-
-  pub written : (old list more : List ℤ) → length (flatten (take number all)) ≡ number * m → number * m ≤ length old → list ≡ put old 0 (flatten (take number all))
-      → more ≡ put list (number * m) (flatten rows) → more ≡ put old 0 (flatten (take (number + k) all))
-  written old list more long enough before after =
-      let done = take number all in
-      let place : number * m ≡ 0 + length (flatten done) = omega (arith, long) in
-      after ∙ rw (before, place, taken) (put-more old 0 (flatten done) (flatten rows) (omega (arith, long, enough)) ∙ ap (put old 0) (sym (flatten-append done rows)))
-
--- ---- nothing is written
-pub written-none : (all : List (List ℤ)) (number m : ℕ) (old : List ℤ) → number ≡ 0 → (length (flatten (take number all)) ≡ number * m) × (old ≡ put old 0 (flatten (take number all)))
-unfolding flatten
-written-none all number m old h = (rw h (omega arith), rw h (sym (put-none old 0)))

@@ -48,7 +48,7 @@ pub fn first_state(
                 number: number,
             };
         }
-        step(config, free, n_free, cycles, lambda);
+        step(config, free, n_free, cycles, lambda, 1);
         left -= 1;
     }
     Cursor {
@@ -71,7 +71,7 @@ pub fn next_block(
     requires { ⌜ Standing (now free) (now cycles) lambda «n_free» (now config) c × (0 < c .left) ⌝ }
     ensures { λ r. ⌜ NextBlock (now (free .entry)) (now (cycles .entry)) lambda «n_free» (now (config .entry)) c (now (config .exit)) r ⌝ }
 {
-    step(config, free, n_free, cycles, lambda);
+    step(config, free, n_free, cycles, lambda, 1);
     first_state(
         config,
         free,

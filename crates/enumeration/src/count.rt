@@ -16,5 +16,5 @@ pub fn count_states(c: SimplicialComplex, lambda: usize) -> Answer
     if number != 0 {
         return Answer::Refused(number);
     }
-    Answer::Number(cursor::tables::count_states(basis.walker, lambda, basis.blocks))
+    Answer::Number(runs::count_states(basis.walker, lambda, basis.blocks))
 }

@@ -5,7 +5,7 @@ use lib.Ieee.{nan, neg, le, lt, eq, ofInt}
 use Rattle.mathematics.specs.Tests.{every-entry, every}
 use Rattle.mathematics.specs.Refusals.{first}
 use Rattle.matrices.specs.Coupling.{float-of}
-use Rattle.rows.specs.Product.{never-falls, starts-right, columns-right, value-right}
+use Rattle.matvec.specs.Product.{never-falls, starts-right, columns-right, value-right}
 use Rattle.held_rows.specs.Lists.{lists-tests}
 
 -- no starts at all, one start and no rows, and a value without a column

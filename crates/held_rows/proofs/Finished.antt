@@ -19,9 +19,9 @@ use Rattle.mathematics.proofs.Counting.{at-every}
 use Rattle.mathematics.proofs.Maps.{map-at}
 use Rattle.mathematics.proofs.Tests.{and-parts, and-both, all-append, all-at, at-all}
 use Rattle.rows.specs.Entries.{pairs}
-use Rattle.rows.specs.Product.{row-entries, row-sum, product, never-falls, starts-right, columns-right, value-right}
 use Rattle.rows.specs.RowLists.{rows-to, row-starts, row-columns, row-values}
 use Rattle.rows.proofs.RowsWritten.{rows-next, rows-rise, starts-length}
+use Rattle.matvec.specs.Product.{row-entries, row-sum, product, never-falls, starts-right, columns-right, value-right}
 use Rattle.held_rows.specs.Lists.{row-count, list-lengths-wrong, list-places-wrong, values-wrong, lists-tests, ValidLists}
 use Rattle.held_rows.proofs.Judging.{lists-valid}
 

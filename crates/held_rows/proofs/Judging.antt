@@ -13,8 +13,8 @@ use Rattle.mathematics.specs.Refusals.{first}
 use Rattle.mathematics.proofs.Tests.{or-false, at-all}
 use Rattle.matrices.specs.Coupling.{float-of}
 use Rattle.matrices.specs.Weights.{bounded}
-use Rattle.rows.specs.Product.{lengths-wrong, places-wrong, numbers-wrong, product-tests, Within}
-use Rattle.rows.proofs.Validity.{fit-valid, passes-valid, valid-passes}
+use Rattle.matvec.specs.Product.{lengths-wrong, places-wrong, numbers-wrong, product-tests, Within}
+use Rattle.matvec.proofs.Validity.{fit-valid, passes-valid, valid-passes}
 use Rattle.held_rows.specs.Lists.{row-count, list-lengths-wrong, list-places-wrong, values-wrong, lists-tests, ValidLists}
 
 -- where a vector has one amplitude for each row, its test of the starts is that of the lists

@@ -9,7 +9,7 @@ use lib.ListN.{getD, length}
 use Rattle.mathematics.specs.Tests.{every-entry}
 use Rattle.mathematics.specs.Calls.{Call, NoneLent, none-lent}
 use Rattle.matrices.specs.Coupling.{float-of}
-use Rattle.rows.specs.Product.{starts-right, columns-right, value-right, Within, Valid}
+use Rattle.matvec.specs.Product.{starts-right, columns-right, value-right, Within, Valid}
 
 -- one row for each start but the last; where there is no start, no row
 abbrev pub row-count : List ℕ → ℕ

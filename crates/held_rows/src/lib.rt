@@ -1,13 +1,13 @@
 // The row lists of a matrix, held as one record that borrows them.
-use rows::product::Product;
-use rows::product::columns_right;
-use rows::product::matvec;
-use rows::product::starts_right;
-use rows::product::values_right;
+use matvec::product::Product;
+use matvec::product::columns_right;
+use matvec::product::matvec;
+use matvec::product::starts_right;
+use matvec::product::values_right;
 ghost use mathlib.Core.Path.{_≡_};
 ghost use lib.ListN.{length};
 ghost use Rattle.mathematics.specs.Calls.{Answered, none-lent};
-ghost use Rattle.rows.specs.Product.{productAnswer, product-call};
+ghost use Rattle.matvec.specs.Product.{productAnswer, product-call};
 ghost use Rattle.held_rows.specs.Lists.{row-count, lists-call};
 
 // How many rows the starts tell of.

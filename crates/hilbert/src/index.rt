@@ -1,10 +1,10 @@
 // The place of a configuration in the basis.
 use crate::search::find_place;
 use complex::SimplicialComplex;
-use cursor::tables::write_states;
 use enumeration::prepare_basis;
 use enumeration::too_short;
 use law_check::find_unlawful;
+use runs::write_states;
 use walker::blocks::within;
 use walker::tables::Walker;
 ghost use mathlib.Core.Path.{_≡_};

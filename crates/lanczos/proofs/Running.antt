@@ -33,7 +33,7 @@ use Rattle.plaquettes.proofs.Targets.{there, row-is}
 use Rattle.plaquettes.specs.Triangle.{target}
 use Rattle.plaquettes.proofs.Moves.{small-everywhere}
 use Rattle.plaquettes.proofs.Pairing.{movable-rows, stays-target, pair-target}
-use Rattle.lanczos.specs.declared.runs.Run.{Run}
+use Rattle.lanczos.specs.declared.state_runs.Run.{Run}
 use Rattle.lanczos.specs.Walk.{run-added}
 use Rattle.lanczos.specs.Runs.{Covers, CycleRun, MoveRun, RunRows, RunLength, RunGoes, RunOver, RunFound, FirstCycle}
 use Rattle.lanczos.proofs.Neighbours.{run-states, ordered}

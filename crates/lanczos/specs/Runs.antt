@@ -12,7 +12,7 @@ use Rattle.hilbert.specs.Search.{row}
 use Rattle.triangles.specs.declared.Sides.{Sides}
 use Rattle.plaquettes.specs.declared.target.Sizes.{Sizes}
 use Rattle.plaquettes.specs.Pairs.{three, MovableRows, NextStaying}
-use Rattle.lanczos.specs.declared.runs.Run.{Run}
+use Rattle.lanczos.specs.declared.state_runs.Run.{Run}
 
 -- the first entries of a list are edges of a cycle, and all on which it is not 0
 pub record Covers (edges : List ℕ) (count : ℕ) (z : List ℤ) : Type 0 where

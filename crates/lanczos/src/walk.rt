@@ -1,5 +1,5 @@
 // The plaquettes of a triangle in a product: one walk over the runs of states finds all hits.
-use crate::runs::find_run;
+use crate::state_runs::find_run;
 use numbers::sizes::MOST_EDGES;
 use plaquettes::target::Sizes;
 use triangles::Sides;

@@ -3,7 +3,6 @@ pub mod states;
 
 use cursor::Cursor;
 use cursor::first_state;
-use cursor::tables::count_states;
 use cycles::CYCLE_ENTRIES;
 use enumeration::count_of_blocks;
 use enumeration::too_many;
@@ -11,6 +10,7 @@ use lines::write_first_line;
 use lines::write_refused_line;
 use numbers::byte;
 use numbers::sizes::MOST_EDGES;
+use runs::count_states;
 use sheet::Reading;
 use sheet::Sheet;
 use sheet::read_sheet;

@@ -1,11 +1,11 @@
 // The shift of a triangle: 1, -1 and 1 are added on its three edges.
 use answers::Answer;
 use complex::SimplicialComplex;
-use cursor::tables::count_states;
 use cursor::tables::state_at;
 use enumeration::prepare_basis;
 use hilbert::index::list_and_find;
 use numbers::sum;
+use runs::count_states;
 use triangles::Sides;
 use triangles::triangle_sides;
 use walker::blocks::within;

@@ -5,9 +5,9 @@ use mathlib.Core.Path.{_≡_, refl}
 use mathlib.Core.Bool.{Bool, true, false}
 use native.Mathlib.Omega.{arith}
 use lib.ListN.{getD, length, List·getD-eq-default}
-use Rattle.replay.specs.Layout.{caseAt, well-formed}
+use Rattle.recorded_fields.specs.Layout.{caseAt, well-formed}
 use Rattle.replay.specs.Cases.{casesFrom, cases, behind}
-use Rattle.replay.proofs.Fields.{further}
+use Rattle.recorded_fields.proofs.Fields.{further}
 
 -- past the end there is no kind
 none-past : (list : List ℕ) (at : ℕ) → length list ≤ at → well-formed (length list) (caseAt list at) ≡ false

@@ -18,7 +18,7 @@ use Rattle.sheet.specs.Sheet.{word, padded, sheetIn, header-tests}
 use Rattle.matrices.specs.Coupling.{float-of as whole-float}
 use Rattle.matrices.specs.Weights.{bounded}
 use Rattle.rows.specs.Entries.{pairs}
-use Rattle.rows.specs.Product.{row-entries, with-products, row-sum, product, never-falls, starts-right, columns-right, value-right, product-call}
+use Rattle.matvec.specs.Product.{row-entries, with-products, row-sum, product, never-falls, starts-right, columns-right, value-right, product-call}
 use Rattle.exports.specs.Exports.{signed, on-sheet, stored, zero-told}
 use Rattle.recorded.specs.Bytes.{number-at, float-of, numbers-in, is-whole, holds, float-is}
 use Rattle.recorded.specs.Answers.{tells, leaves, agrees}
@@ -26,8 +26,11 @@ use Rattle.enumeration.specs.Enumeration.{counted-call}
 use Rattle.complex_recorded.specs.Agreement.{indices-agrees, matvec-agrees}
 use Rattle.u1_recorded.specs.States.{counted-agrees}
 use Rattle.replay.specs.declared.walk.Replayed.the-variants.{Cases, Malformed}
-use Rattle.replay.specs.Layout.{size, place, field, caseAt, well-formed}
-use Rattle.replay.specs.Agreement.{chosen, complexes-agreed, states-agreed, rows-agreed, agreed}
+use Rattle.recorded_fields.specs.Layout.{size, place, field, caseAt, well-formed}
+use Rattle.recorded_fields.specs.Choosing.{chosen}
+use Rattle.complex_recorded.specs.Cases.{complexes-agreed, rows-agreed}
+use Rattle.u1_recorded.specs.Cases.{states-agreed}
+use Rattle.replay.specs.Agreement.{agreed}
 use Rattle.replay.specs.Cases.{casesFrom, cases, behind, ends, differing, replayed}
 
 -- a field: its length and its bytes

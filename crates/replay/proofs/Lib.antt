@@ -1,6 +1,3 @@
-mod Fields
-mod Choosing
-mod Decoding
 mod Walking
 mod Texts
 mod Ending

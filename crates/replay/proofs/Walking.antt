@@ -8,10 +8,10 @@ use borrow.Author.Tests.{not-true, not-false}
 use lib.ListN.{length}
 use Rattle.mathematics.specs.Counting.{keep}
 use Rattle.replay.specs.declared.walk.Replayed.the-variants.{Cases, Malformed}
-use Rattle.replay.specs.Layout.{Case, place, caseAt, well-formed}
+use Rattle.recorded_fields.specs.Layout.{Case, place, caseAt, well-formed}
 use Rattle.replay.specs.Agreement.{agreed}
 use Rattle.replay.specs.Cases.{casesFrom, cases, behind, ends, differing, replayed}
-use Rattle.replay.proofs.Fields.{further, case-inside, next-is, whole-of}
+use Rattle.recorded_fields.proofs.Fields.{further, case-inside, next-is, whole-of}
 
 -- what is left of the cases after some
 abbrev rest : List ℕ → ℕ → ℕ → List Case

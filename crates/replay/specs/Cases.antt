@@ -7,7 +7,7 @@ use lib.ListN.{getD, length}
 use Rattle.mathematics.specs.Counting.{keep}
 use Rattle.replay.specs.declared.walk.Replayed.{Replayed}
 use Rattle.replay.specs.declared.walk.Replayed.the-variants.{Cases, Malformed}
-use Rattle.replay.specs.Layout.{Case, caseAt, well-formed}
+use Rattle.recorded_fields.specs.Layout.{Case, caseAt, well-formed}
 use Rattle.replay.specs.Agreement.{agreed}
 
 -- the cases from a place on, one behind the other, as long as they are well-formed, and k at most

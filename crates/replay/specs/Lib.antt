@@ -1,5 +1,3 @@
-pub mod Layout
-pub mod Inputs
 pub mod Agreement
 pub mod Cases
 pub mod Text

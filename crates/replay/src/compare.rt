@@ -1,12 +1,12 @@
 // The port's answers in a case, held against those of the list.
-use crate::case::byte_at;
-use crate::complexes::complexes_same;
-use crate::row_lists::rows_same;
-use crate::u1_matrices::matrices_same;
-use crate::u1_states::states_same;
-use crate::z2::z2_same;
+use complex_recorded::complex_cases::complexes_same;
+use complex_recorded::row_cases::rows_same;
+use recorded_fields::case::byte_at;
+use su2_recorded::cases::z2_same;
+use u1_recorded::matrix_cases::matrices_same;
+use u1_recorded::state_cases::states_same;
 ghost use mathlib.Core.Path.{_≡_};
-ghost use Rattle.replay.specs.Layout.{caseAt, Whole};
+ghost use Rattle.recorded_fields.specs.Layout.{caseAt, Whole};
 ghost use Rattle.replay.specs.Agreement.{agreed};
 
 pub fn case_same(list: &[u8], at: usize) -> bool

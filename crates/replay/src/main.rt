@@ -1,14 +1,7 @@
 // Holds the port against a list of the Rust's answers on standard input, and prints how many cases differ.
-mod case;
 mod compare;
-mod complexes;
-mod inputs;
-mod row_lists;
 mod told;
-mod u1_matrices;
-mod u1_states;
 mod walk;
-mod z2;
 
 use told::write_told;
 

@@ -1,12 +1,12 @@
 // The walk over the list of answers, case by case.
-use crate::case::FIELDS;
-use crate::case::byte_at;
-use crate::case::place;
 use crate::compare::case_same;
+use recorded_fields::case::FIELDS;
+use recorded_fields::case::byte_at;
+use recorded_fields::case::place;
 ghost use mathlib.Core.Path.{_≡_};
 ghost use Prim.Native.Nat.{_≤_};
 ghost use lib.ListN.{length};
-ghost use Rattle.replay.specs.Layout.{caseAt, well-formed};
+ghost use Rattle.recorded_fields.specs.Layout.{caseAt, well-formed};
 ghost use Rattle.replay.specs.Cases.{ends, replayed};
 
 // How many cases there are and how many differ, or where a case or the end of the list is not what the format says.

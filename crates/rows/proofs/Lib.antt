@@ -1,7 +1,4 @@
 pub mod Pairs
-pub mod Judging
-pub mod Summing
-pub mod Validity
 pub mod Columns
 pub mod Sorting
 pub mod Shifting

@@ -1,4 +1,3 @@
 pub mod Entries
-pub mod Product
 pub mod Row
 pub mod RowLists

@@ -1,10 +1,10 @@
 // What the exported functions on row lists do that are of no mode.
 use exports::Told;
 use exports::signed;
-use rows::product::Product;
-use rows::product::matvec;
+use matvec::product::Product;
+use matvec::product::matvec;
 ghost use mathlib.Core.Path.{_≡_};
-ghost use Rattle.rows.specs.Product.{productAnswer, product-call};
+ghost use Rattle.matvec.specs.Product.{productAnswer, product-call};
 ghost use Rattle.exports.specs.Exports.{toldOf, zeroOf, zero-told, Exported};
 
 // The number of rows is not told: no bound of it is known.

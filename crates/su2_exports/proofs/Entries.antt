@@ -12,7 +12,7 @@ use Rattle.complex.proofs.Accepting.{accepted}
 use Rattle.matrices.specs.declared.coupling.KSParams.{KSParams}
 use Rattle.su2_even_sets.specs.EvenSets.{su2-states}
 use Rattle.su2_rows.specs.Rows.{su2-entries, RowsKnown}
-use Rattle.su2_rows.specs.Entries.{entries-number, EntriesKnown}
+use Rattle.su2_entries.specs.Entries.{entries-number, EntriesKnown}
 
 -- 257 for each of at most 2^20 states
 product-small : (t n : ℕ) → t ≤ 256 → n ≤ 1048576 → (t + 1) * n ≤ 257 * 1048576

@@ -13,7 +13,7 @@ use Rattle.recorded.specs.Answers.{tells, agrees}
 use Rattle.su2_masks.specs.Basis.{su2-basis-call, su2-counted-call}
 use Rattle.su2_quantum.specs.Dense.{su2-dense-call}
 use Rattle.su2_rows.specs.Rows.{su2-rows-call}
-use Rattle.su2_rows.specs.Entries.{su2-entries-call}
+use Rattle.su2_entries.specs.Entries.{su2-entries-call}
 use Rattle.su2_products.specs.Product.{su2-product-call}
 use Rattle.su2_loops.specs.Loop.{su2-loop-call}
 

@@ -1,4 +1,6 @@
 // The calls of the two-valued mode, held against what was recorded of them: the number that a call tells, and what its lists then begin with.
+pub mod cases;
+
 use matrices::coupling::KSParams;
 use recorded::same::same_float;
 use recorded::same::same_floats;

@@ -11,9 +11,9 @@ use Rattle.complex.specs.Judge.{refusal}
 use Rattle.complex.proofs.Accepting.{accepted}
 use Rattle.gauss_law.specs.Listing.{states}
 use Rattle.matrices.specs.declared.coupling.KSParams.{KSParams}
-use Rattle.csr.specs.Csr.{csr-entries}
-use Rattle.csr.specs.Entries.{entries-number, EntriesKnown}
-use Rattle.csr.proofs.EntryNumbers.{entries-few}
+use Rattle.entries.specs.Rows.{csr-entries}
+use Rattle.entries.specs.Entries.{entries-number, EntriesKnown}
+use Rattle.entries.proofs.EntryNumbers.{entries-few}
 
 pub entries-small : {c : Complex} {L : ℕ} → EntriesKnown c L → entries-number c L < 2 ^ 31
 entries-small h = let few = h .few in omega arith

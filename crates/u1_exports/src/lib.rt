@@ -1,6 +1,7 @@
 // What the exported functions of U(1) do.
 use csr::build::build_csr;
-use csr::entries::count_entries;
+use electric::electric_field_sq;
+use entries::count_entries;
 use enumeration::count::count_states;
 use enumeration::enumerate_gauge_invariant;
 use exports::Told;
@@ -17,10 +18,9 @@ use lanczos::matvec::hamiltonian_matvec;
 use law_check::GaussCheck;
 use law_check::check_gauss_law;
 use matrices::coupling::KSParams;
-use observables::electric::electric_field_sq;
-use observables::wilson::wilson_loop;
 use plaquettes::triangle::apply_triangle_shift;
 use shifts::apply_shift;
+use wilson::wilson_loop;
 ghost use mathlib.Core.Path.{_≡_};
 ghost use Rattle.mathematics.specs.Calls.{none-lent};
 ghost use Rattle.law_check.specs.Law.{lawAnswer, law-call};
@@ -31,10 +31,10 @@ ghost use Rattle.matrices.specs.Coupling.{coupling-call, u1-params};
 ghost use Rattle.plaquettes.specs.Triangle.{triangle-call};
 ghost use Rattle.hamiltonian.specs.Dense.{u1-dense-call};
 ghost use Rattle.csr.specs.Csr.{csr-call};
-ghost use Rattle.csr.specs.Entries.{entries-call};
+ghost use Rattle.entries.specs.Entries.{entries-call};
 ghost use Rattle.lanczos.specs.Matvec.{u1-product-call};
-ghost use Rattle.observables.specs.Electric.{electric-call};
-ghost use Rattle.observables.specs.Wilson.{wilson-call};
+ghost use Rattle.electric.specs.Electric.{electric-call};
+ghost use Rattle.wilson.specs.Wilson.{wilson-call};
 ghost use Rattle.exports.specs.Exports.{toldOf, yesOf, on-sheet, as-number, stored, value-lent, three-floats, Exported};
 
 fn told_law(answer: GaussCheck) -> Told

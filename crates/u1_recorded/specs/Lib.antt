@@ -3,3 +3,4 @@ pub mod States
 pub mod Places
 pub mod Matrix
 pub mod Products
+pub mod Cases

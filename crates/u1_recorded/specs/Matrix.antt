@@ -8,7 +8,7 @@ use Rattle.exports.specs.Exports.{on-sheet}
 use Rattle.matrices.specs.declared.coupling.KSParams.{KSParams}
 use Rattle.hamiltonian.specs.Dense.{u1-dense-call}
 use Rattle.csr.specs.Csr.{csr-call}
-use Rattle.csr.specs.Entries.{entries-call}
+use Rattle.entries.specs.Entries.{entries-call}
 use Rattle.recorded.specs.Bytes.{holds-i32s, holds-u32s, holds-floats}
 use Rattle.recorded.specs.Answers.{tells, agrees}
 use Rattle.u1_recorded.specs.Room.{states-room, starts-room, columns-room, entries-room}

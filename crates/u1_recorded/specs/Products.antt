@@ -7,8 +7,8 @@ use lib.Ieee.{Float, binary64, ofBits}
 use Rattle.exports.specs.Exports.{on-sheet, value-lent}
 use Rattle.matrices.specs.declared.coupling.KSParams.{KSParams}
 use Rattle.lanczos.specs.Matvec.{u1-product-call}
-use Rattle.observables.specs.Electric.{electric-call}
-use Rattle.observables.specs.Wilson.{wilson-call}
+use Rattle.electric.specs.Electric.{electric-call}
+use Rattle.wilson.specs.Wilson.{wilson-call}
 use Rattle.recorded.specs.Bytes.{holds-i32s, holds-floats}
 use Rattle.recorded.specs.Answers.{agrees}
 use Rattle.u1_recorded.specs.Room.{states-room, result-room}

@@ -1,10 +1,10 @@
 -- The walk from the lowest candidate of a start.
-use Prim.Native.Nat.{ℕ, zero, _+_, _-_, _*_, _^_, _≤_}
+use Prim.Native.Nat.{ℕ, zero, _+_, _-_, _*_, _^_, _≤_, _<_}
 use mathlib.Core.List.{List}
 use mathlib.Core.Path.{_≡_, refl, sym, _∙_}
 use native.Mathlib.Omega.{arith}
-use lib.IntN.{ℤ, pos, natAbs}
-use lib.ListN.{getD, length, replicate, length-replicate}
+use lib.IntN.{ℤ, pos, negℤ, natAbs, +ℤ-idl}
+use lib.ListN.{getD, length, replicate, length-replicate, getD-replicate}
 use Rattle.mathematics.specs.Integers.{sum-below}
 use Rattle.complex.specs.Complex.{Complex, uncharged}
 use Rattle.complex.specs.Judge.{Accepted}
@@ -48,6 +48,10 @@ module _ (c : Complex) (accepted : Accepted c) (neutral : sum-below (c .charges)
 
   pub begun-long : (k : ℕ) → length (place k) ≡ length (c .edges)
   begun-long = walked-long c accepted (c .charges) neutral free cycle tables L begin lowest
+
+  -- it has -L on every free edge
+  pub begin-low : (j : ℕ) → j < length (free-edges c) → getD begin (getD (free-edges c) j 0) (pos 0) ≡ negℤ (pos L)
+  begin-low j h = lowest .free j h ∙ getD-replicate (length (free-edges c)) j (value L zero) (pos 0) h ∙ +ℤ-idl (negℤ (pos L))
 
   pub begin-sized : length begin ≡ length (c .edges)
   begin-sized = lowest .sized

@@ -1,5 +1,5 @@
 -- The tables of an accepted record fit, and walk over all its states.
-use Prim.Native.Nat.{ℕ, _+_, _-_, _*_, _^_, _≤_}
+use Prim.Native.Nat.{ℕ, _+_, _-_, _*_, _^_, _≤_, _<_}
 use mathlib.Core.List.{List, _++_}
 use mathlib.Core.Path.{_≡_, refl, sym, _∙_, ap}
 use native.Mathlib.Omega.{arith}
@@ -7,7 +7,8 @@ use native.Mathlib.Nat.{sub-zero, mul-le-mul}
 use lib.IntN.{ℤ, pos, natAbs}
 use lib.ListN.{getD, length, take, drop, replicate, length-replicate, length-append, length-drop}
 use lib.Seq.{take-at}
-use Rattle.mathematics.proofs.Ordered.{each-at}
+use Rattle.mathematics.proofs.Ordered.{each-at, place-member}
+use Rattle.mathematics.proofs.Below.{member-listed, same-place}
 use Rattle.mathematics.proofs.Sums.{sum-zero}
 use Rattle.complex.specs.declared.SimplicialComplex.{SimplicialComplex}
 use Rattle.complex.specs.Complex.{Complex, complexOf}
@@ -16,17 +17,17 @@ use Rattle.complex.proofs.Accepting.{accepted}
 use Rattle.gauss_law.specs.Listing.{free-edges, listing}
 use Rattle.gauss_law.specs.declared.spanning.FreeEdges.{FreeEdges}
 use Rattle.gauss_law.specs.Spanning.{FreeOf}
-use Rattle.gauss_law.proofs.Free.{free-below}
+use Rattle.gauss_law.proofs.Free.{free-below, free-once}
 use Rattle.gauss_law.proofs.Spanned.{edges-long}
 use Rattle.walker.specs.declared.tables.Walker.{Walker}
 use Rattle.cycles.specs.Cycles.{row, CycleTable, Tables}
 use Rattle.walker.specs.Walker.{lowest-candidate, walked}
-use Rattle.walker.specs.Steps.{Small, CyclesFit}
+use Rattle.walker.specs.Steps.{Small, CyclesFit, Runs}
 use Rattle.walker.specs.Tables.{Walks, begin-of, states-of, Fit}
 use Rattle.cycles.proofs.Rows.{zero-row}
 use Rattle.cycles.proofs.Adding.{zeros-at}
 use Rattle.walker.proofs.Stepping.{cycle-long, cycle-signs}
-use Rattle.walker.proofs.Begun.{zeros-start, begin-sized, begun-states, begun-long, begun-small}
+use Rattle.walker.proofs.Begun.{zeros-start, begin-sized, begin-low, begun-states, begun-long, begun-small}
 use Rattle.cycles.proofs.CycleTables.{free-listed}
 
 -- ---- where the walk begins
@@ -120,6 +121,19 @@ module _ (c : Complex) (w : Walker) (L : ℕ) (walks : Walks c L w) where
   begin-long : length (begin-of w) ≡ length (c .edges)
   begin-long = ap length begin-is ∙ lowest-long
 
+  -- the cycle of a free edge on another one
+  others-zero : (i j : ℕ) → i < length (free-edges c) → j < length (free-edges c) → (i ≡ j → ⊥) → getD (cycle j) (getD (free-edges c) i 0) (pos 0) ≡ pos 0
+  others-zero i j h k apart =
+      walks .table .cycles j k .others (getD (free-edges c) i 0) (member-listed (place-member 0 (free-edges c) i h)) (λ e. apart (same-place 0 (free-once c) i j h k e))
+
+  pub walks-runs : Runs (w .free) (w .cycles) L (w .«n_free») (begin-of w)
+  walks-runs =
+      record {
+        own = λ h. rw (begin-long, walks .listed 1 h) (walks .table .cycles 1 (rw (walks .count) at h) .own);
+        others = λ j h k. rw (begin-long, walks .listed 1 (omega arith)) (others-zero 1 j (omega (arith, walks .count)) (omega (arith, walks .count)) (λ e. omega arith));
+        low = λ h. rw (walks .listed 1 h, begin-is) (begin-low c (walks .accepted) (walks .neutral) (w .free) cycle walks-tables L (walks .start) (walks .starts) 1 (rw (walks .count) at h));
+      }
+
   pub walks-fit : (k : ℕ) → L ≤ 1000 → k ≤ 2 ^ 20 → Fit w L k
   walks-fit k h few =
       record {
@@ -134,6 +148,7 @@ module _ (c : Complex) (w : Walker) (L : ℕ) (walks : Walks c L w) where
               values = λ i m e. rw (begin-is, lowest-long, walks .count) (small i e);
               sized = λ i. rw (begin-is, lowest-long, walks .count) (begun-long c (walks .accepted) (walks .neutral) (w .free) cycle walks-tables L (walks .start) (walks .starts) i);
             };
+        runs = walks-runs;
       }
     where
       small : (i e : ℕ) → natAbs (getD (walked (w .free) cycle L (length (free-edges c)) (lowest-candidate cycle L (walks .start) (length (free-edges c))) i) e (pos 0)) ≤ 2 ^ 20

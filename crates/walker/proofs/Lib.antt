@@ -1,5 +1,3 @@
-pub mod EdgeLists
-pub mod Raising
 pub mod Signs
 pub mod Counter
 pub mod Candidates

@@ -26,7 +26,7 @@ use Rattle.gauss_law.proofs.Accepted.{accepted-tree}
 use Rattle.walker.proofs.Combined.{chosen-small}
 use Rattle.walker.proofs.Interval.{block-kept}
 
-added-none : (s z : List ℤ) → with-cycle s (pos 0) z ≡ s
+pub added-none : (s z : List ℤ) → with-cycle s (pos 0) z ≡ s
 unfolding with-cycle
 added-none [] z = refl
 added-none (x ∷ s) [] = refl

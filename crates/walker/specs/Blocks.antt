@@ -23,7 +23,11 @@ pub record SpanOfBlock (L n : ℕ) (s z : List ℤ) (r : Span) : Type 0 where
   pub is : block-rows s z (r .from) (r .to) ≡ block L n s z
   pub bound : r .to ≤ n
 
--- the states are counted, and written over the beginning of a list
-pub record StatesWritten (states : List (List ℤ)) (old new : List ℤ) (r : ℕ) : Type 0 where
+-- states are counted, and written over a list from a place on
+pub record WrittenAt (states : List (List ℤ)) (old new : List ℤ) (at r : ℕ) : Type 0 where
   pub count : r ≡ length states
-  pub list : new ≡ put old 0 (flatten states)
+  pub list : new ≡ put old at (flatten states)
+
+-- over its beginning
+abbrev pub StatesWritten : List (List ℤ) → List ℤ → List ℤ → ℕ → Type 0
+StatesWritten states old new r = WrittenAt states old new 0 r

@@ -1,8 +1,8 @@
--- What the code of the walk asks: sizes of tables and of values.
+-- What the code of the walk asks: sizes of tables and of values, and where runs begin.
 use Prim.Native.Nat.{ℕ, _^_, _<_, _≤_}
 use mathlib.Core.List.{List}
 use mathlib.Core.Path.{_≡_}
-use lib.IntN.{ℤ, pos, natAbs}
+use lib.IntN.{ℤ, pos, negℤ, natAbs}
 use lib.ListN.{getD, length}
 use Rattle.cycles.specs.Cycles.{row}
 use Rattle.walker.specs.Walker.{walked}
@@ -38,3 +38,10 @@ pub record Walkable (free : List ℕ) (cycles : List ℤ) (L n : ℕ) (s : List 
   pub few : k ≤ 2 ^ 20
   pub values : (i : ℕ) → i < k → Small (2 ^ 20) (walked free (row (length s) cycles) L n s i)
   pub sized : (i : ℕ) → length (walked free (row (length s) cycles) L n s i) ≡ length s
+
+-- The walk begins at -L on the second free edge. The cycle of that edge is 1 on it, and the later cycles are 0 on it. So the walk goes by runs
+-- of blocks, in which that edge counts up.
+pub record Runs (free : List ℕ) (cycles : List ℤ) (L n : ℕ) (s : List ℤ) : Type 0 where
+  pub own : 1 < n → getD (row (length s) cycles 1) (getD free 1 0) (pos 0) ≡ pos 1
+  pub others : (j : ℕ) → 1 < j → j < n → getD (row (length s) cycles j) (getD free 1 0) (pos 0) ≡ pos 0
+  pub low : 1 < n → getD s (getD free 1 0) (pos 0) ≡ negℤ (pos L)

@@ -12,7 +12,7 @@ use Rattle.gauss_law.specs.Listing.{free-edges}
 use Rattle.walker.specs.declared.tables.Walker.{Walker}
 use Rattle.cycles.specs.Cycles.{row, CycleTable}
 use Rattle.walker.specs.Walker.{lowest-candidate, walked-states}
-use Rattle.walker.specs.Steps.{Small, Walkable}
+use Rattle.walker.specs.Steps.{Small, Walkable, Runs}
 
 -- where the walk begins
 unfoldable pub begin-of : Walker → List ℤ
@@ -50,3 +50,4 @@ pub record Fit (w : Walker) (L k : ℕ) : Type 0 where
   pub space : length (w .first) ≡ 63
   pub sized : length (begin-of w) ≡ w .«n_edges»
   pub walkable : Walkable (w .free) (w .cycles) L (w .«n_free») (begin-of w) k
+  pub runs : Runs (w .free) (w .cycles) L (w .«n_free») (begin-of w)

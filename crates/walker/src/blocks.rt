@@ -1,4 +1,4 @@
-// A block: the candidates that differ on the first free edge alone. Those within the bounds are an interval.
+// A block: the candidates that agree on all free edges but the first. Those within the bounds are an interval.
 use crate::steps::negative;
 use crate::steps::plus_times;
 use numbers::i8_to_i32;

@@ -48,21 +48,22 @@ pub fn begin(config: &mut [i32], cycles: &[i8], n_free: usize, lambda: usize)
     }
 }
 
-// The next block: all free edges but the first are counted up.
+// One step of the counter over the free edges, from number `from` on: with 1 to the next block, with 2 to the next run of blocks.
 pub fn step(
     config: &mut [i32],
     free: &[u8; MOST_EDGES],
     n_free: usize,
     cycles: &[i8],
     lambda: usize,
+    from: usize,
 )
     requires { ⌜ CyclesFit (length (now config)) «n_free» lambda (now cycles) × FreeFit (length (now config)) «n_free» (now free) × Small (2 ^ 20) (now config) ⌝ }
-    ensures { λ _. ⌜ now (config .exit) ≡ stepped (now (free .entry)) (row (length (now (config .entry))) (now (cycles .entry))) lambda («n_free» - 1) 1 (now (config .entry)) ⌝ }
+    ensures { λ _. ⌜ now (config .exit) ≡ stepped (now (free .entry)) (row (length (now (config .entry))) (now (cycles .entry))) lambda («n_free» - from) from (now (config .entry)) ⌝ }
 {
     let m = config.len();
     let top = usize_to_i32(lambda);
     let back = negative(2 * lambda);
-    let mut j = 1;
+    let mut j = from;
     while j < n_free {
         let x = config[byte(free[j])];
         if x < top {

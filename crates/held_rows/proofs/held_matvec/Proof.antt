@@ -41,10 +41,10 @@ use denote.Triple.Walked.{says, Stays, stay-none-slice, gave-slice, walkOf, goes
 use denote.Exit.{yes}
 use denote.Triple.Clauses.{ensured, lasts}
 use Rattle.mathematics.specs.Calls.{Answered}
-use Rattle.rows.specs.declared.product.Product.{Product}
-use Rattle.rows.specs.Product.{productAnswer, product-call}
-use Rattle.rows.proofs.product.Product as S
-use Rattle.rows.proofs.product.Product.Laws as S′
+use Rattle.matvec.specs.declared.product.Product.{Product}
+use Rattle.matvec.specs.Product.{productAnswer, product-call}
+use Rattle.matvec.proofs.product.Product as S
+use Rattle.matvec.proofs.product.Product.Laws as S′
 use Rattle.held_rows.specs.declared.RowLists.{RowLists}
 use Rattle.held_rows.proofs.Record.{Row}
 use Rattle.held_rows.proofs.RowLists as T

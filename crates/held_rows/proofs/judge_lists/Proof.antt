@@ -1,7 +1,7 @@
 use mathlib.Core.Bool.{false}
 use mathlib.Core.Path.{_≡_, refl}
 use Rattle.mathematics.proofs.Calls.{none, here, past, refuses, ends}
-use Rattle.rows.specs.Product.{productAnswer}
+use Rattle.matvec.specs.Product.{productAnswer}
 use Rattle.held_rows.specs.Lists.{list-places-wrong, values-wrong, lists-call}
 use Rattle.held_rows.proofs.Judging.{some-start, lists-valid}
 use borrow.Author.Needs.{needs}

@@ -1,5 +1,5 @@
 use mathlib.Core.Path.{sym, ap}
-use Rattle.rows.specs.Product.{productAnswer}
+use Rattle.matvec.specs.Product.{productAnswer}
 use Rattle.exports.specs.Exports.{toldOf, zeroOf}
 use borrow.Author.Needs.{needs}
 use Rattle.rows_exports.proofs.told_product.Statement.{statement}

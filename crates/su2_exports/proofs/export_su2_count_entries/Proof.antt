@@ -1,6 +1,6 @@
 use mathlib.Core.Path.{_∙_}
 use Rattle.mathematics.proofs.Signed.{back64}
-use Rattle.su2_rows.specs.Entries.{su2-entries-call}
+use Rattle.su2_entries.specs.Entries.{su2-entries-call}
 use Rattle.exports.proofs.Signs.{signed-told}
 use Rattle.exports.proofs.OnSheets.{sheet-refuses, sheet-answers, small-answer}
 use Rattle.su2_exports.proofs.Entries.{number-small}

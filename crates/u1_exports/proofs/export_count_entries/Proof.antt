@@ -1,6 +1,6 @@
 use mathlib.Core.Path.{_∙_}
 use Rattle.mathematics.proofs.Signed.{back64}
-use Rattle.csr.specs.Entries.{entries-call}
+use Rattle.entries.specs.Entries.{entries-call}
 use Rattle.exports.proofs.Signs.{signed-told}
 use Rattle.exports.proofs.OnSheets.{sheet-refuses, sheet-answers, small-answer}
 use Rattle.u1_exports.proofs.Entries.{entries-small}

@@ -1,6 +1,6 @@
 use mathlib.Core.Path.{refl, _∙_}
 use Rattle.mathematics.proofs.Signed.{back64}
-use Rattle.observables.specs.Electric.{electric-call}
+use Rattle.electric.specs.Electric.{electric-call}
 use Rattle.exports.proofs.Signs.{signed-told}
 use Rattle.exports.proofs.OnSheets.{sheet-refuses, sheet-answers, small-answer, few-small}
 use borrow.Author.Needs.{needs}

@@ -1,6 +1,6 @@
 use mathlib.Core.Path.{refl, _∙_}
 use Rattle.mathematics.proofs.Signed.{back64}
-use Rattle.observables.specs.Wilson.{wilson-call}
+use Rattle.wilson.specs.Wilson.{wilson-call}
 use Rattle.exports.specs.Exports.{value-lent}
 use Rattle.exports.proofs.OnSheets.{sheet-refuses, sheet-answers}
 use Rattle.exports.proofs.Answers.{lent-answers}

@@ -23,10 +23,11 @@ use Rattle.matrices.proofs.Weighing.{weights-fit, weights-refuse, past-weights}
 use Rattle.answers.specs.Answer.{numberAnswer}
 use Rattle.rows.proofs.MadeRows.{coupling-fits, lists-are}
 use Rattle.plaquettes.proofs.Listed.{basis-listed}
-use Rattle.csr.specs.Csr.{csr-entries, csr-call}
-use Rattle.csr.proofs.Counting.{all-countable, counted-entries}
-use Rattle.csr.proofs.KeptDiagonals.{right-low}
-use Rattle.csr.proofs.EntryNumbers.{entries-same}
+use Rattle.entries.specs.Rows.{csr-entries}
+use Rattle.entries.proofs.Counting.{all-countable, counted-entries}
+use Rattle.entries.proofs.KeptDiagonals.{right-low}
+use Rattle.entries.proofs.EntryNumbers.{entries-same}
+use Rattle.csr.specs.Csr.{csr-call}
 use borrow.Author.Needs.{needs}
 use Rattle.csr.proofs.build.build_csr.Statement.{statement}
 use Rattle.csr.proofs.build.build_csr.Tie as tie

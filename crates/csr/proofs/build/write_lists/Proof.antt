@@ -8,7 +8,7 @@ use Rattle.matrices.specs.Weights.{weight}
 use Rattle.gauss_law.specs.Listing.{states}
 use Rattle.plaquettes.specs.Targets.{BasisList}
 use Rattle.plaquettes.proofs.Listed.{small-rows}
-use Rattle.csr.specs.Csr.{csr-entries}
+use Rattle.entries.specs.Rows.{csr-entries}
 use Rattle.csr.specs.Fill.{Walk, walkOf, WalkOf}
 use Rattle.csr.proofs.WalkMade.{numbered, word-small, walk-made, entries-small}
 use Rattle.csr.proofs.Built.{writable, lists-written, starts-fit}

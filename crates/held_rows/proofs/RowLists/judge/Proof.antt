@@ -39,10 +39,10 @@ use denote.Triple.Walked.{says, Stays, stay-none, walkOf, goes-none, Walks, ends
 use denote.Exit.{yes}
 use denote.Triple.Clauses.{ensured, lasts}
 use Rattle.mathematics.specs.Calls.{Answered, none-lent}
-use Rattle.rows.specs.declared.product.Product.{Product}
-use Rattle.rows.specs.Product.{productAnswer}
-use Rattle.rows.proofs.product.Product as S
-use Rattle.rows.proofs.product.Product.Laws as S′
+use Rattle.matvec.specs.declared.product.Product.{Product}
+use Rattle.matvec.specs.Product.{productAnswer}
+use Rattle.matvec.proofs.product.Product as S
+use Rattle.matvec.proofs.product.Product.Laws as S′
 use Rattle.held_rows.specs.declared.RowLists.{RowLists}
 use Rattle.held_rows.specs.Lists.{lists-call}
 use Rattle.held_rows.proofs.Record.{Row, Shape, Lawful, Own, Slices, opened}

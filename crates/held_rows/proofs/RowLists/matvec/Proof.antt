@@ -41,17 +41,17 @@ use denote.Triple.Walked.{says, Stays, stay-none, stay-none-slice, gave-slice, w
 use denote.Exit.{yes}
 use denote.Triple.Clauses.{ensured, lasts}
 use Rattle.mathematics.specs.Calls.{Answered}
-use Rattle.rows.specs.declared.product.Product.{Product}
-use Rattle.rows.specs.Product.{productAnswer, product-call}
-use Rattle.rows.proofs.product.Product as S
-use Rattle.rows.proofs.product.Product.Laws as S′
+use Rattle.matvec.specs.declared.product.Product.{Product}
+use Rattle.matvec.specs.Product.{productAnswer, product-call}
+use Rattle.matvec.proofs.product.Product as S
+use Rattle.matvec.proofs.product.Product.Laws as S′
 use Rattle.held_rows.specs.declared.RowLists.{RowLists}
 use Rattle.held_rows.proofs.Record.{Row, Shape, Lawful, Own, Slices, opened}
 use Rattle.held_rows.proofs.RowLists.Laws as T′
-use Rattle.rows.proofs.product.matvec as callee
-use Rattle.rows.proofs.product.matvec.Symbol as callee-def
-use Rattle.rows.proofs.product.matvec.Symbol.{name as #rows·matvec}
-use Rattle.rows.proofs.product.matvec.Met as callee-thm
+use Rattle.matvec.proofs.product.matvec as callee
+use Rattle.matvec.proofs.product.matvec.Symbol as callee-def
+use Rattle.matvec.proofs.product.matvec.Symbol.{name as #matvec·matvec}
+use Rattle.matvec.proofs.product.matvec.Met as callee-thm
 use Rattle.held_rows.proofs.RowLists.matvec.Key.{name as #matvec}
 use Rattle.held_rows.proofs.RowLists.matvec as matvec
 use Rattle.held_rows.proofs.RowLists.matvec.Statement as stated
@@ -144,7 +144,7 @@ module _ {M : Type 1} (𝓤 : URA M) (H : Heap 𝓤) (A : Atoms 𝓤) (W : Given
       suffices ! _ (ends-at 𝓤 H A matvec.ended stayed (matvec.clauses 𝓤 H A mem run) W ((κs, qs, tt, a, vals), tt) u r (tt, (tt, (zs, tt))) (tt, (tt, (l, tt)))) $ says ! e $
       frame ! $ nothing ! $ move ! (1 ∷ 0 ∷ []) $ fjoin ! $ move ! (2 ∷ []) $ split ! $ move ! (1 ∷ 2 ∷ []) $ fjoin ! $ move ! (1 ∷ 0 ∷ []) $ fjoin ! $ frame ! $ done !
 
-  module _ (C : Calls 𝓤 H) (Λ : Loops 𝓤 H) (fm : FmC 𝓤 H (W .laws) C) (known : Triple 𝓤 (C #rows·matvec) (Multiply 𝓤 H A mem run)) where
+  module _ (C : Calls 𝓤 H) (Λ : Loops 𝓤 H) (fm : FmC 𝓤 H (W .laws) C) (known : Triple 𝓤 (C #matvec·matvec) (Multiply 𝓤 H A mem run)) where
     walk : Holds (hasTy (T′.mir (named 0) (named 1) (named 2)) mach) × WT mach → Is (ShrSlice (named 3) κ₃ f64) x (xv ∷ []) → Room f64 (length ys)
         → ent 𝓤 (onEntry 𝓤 H A matvec.signature κs qs a vals) (WpFn 𝓤 H C Λ code.function (mach ∷ xv ∷ yv ∷ []) Post)
     walk wt px room =
@@ -173,7 +173,7 @@ module _ {M : Type 1} (𝓤 : URA M) (H : Heap 𝓤) (A : Atoms 𝓤) (W : Given
         keep ! (1 ∷ 2 ∷ 0 ∷ 4 ∷ []) $ by ! (exits r u (zs .1 .1 .1 .1 .0) e l))))))))))))))))
 
 module _ {M : Type 1} (𝓤 : URA M) (H : Heap 𝓤) (A : Atoms 𝓤) (W : Given 𝓤 H A) (mem : Memory → SProp 𝓤) (run : Routine → Fun 𝓤) where
-  matvec-walks : (C : Calls 𝓤 H) (Λ : Loops 𝓤 H) → FmC 𝓤 H (W .laws) C → Triple 𝓤 (C #rows·matvec) (Multiply 𝓤 H A mem run)
+  matvec-walks : (C : Calls 𝓤 H) (Λ : Loops 𝓤 H) → FmC 𝓤 H (W .laws) C → Triple 𝓤 (C #matvec·matvec) (Multiply 𝓤 H A mem run)
       → Walks 𝓤 H A matvec.ended stayed (WpFn 𝓤 H C Λ code.function) (matvec.clauses 𝓤 H A mem run)
   matvec-walks C Λ fm known = walked 𝓤 H A matvec.ended stayed (matvec.clauses 𝓤 H A mem run) (WpFn 𝓤 H C Λ code.function) (λ κs. (LL.vals (Shape 2 κs) (Lawful 2 κs), (slice-vals, (slice-vals, tt))))
       (λ κs. (LL.tells (Shape 2 κs) (Lawful 2 κs), (shr-slice-tells (named 3) (κs .1 .1 .1 .0) f64, (mut-slice-tells (named 4) (κs .1 .1 .1 .1 .0) f64, tt))))
@@ -182,7 +182,7 @@ module _ {M : Type 1} (𝓤 : URA M) (H : Heap 𝓤) (A : Atoms 𝓤) (W : Given
       (LL.lawful (Shape 2 κs) (Lawful 2 κs) 𝓤 H A W .typed (a .0) _ (are .0) .0) (are .1 .0) (are .1 .1 .0 .0 .1)))
 
 matvec-meets : {M : Type 1} (𝓤 : URA M) (H : Heap 𝓤) (A : Atoms 𝓤) (W : Given 𝓤 H A) (mem : Memory → SProp 𝓤) (run : Routine → Fun 𝓤) (𝓣 : Tables 𝓤 H)
-    → Triple 𝓤 (𝓣 .C #rows·matvec) (Multiply 𝓤 H A mem run)
+    → Triple 𝓤 (𝓣 .C #matvec·matvec) (Multiply 𝓤 H A mem run)
     → Meets 𝓤 H A matvec.signature (WpFn 𝓤 H (𝓣 .C) (𝓣 .Λ) code.function) (matvec.spec 𝓤 H A mem run)
 matvec-meets 𝓤 H A W mem run 𝓣 known = walk-meets 𝓤 H A matvec.ended stayed W
     (goes-none 𝓤 H A W 5 (Row 2) yes (λ κs x f. refl), (goes-none-slice 𝓤 H A W 5 (3 ∷ []) tt (plain (λ _. f64)) yes, (goes-gave-slice 𝓤 H A W 5 4 tt (plain (λ _. f64)), tt)))
@@ -195,4 +195,4 @@ matvec-spec 𝓤 H 𝓜 𝓖 𝓡 =
     entered 𝓤 H (tripleOf 𝓤 H (𝓖 .A) matvec.signature (matvec.spec 𝓤 H (𝓖 .A) (𝓜 .mem) (𝓡 .run)))
     (tables 𝓤 H 𝓜 𝓡 code.env .C) (tables 𝓤 H 𝓜 𝓡 code.env .Λ) #matvec code.function (code.unfolded 𝓤 H 𝓜 𝓡)
     (matvec-meets 𝓤 H (𝓖 .A) (givenOf 𝓤 H 𝓜 𝓖) (𝓜 .mem) (𝓡 .run) (tablesOf 𝓤 H 𝓜 (tables 𝓤 H 𝓜 𝓡 code.env))
-    (cited 𝓤 H (Multiply 𝓤 H (𝓖 .A) (𝓜 .mem) (𝓡 .run)) 𝓜 𝓡 code.env #rows·matvec callee-def.routine code.calls-rows·product·matvec (callee-thm.met 𝓤 H 𝓜 𝓖 𝓡)))
+    (cited 𝓤 H (Multiply 𝓤 H (𝓖 .A) (𝓜 .mem) (𝓡 .run)) 𝓜 𝓡 code.env #matvec·matvec callee-def.routine code.calls-matvec·product·matvec (callee-thm.met 𝓤 H 𝓜 𝓖 𝓡)))

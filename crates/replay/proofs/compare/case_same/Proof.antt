@@ -1,6 +1,6 @@
-use Rattle.replay.specs.Layout.{caseAt}
+use Rattle.recorded_fields.specs.Layout.{caseAt}
 use Rattle.replay.specs.Agreement.{agreed}
-use Rattle.replay.proofs.Choosing.{up-to, above}
+use Rattle.recorded_fields.proofs.Choosing.{up-to, above}
 use borrow.Author.Needs.{needs}
 use Rattle.replay.proofs.compare.case_same.Statement.{statement}
 use Rattle.replay.proofs.compare.case_same.Tie as tie

@@ -5,9 +5,9 @@ use mathlib.Core.Path.{_≡_, sym, _∙_}
 use native.Mathlib.Omega.{arith}
 use lib.ListN.{length}
 use Rattle.replay.specs.declared.walk.Replayed.the-variants.{Cases, Malformed}
-use Rattle.replay.specs.Layout.{Whole}
+use Rattle.recorded_fields.specs.Layout.{Whole}
 use Rattle.replay.specs.Cases.{ends, replayed}
-use Rattle.replay.proofs.Fields.{later, case-inside, whole-of}
+use Rattle.recorded_fields.proofs.Fields.{later, case-inside, whole-of}
 use Rattle.replay.proofs.Walking.{Walked, walked-none, walked-next, walked-all, one-more, none-more}
 use Rattle.replay.proofs.walk.replay.Statement.{statement}
 use Rattle.replay.proofs.walk.replay.Tie as tie

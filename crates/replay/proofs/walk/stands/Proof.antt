@@ -1,4 +1,4 @@
-use Rattle.replay.specs.Layout.{caseAt, well-formed}
+use Rattle.recorded_fields.specs.Layout.{caseAt, well-formed}
 use borrow.Author.Needs.{needs}
 use Rattle.replay.proofs.walk.stands.Statement.{statement}
 use Rattle.replay.proofs.walk.stands.Tie as tie

@@ -17,13 +17,13 @@ use Rattle.walker.proofs.steps.step.Statement.{statement}
 use Rattle.walker.proofs.steps.step.Tie as tie
 
 abbrev Inv-loop : tie.InvT-loop
-Inv-loop config₀ free n-free cycles lambda m top back j₀ config j =
+Inv-loop config₀ free n-free cycles lambda from m top back j₀ config j =
     (m ≡ length config₀) × (toZ w32 top ≡ pos lambda) × (toZ w32 back ≡ negℤ (pos (2 * lambda))) × (length config ≡ length config₀)
-    × (stepped free (row (length config₀) cycles) lambda (n-free - j) j config ≡ stepped free (row (length config₀) cycles) lambda (n-free - 1) 1 config₀)
+    × (stepped free (row (length config₀) cycles) lambda (n-free - j) j config ≡ stepped free (row (length config₀) cycles) lambda (n-free - from) from config₀)
     × ((e : ℕ) → natAbs (getD config e (pos 0)) ≤ 2 ^ 20 + j * 2000)
 
 abbrev μ-loop : tie.MeasureT-loop
-μ-loop config₀ free n-free cycles lambda m top back j₀ config j = n-free - j
+μ-loop config₀ free n-free cycles lambda from m top back j₀ config j = n-free - j
 
 abbrev Loop : Type 0
 Loop = tie.At-loop Inv-loop μ-loop

@@ -1,0 +1,3 @@
+pub mod Beginnings
+pub mod FieldSums
+pub mod Examples

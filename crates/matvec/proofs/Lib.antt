@@ -1,0 +1,4 @@
+pub mod Judging
+pub mod Summing
+pub mod Validity
+pub mod Examples

@@ -1,7 +1,0 @@
-pub mod Beginnings
-pub mod FieldSums
-pub mod Walks
-pub mod Places
-pub mod Reached
-pub mod Judging
-pub mod Examples

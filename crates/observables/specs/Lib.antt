@@ -1,3 +1,0 @@
-pub mod Electric
-pub mod Wilson
-pub mod Walking

@@ -1,0 +1,8 @@
+pub mod EdgeLists
+pub mod Raising
+pub mod Between
+pub mod Sides
+pub mod RunRows
+pub mod Walked
+pub mod Turns
+pub mod Written

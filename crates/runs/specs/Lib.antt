@@ -1,0 +1,3 @@
+pub mod Edges
+pub mod Rows
+pub mod Runs

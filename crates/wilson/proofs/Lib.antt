@@ -1,0 +1,5 @@
+pub mod Walks
+pub mod Places
+pub mod Reached
+pub mod Judging
+pub mod Examples
