@@ -265,16 +265,29 @@ fn show_under_way(what: &str) {
     println!("DIFFERENCE: {what}\n{shown}");
 }
 
-/// From now on a call that stays away for a minute, or that the system stops, is told with its input.
+/// The seconds that this process has had a processor, where the system tells them.
+fn processor_seconds() -> Option<u64> {
+    let told = std::fs::read_to_string("/proc/self/stat").ok()?;
+    let fields: Vec<&str> = told.rsplit_once(')')?.1.split_whitespace().collect();
+    let ticks = |field: usize| fields.get(field)?.parse::<u64>().ok();
+    Some((ticks(11)? + ticks(12)?) / 100)
+}
+
+/// From now on a call that takes a minute of processor time, or that the system stops, is told with its input. Where other work has the
+/// processors a call may stay away for longer; after a quarter of an hour it is told all the same.
 pub fn watch() {
     std::thread::spawn(|| {
-        let (mut last, mut seconds) = (u64::MAX, 0);
+        let (mut last, mut seconds, mut begun) = (u64::MAX, 0, 0);
         loop {
             std::thread::sleep(Duration::from_secs(1));
             let now = ENTERED.load(Ordering::Relaxed);
-            seconds = if now == last { seconds + 1 } else { 0 };
-            last = now;
-            if seconds >= 60 {
+            let used = processor_seconds();
+            if now != last {
+                (last, seconds, begun) = (now, 0, used.unwrap_or(0));
+            }
+            seconds += 1;
+            let busy = used.map_or(seconds, |used| used - begun);
+            if busy >= 60 || seconds >= 900 {
                 show_under_way("a call has not come back for a minute");
                 std::process::exit(1);
             }
