@@ -16,7 +16,7 @@ use Rattle.cycles.proofs.Adding.{added-length}
 use Rattle.walker.specs.declared.blocks.Span.{Span}
 use Rattle.walker.specs.Walker.{block, block-rows}
 use Rattle.walker.specs.Blocks.{SpanOfBlock}
-use Rattle.walker.proofs.BlockRows.{rows-none, rows-length, rows-long}
+use Rattle.walker.proofs.BlockRows.{rows-none, rows-length}
 use Rattle.runs.specs.Rows.{RowsBefore}
 use Rattle.runs.specs.Runs.{run-states, RunFit}
 use Rattle.runs.proofs.Between.{between-next, between-split}
@@ -54,9 +54,6 @@ module _ (L n : ℕ) (s z y : List ℤ) (from i : ℕ) (low : from ≤ i) (p : S
 
     flat-next : flatten (states from (i + 1)) ≡ flatten (states from i) ++ flatten new-rows
     flat-next = ap flatten run-next ∙ flatten-append (states from i) new-rows
-
-    rows-size : length (flatten new-rows) ≡ (p .to - p .from) * m
-    rows-size = rows-long (with-cycle s (pos i) y) z (p .from) (p .to) ∙ ap (λ k. (p .to - p .from) * k) (added-length s (pos i) y ∙ edges)
 
     counted : length (states from (i + 1)) * m ≡ length (states from i) * m + (p .to - p .from) * m
     counted = ap (λ k. k * m) count-next ∙ add-mul (length (states from i)) (p .to - p .from) m

@@ -18,8 +18,8 @@ ghost use Rattle.mathematics.specs.Writing.{put};
 // The most entries that are raised at once.
 pub const BESIDE_ENTRIES: usize = 256;
 
-// How many rows are made at once of those of the block before. 0 for long blocks of many edges: there the block before is no longer in the
-// fastest cache, and each row is better made of the one before it.
+// How many rows are made at once of those of the block before. 0 for long blocks of many edges: on the longest, making each row of the one
+// before it was measured to be faster.
 pub fn rows_at_once(n_edges: usize, candidates: usize) -> usize
     requires { ⌜ «n_edges» ≤ 63 ⌝ }
     ensures { λ r. ⌜ (r * «n_edges» ≤ 256) × (r ≤ 256) ⌝ }
