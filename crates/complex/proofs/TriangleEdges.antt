@@ -10,7 +10,7 @@ use Rattle.mathematics.specs.Lists.{same, position, choose, In}
 use Rattle.mathematics.proofs.Lists.{lists-equal, place-at}
 use Rattle.complex.specs.Complex.{Simplex, Complex}
 use Rattle.complex.specs.Judge.{Accepted}
-use Rattle.complex.specs.Sides.{sides, side, EdgeOf, TriangleSides}
+use Rattle.complex.specs.Sides.{sides, side, EdgeOf, TriangleSides, EdgeSetsDiffer}
 use Rattle.complex.proofs.Accepting.{at-in}
 
 -- what is in the list stands at its place
@@ -120,3 +120,6 @@ same-triangle c accepted t t′ h h′ first third = one (decLt t t′) (decLt t
     one (yes p) q = absurd (accepted .triangle-once t t′ p h′ same)
     one (no p) (yes q) = absurd (accepted .triangle-once t′ t q h (sym same))
     one (no p) (no q) = omega arith
+
+pub edge-sets-differ : (c : Complex) → Accepted c → EdgeSetsDiffer c
+edge-sets-differ c accepted t u number number′ shared = same-triangle c accepted t u number number′ (shared (side c t 0) (inl refl)) (shared (side c t 2) (inr (inr refl)))

@@ -19,6 +19,10 @@ side c t k = getD (sides c t) k 0
 abbrev pub EdgeOf : Complex → ℕ → ℕ → Type 0
 EdgeOf c t e = (e ≡ side c t 0) ⊎ ((e ≡ side c t 1) ⊎ (e ≡ side c t 2))
 
+-- distinct triangles have distinct edge sets: a triangle that has all edges of another is that one
+abbrev pub EdgeSetsDiffer : Complex → Type 0
+EdgeSetsDiffer c = (t u : ℕ) → t < length (c .triangles) → u < length (c .triangles) → ((e : ℕ) → EdgeOf c t e → EdgeOf c u e) → t ≡ u
+
 -- triangle t is (x, y, z), its vertices rise, and its edges (x, y), (x, z) and (y, z) have the numbers i, j and k
 pub record TriangleSides (c : Complex) (t : ℕ) : Type 0 where
   pub x : ℕ

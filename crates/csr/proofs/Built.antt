@@ -8,19 +8,18 @@ use lib.Ieee.{Float}
 use lib.ListN.{getD, length, take, drop, length-map, length-drop, take-append-drop}
 use lib.Seq.{ext-getD, getD-take, getD-drop, length-take-le}
 use Rattle.mathematics.specs.Counting.{below}
-use Rattle.mathematics.specs.Entries.{Each}
 use Rattle.mathematics.specs.Writing.{front}
 use Rattle.mathematics.proofs.Below.{length-below, map-below-at}
 use Rattle.complex.specs.Complex.{Complex}
 use Rattle.gauss_law.specs.Listing.{states}
 use Rattle.matrices.specs.declared.coupling.KSParams.{KSParams}
-use Rattle.rows.specs.RowLists.{rows-to, row-starts, row-columns, row-values, made-rows, RowsWritten}
+use Rattle.rows.specs.RowLists.{rows-to, row-starts, row-columns, row-values, RowsWritten}
 use Rattle.rows.proofs.RowsWritten.{rows-length-next}
-use Rattle.rows.proofs.MadeRows.{rows-agree}
+use Rattle.rows.proofs.SortedRows.{rows-lengths}
 use Rattle.entries.specs.Rows.{csr-row, csr-entries}
 use Rattle.csr.specs.Words.{upper, begins, FirstWords}
 use Rattle.csr.specs.Fill.{Walk, walk-entries, WalkAt, Writable, WalkOf}
-use Rattle.csr.proofs.Walked.{entries-below, rows-told, walking}
+use Rattle.csr.proofs.Walked.{entries-differ, rows-told, walking}
 
 -- first words that are written over a list
 first-front : (f : ℕ → ℕ) (n : ℕ) (old new : List ℕ) → n ≤ length old → FirstWords f n old new → new ≡ front (map f (below n)) old
@@ -61,12 +60,9 @@ module _ {c : Complex} {L : ℕ} {p : KSParams} {w : ℕ → Float} {free : List
   abbrev N : ℕ
   N = length (states c L)
 
-  same-rows : (n : ℕ) → n ≡ N → (k : ℕ) → k ≤ n → rows-to (made-rows (walk-entries v) n) k ≡ rows-to (csr-row c L p w) k
-  same-rows n e k h = rw e (rows-agree (made-rows (walk-entries v) N) (csr-row c L p w) k (λ i b. rows-told is i (omega arith)))
-
-  entries-number : (n : ℕ) → n ≡ N → length (rows-to (made-rows (walk-entries v) n) n) ≡ csr-entries c L p w
+  entries-number : (n : ℕ) → n ≡ N → length (rows-to (walk-entries v) n) ≡ csr-entries c L p w
   unfolding csr-entries
-  entries-number n e = ap length (same-rows n e n (omega arith)) ∙ ap (λ k. length (rows-to (csr-row c L p w) k)) e
+  entries-number n e = rw e (sym (rows-lengths (walk-entries v) (csr-row c L p w) N (rows-told is)))
 
   pub writable : (words : List ℕ) (columns-room values-room : ℕ) → N < length words → ((i : ℕ) → i < N → getD words i 0 < 2 ^ 20) → csr-entries c L p w ≤ columns-room → csr-entries c L p w ≤ values-room → csr-entries c L p w < 2 ^ 32
       → Writable v words columns-room values-room
@@ -79,37 +75,30 @@ module _ {c : Complex} {L : ℕ} {p : KSParams} {w : ℕ → Float} {free : List
         unset = λ i h. unset i (omega arith);
         fit =
             record {
-              within = λ i h. within (v .states) count i h;
+              differ = λ i h. entries-differ is i (omega arith);
               columns-fit = omega arith;
               values-fit = omega arith;
               small = omega arith;
             };
       }
-    where
-      within : (n : ℕ) → n ≡ N → (i : ℕ) → i < n → Each (λ (e : ℕ × Float). e .0 < n) (walk-entries v i)
-      within n e i h = rw e (entries-below is i (omega arith))
 
   lists-are : (numbers : ℕ → ℕ) (starts words columns : List ℕ) (values : List Float) (at : ℕ) (pointers words′ starts′ columns′ : List ℕ) (values′ : List Float) → N < length starts → FirstWords numbers N starts words
       → WalkAt v words columns values N at pointers words′ columns′ values′ → FirstWords (begins (upper words′)) (N + 1) words′ starts′
       → RowsWritten (csr-row c L p w) N (csr-entries c L p w) starts columns values starts′ columns′ values′
   unfolding csr-entries row-starts row-columns row-values
   lists-are numbers starts words columns values at pointers words′ starts′ columns′ values′ room numbered walked started =
-      let e = is .count-states in
-      let same = same-rows (v .states) e N (omega arith) in
+      let written = walked .written (csr-row c L p w) (rows-told is) in
       record {
         next = refl;
         starts-are = first-front (λ i. length (rows-to (csr-row c L p w) i)) (N + 1) starts starts′ (omega arith)
             (record {
-              are = λ i h. started .are i h ∙ begins-told (csr-row c L p w) (upper words′) N (λ k b. walked .lengths k b ∙ ap length (one k b (v .states) e)) i (omega arith);
+              are = λ i h. started .are i h ∙ begins-told (csr-row c L p w) (upper words′) N (λ k b. walked .lengths k b ∙ sym (rows-told is k b .same .count)) i (omega arith);
               rest = λ i h. started .rest i h ∙ walked .unset i (omega arith) ∙ numbered .rest i (omega arith);
               long = started .long ∙ walked .long ∙ numbered .long;
             });
-        columns-are = walked .written .columns-are ∙ ap (λ (l : List (ℕ × Float)). front (map (λ e. e .0) l) columns) same;
-        values-are = walked .written .values-are ∙ ap (λ (l : List (ℕ × Float)). front (map (λ e. e .1) l) values) same;
+        columns-are = written .columns-are;
+        values-are = written .values-are;
       }
-    where
-      one : (k : ℕ) → k < N → (n : ℕ) → n ≡ N → made-rows (walk-entries v) n k ≡ csr-row c L p w k
-      one k b n e = rw e (rows-told is k b)
 
   -- the same of n states, where that is their number
   pub lists-written : (n : ℕ) → n ≡ N → (numbers : ℕ → ℕ) (starts words columns : List ℕ) (values : List Float) (at : ℕ) (pointers words′ starts′ columns′ : List ℕ) (values′ : List Float) → n < length starts → FirstWords numbers n starts words
@@ -122,6 +111,5 @@ module _ {c : Complex} {L : ℕ} {p : KSParams} {w : ℕ → Float} {free : List
   pub starts-fit : (n : ℕ) → n ≡ N → (words columns : List ℕ) (values : List Float) (at : ℕ) (pointers words′ columns′ : List ℕ) (values′ : List Float)
       → WalkAt v words columns values n at pointers words′ columns′ values′ → csr-entries c L p w < 2 ^ 32 → begins (upper words′) n < 2 ^ 32
   starts-fit n e words columns values at pointers words′ columns′ values′ walked small =
-      let ends : begins (upper words′) n ≡ length (rows-to (made-rows (walk-entries v) n) n) =
-      begins-told (made-rows (walk-entries v) n) (upper words′) n (λ k b. walked .lengths k b ∙ ap (λ m. length (made-rows (walk-entries v) m k)) (is .count-states ∙ sym e)) n (omega arith) in
+      let ends : begins (upper words′) n ≡ length (rows-to (walk-entries v) n) = begins-told (walk-entries v) (upper words′) n (walked .lengths) n (omega arith) in
       omega (arith, ends, entries-number n e, small)

@@ -1,6 +1,6 @@
 -- Rows made one after the other by the walk over the states.
-use Prim.Native.Nat.{ℕ, zero, suc, _+_, _*_, _/_, _%_, _^_, _<_, _≤_}
-use mathlib.Core.List.{List, [], _∷_, map}
+use Prim.Native.Nat.{ℕ, zero, suc, _+_, _*_, _/_, _^_, _<_, _≤_}
+use mathlib.Core.List.{List, []}
 use mathlib.Core.Path.{_≡_, refl, sym, ap, _∙_, fun-ext}
 use native.Mathlib.Numerals.{add-one}
 use native.Mathlib.Omega.{arith}
@@ -14,24 +14,30 @@ use lib.ListN.{getD, length, set, take, length-set, replicate, length-replicate,
 use lib.Seq.{paste, length-take-le, getD-set-same, getD-set-other}
 use Rattle.matrices.specs.Squares.{squares, energy}
 use Rattle.rows.specs.Entries.{pairs}
-use Rattle.rows.specs.Row.{values-at, row-of, RowOf, FrontMade}
-use Rattle.rows.specs.RowLists.{made-rows, RowFits}
+use Rattle.rows.specs.Row.{ColumnsDiffer, Sorted}
+use Rattle.rows.specs.RowLists.{RowAppended, RowsWritten, RowFits}
 use Rattle.rows.proofs.RowsWritten.{row-copied, none-written}
-use Rattle.rows.proofs.MadeRows.{fits-at, row-is, added-written}
+use Rattle.rows.proofs.SortedRows.{fits-at, added-next, added-written}
 use Rattle.hilbert.specs.Search.{row}
 use Rattle.moves.specs.Numbers.{lower, number-in}
 use Rattle.moves.specs.Moves.{collected, pointed, Pointers}
 use Rattle.moves.proofs.Collecting.{pointed-pointers}
 use Rattle.csr.specs.Fill.{Walk, walkOf, entries-from, pointers-after, pointers-at, walk-entries, RowFound, RowDone, WalkAt, Writable}
 
--- the row that is made of what was collected for state i
-pub row-found : (v : Walk) (i : ℕ) (pointers : List ℕ) (s : List ℤ) (a : ℕ) (x : Float) → s ≡ v .state i → a ≡ v .numbers i → x ≡ energy (v .electric) (squares (v .state i))
-    → (old new : List (ℕ × Float)) (found r : ℕ) (pointers′ : List ℕ)
-    → take found old ≡ collected (v .moves) (v .truncation) (v .numbers) (v .states) s a pointers i x (v .count) → FrontMade old found r new
-    → pointers′ ≡ pointed (v .moves) (v .truncation) (v .numbers) (v .states) s a pointers (v .count) → RowFound v i pointers r pointers′ new
-unfolding entries-from pointers-after
-row-found v i pointers s a x s-is a-is x-is old new found r pointers′ front made moved =
-    record { is = rw (← s-is, ← a-is, ← (rw (← s-is) at x-is), ← front) (made .row); pointers-are = rw (← s-is, ← a-is) moved }
+-- what was collected for state i is sorted
+module _ (v : Walk) (i : ℕ) (pointers : List ℕ) (s : List ℤ) (a : ℕ) (x : Float) (s-is : s ≡ v .state i) (a-is : a ≡ v .numbers i) (x-is : x ≡ energy (v .electric) (squares (v .state i)))
+    (l : List (ℕ × Float)) (found : l ≡ collected (v .moves) (v .truncation) (v .numbers) (v .states) s a pointers i x (v .count)) where
+  entries-are : l ≡ entries-from v pointers i
+  unfolding entries-from
+  entries-are = found ∙ rw (s-is, a-is, x-is)
+
+  pub collected-differ : ColumnsDiffer (entries-from v pointers i) → ColumnsDiffer l
+  collected-differ differ = rw entries-are differ
+
+  pub row-found : (r : ℕ) (new : List (ℕ × Float)) (pointers′ : List ℕ) → Sorted l (take r new)
+      → pointers′ ≡ pointed (v .moves) (v .truncation) (v .numbers) (v .states) s a pointers (v .count) → RowFound v i pointers r pointers′ new
+  unfolding pointers-after
+  row-found r new pointers′ sorted moved = record { is = rw (← entries-are) sorted; pointers-are = moved ∙ rw (s-is, a-is) }
 
 -- and its copy behind the rows before it
 pub row-done : (v : Walk) (i at : ℕ) (pointers words columns : List ℕ) (values : List Float) (r : ℕ) (pointers′ row-columns : List ℕ) (row-values : List Float) (words′ columns′ : List ℕ) (values′ : List Float)
@@ -55,7 +61,7 @@ row-done v i at pointers words columns values r pointers′ row-columns row-valu
 pub found-fits : (v : Walk) (i at r columns-room values-room : ℕ) (pointers pointers′ : List ℕ) (new : List (ℕ × Float)) → RowFound v i pointers r pointers′ new → r ≤ length new
     → RowFits (entries-from v pointers i) at columns-room values-room → (at + r ≤ columns-room) × (at + r ≤ values-room) × (at + r < 2 ^ 32)
 found-fits v i at r columns-room values-room pointers pointers′ new found room fits =
-    let long : r ≡ length (row-of (λ j. values-at j (entries-from v pointers i)) (fits .columns)) = sym (length-take-le r new room) ∙ ap length (found .is .is (fits .columns) (fits .below)) in
+    let long : r ≡ length (entries-from v pointers i) = sym (length-take-le r new room) ∙ found .is .same .count in
     (omega (arith, long, fits .columns-fit), omega (arith, long, fits .values-fit), omega (arith, long, fits .small))
 
 -- ---- row after row
@@ -75,26 +81,31 @@ numbers-kept words i n h = fun-ext (λ p. go p (ℕ-discrete p i))
     go p (no e) = ap lower (getD-set-other words i p (getD words i 0 + 1048576 * n) 0 e)
 
 module _ (v : Walk) (words₀ columns₀ : List ℕ) (values₀ : List Float) (writable : Writable v words₀ (length columns₀) (length values₀)) where
-  abbrev rows : ℕ → List (ℕ × Float)
-  rows = made-rows (walk-entries v) (v .states)
-
   pub walk-start : (words : List ℕ) → words ≡ words₀ → number-in words ≡ v .numbers → (pointers : List ℕ) → pointers ≡ replicate 512 0 → WalkAt v words₀ columns₀ values₀ 0 0 pointers words columns₀ values₀
   unfolding pointers-at
   walk-start words same is pointers none =
       record {
+        next = start (walk-entries v) .next;
         pointers-are = none;
         numbers-are = is;
         unset = λ k h. ap (λ l. getD l k 0) same;
         lengths = λ k h. absurd (omega arith);
         long = ap length same;
         starts = set words₀ 0 0;
-        written = none-written rows words₀ columns₀ values₀ (omega (arith, writable .room));
+        written = λ row sorted. start row;
       }
+    where
+      start : (row : ℕ → List (ℕ × Float)) → RowsWritten row 0 0 words₀ columns₀ values₀ (set words₀ 0 0) columns₀ values₀
+      start row = none-written row words₀ columns₀ values₀ (omega (arith, writable .room))
 
   module _ (i at : ℕ) (pointers words columns : List ℕ) (values : List Float) (so-far : WalkAt v words₀ columns₀ values₀ i at pointers words columns values) (inside : i < v .states) where
     pub walk-fits : RowFits (entries-from v pointers i) at (length columns₀) (length values₀)
     unfolding walk-entries
-    walk-fits = rw (so-far .pointers-are) (fits-at (writable .fit) i at inside (so-far .written .next))
+    walk-fits = rw (so-far .pointers-are) (fits-at (writable .fit) i at inside (so-far .next))
+
+    pub walk-differ : ColumnsDiffer (entries-from v pointers i)
+    unfolding walk-entries
+    walk-differ = rw (so-far .pointers-are) (writable .fit .differ i inside)
 
     pub walk-unset : getD words i 0 < 2 ^ 20
     walk-unset = rw (so-far .unset i (omega arith)) (writable .unset i inside)
@@ -104,26 +115,26 @@ module _ (v : Walk) (words₀ columns₀ : List ℕ) (values₀ : List Float) (w
         → WalkAt v words₀ columns₀ values₀ (i + 1) r pointers′ words′ columns′ values′
     unfolding pointers-at walk-entries
     walk-step r pointers′ words′ columns′ values′ done =
-        let is : RowOf (walk-entries v i) (done .line) = rw (← (so-far .pointers-are)) (done .is) in
-        let line = row-is (writable .fit) i at inside (done .line) is in
+        let is : Sorted (walk-entries v i) (done .line) = rw (← (so-far .pointers-are)) (done .is) in
+        let appended : RowAppended (done .line) i at (so-far .starts) columns values r (set (so-far .starts) (i + 1) r) columns′ values′ = record { next = done .next; starts-are = refl; columns-are = done .columns-are; values-are = done .values-are } in
         let there : i < length words = omega (arith, so-far .long, writable .room) in
         record {
+          next = added-next (writable .fit) i at inside (so-far .next) (done .line) is (so-far .starts) columns values r (set (so-far .starts) (i + 1) r) columns′ values′ appended;
           pointers-are = done .pointers-are ∙ rw (add-one i, so-far .pointers-are);
           numbers-are = ap number-in (done .words-are) ∙ numbers-kept words i (length (done .line)) there ∙ so-far .numbers-are;
           unset = λ k h. ap (λ l. getD l k 0) (done .words-are) ∙ getD-set-other words i k _ 0 (λ e. omega arith) ∙ so-far .unset k (omega arith);
-          lengths = λ k h. lengths′ k h (ℕ-discrete k i) there line;
+          lengths = λ k h. lengths′ k h (ℕ-discrete k i) there (is .same .count);
           long = ap length (done .words-are) ∙ length-set words i _ ∙ so-far .long;
           starts = set (so-far .starts) (i + 1) r;
           written =
-              added-written (writable .fit) i at inside (done .line) is (so-far .starts) columns values r (set (so-far .starts) (i + 1) r) columns′ values′
-              (record { next = done .next; starts-are = refl; columns-are = done .columns-are; values-are = done .values-are })
+              added-written (writable .fit) i at inside (so-far .next) (done .line) is (so-far .starts) columns values r (set (so-far .starts) (i + 1) r) columns′ values′ appended
               words₀ columns₀ values₀ (writable .room) refl refl (so-far .written);
         }
       where
-        lengths′ : (k : ℕ) → k < i + 1 → Dec (k ≡ i) → i < length words → done .line ≡ rows i → getD words′ k 0 / 1048576 ≡ length (rows k)
-        lengths′ k h (yes e) there line =
-            rw (e, done .words-are, getD-set-same words i (getD words i 0 + 1048576 * length (done .line)) 0 there, upper-is (getD words i 0) (length (done .line)) walk-unset) (ap length line)
-        lengths′ k h (no e) there line =
+        lengths′ : (k : ℕ) → k < i + 1 → Dec (k ≡ i) → i < length words → length (done .line) ≡ length (walk-entries v i) → getD words′ k 0 / 1048576 ≡ length (walk-entries v k)
+        lengths′ k h (yes e) there count =
+            rw (e, done .words-are, getD-set-same words i (getD words i 0 + 1048576 * length (done .line)) 0 there, upper-is (getD words i 0) (length (done .line)) walk-unset) count
+        lengths′ k h (no e) there count =
             rw (done .words-are, getD-set-other words i k (getD words i 0 + 1048576 * length (done .line)) 0 e) (so-far .lengths k (omega arith))
 
 -- the pointers stay in range
@@ -142,6 +153,9 @@ pub walk-same : (sides : List ℕ) (units : List ℤ) (lows highs : List ℕ) (t
     → walkOf sides units lows highs terms count L words n list m electric ≡ walkOf sides units lows highs terms count L words₀ n list m electric
 walk-same sides units lows highs terms count L words words₀ n list m electric e =
     ap (λ f. record { moves = record { sides = sides; units = units; lows = lows; highs = highs; terms = terms }; count = count; truncation = L; numbers = f; states = n; state = row m list; electric = electric }) e
+
+pub differ-same : {v v′ : Walk} → v′ ≡ v → (pointers : List ℕ) (i : ℕ) → ColumnsDiffer (entries-from v pointers i) → ColumnsDiffer (entries-from v′ pointers i)
+differ-same e pointers i h = rw e h
 
 pub fits-same : {v v′ : Walk} → v′ ≡ v → (pointers : List ℕ) (i at columns-room values-room : ℕ) → RowFits (entries-from v pointers i) at columns-room values-room → RowFits (entries-from v′ pointers i) at columns-room values-room
 fits-same e pointers i at columns-room values-room h = rw e h

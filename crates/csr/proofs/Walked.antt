@@ -1,15 +1,12 @@
 -- The walk over the states finds the entries of each row, and so its rows are the rows.
-use Prim.Native.Nat.{ℕ, zero, suc, _+_, _*_, _/_, _%_, _^_, _<_, _≤_}
-use mathlib.Core.List.{List, [], _∷_, _++_, append-nil, append-assoc, flatMap}
-use mathlib.Core.Bool.{cond}
+use Prim.Native.Nat.{ℕ, zero, suc, _+_, _*_, _/_, _%_, _<_, _≤_}
+use mathlib.Core.List.{List, [], _∷_, _++_, append-assoc, flatMap}
 use mathlib.Core.Path.{_≡_, refl, sym, ap, ap₂, _∙_}
-use native.Mathlib.Numerals.{add-one}
 use native.Mathlib.Omega.{arith}
 use lib.IntN.{ℤ, pos, negsuc}
 use lib.Ieee.{Float}
 use lib.ListN.{getD, length, getD-replicate}
 use Rattle.mathematics.specs.Counting.{below}
-use Rattle.mathematics.specs.Entries.{Each}
 use Rattle.mathematics.proofs.Flat.{flatMap-last}
 use Rattle.complex.specs.Complex.{Complex, entries}
 use Rattle.complex.proofs.TriangleEdges.{triangle-sides}
@@ -17,14 +14,15 @@ use Rattle.gauss_law.specs.Listing.{states}
 use Rattle.matrices.specs.declared.coupling.KSParams.{KSParams}
 use Rattle.matrices.specs.Squares.{squares, energy}
 use Rattle.matrices.specs.Terms.{row-plaquette-term}
-use Rattle.rows.specs.RowLists.{kept, made-rows}
+use Rattle.rows.specs.Row.{diagonal-first, ColumnsDiffer}
+use Rattle.rows.specs.RowLists.{SortedRows}
 use Rattle.plaquettes.proofs.TriangleTelling.{state-there}
 use Rattle.moves.specs.Moves.{collected, pointed, unit-of, moved-entry, entry-of, Behind, Pointers, StateMoves}
 use Rattle.moves.proofs.Arriving.{behind-next, collected-told}
 use Rattle.entries.specs.Rows.{diagonal, csr-row}
 use Rattle.csr.specs.Found.{found}
 use Rattle.csr.specs.Fill.{Walk, entries-from, pointers-after, pointers-at, walk-entries, Walking, WalkOf}
-use Rattle.csr.proofs.Found.{found-row, found-below}
+use Rattle.csr.proofs.Found.{found-row}
 use Rattle.csr.proofs.Filling.{walk-pointers}
 
 module _ (c : Complex) (L : ℕ) (p : KSParams) (w : ℕ → Float) (i : ℕ) where
@@ -44,21 +42,16 @@ module _ (c : Complex) (L : ℕ) (p : KSParams) (w : ℕ → Float) (i : ℕ) wh
       rw (half, odd)
 
   -- the moves by their numbers are the triangles, each forward and back
-  in-order : (n : ℕ) → cond (kept (diagonal p (getD (states c L) i []))) ((i, diagonal p (getD (states c L) i [])) ∷ []) [] ++ flatMap (entry-of c L p w i) (below (2 * n)) ≡ found c L p w i n
+  in-order : (n : ℕ) → flatMap (entry-of c L p w i) (below (2 * n)) ≡ found c L p w i n
   unfolding found below flatMap
-  in-order zero = append-nil (cond (kept (diagonal p (getD (states c L) i []))) ((i, diagonal p (getD (states c L) i [])) ∷ []) [])
+  in-order zero = refl
   in-order (suc n) =
       let e : 2 * suc n ≡ suc (suc (2 * n)) = omega arith in
       let more : 2 * n + 1 ≡ suc (2 * n) = omega arith in
-      ap (λ l. own ++ l) (ap (λ k. flatMap (entry-of c L p w i) (below k)) e ∙ flatMap-last (entry-of c L p w i) (below (suc (2 * n))) (suc (2 * n))
+      ap (λ k. flatMap (entry-of c L p w i) (below k)) e ∙ flatMap-last (entry-of c L p w i) (below (suc (2 * n))) (suc (2 * n))
       ∙ ap₂ (λ a b. a ++ b) (flatMap-last (entry-of c L p w i) (below (2 * n)) (2 * n)) (ap (entry-of c L p w i) (sym more) ∙ entry-back n)
       ∙ append-assoc (flatMap (entry-of c L p w i) (below (2 * n))) (entry-of c L p w i (2 * n)) (moved-entry c L n (negsuc 0) (row-plaquette-term p (w n)) i)
-      ∙ ap (λ a. flatMap (entry-of c L p w i) (below (2 * n)) ++ (a ++ moved-entry c L n (negsuc 0) (row-plaquette-term p (w n)) i)) (entry-forward n))
-      ∙ sym (append-assoc own (flatMap (entry-of c L p w i) (below (2 * n))) (moved-entry c L n (pos 1) (row-plaquette-term p (w n)) i ++ moved-entry c L n (negsuc 0) (row-plaquette-term p (w n)) i))
-      ∙ ap (λ l. l ++ (moved-entry c L n (pos 1) (row-plaquette-term p (w n)) i ++ moved-entry c L n (negsuc 0) (row-plaquette-term p (w n)) i)) (in-order n)
-    where
-      own : List (ℕ × Float)
-      own = cond (kept (diagonal p (getD (states c L) i []))) ((i, diagonal p (getD (states c L) i [])) ∷ []) []
+      ∙ ap₂ (λ a b. a ++ (b ++ moved-entry c L n (negsuc 0) (row-plaquette-term p (w n)) i)) (in-order n) (entry-forward n)
 
 module _ {c : Complex} {L : ℕ} {p : KSParams} {w : ℕ → Float} {free : List ℕ} {v : Walk} (is : WalkOf c L p w free v) where
   abbrev N : ℕ
@@ -78,13 +71,12 @@ module _ {c : Complex} {L : ℕ} {p : KSParams} {w : ℕ → Float} {free : List
         (behind-next c (is .accepted) L p w free (is .listed) (v .moves) (λ k. k) (v .count) (is .moves-are) inside (v .numbers) (is .numbers-are) pointers i h behind (rw n-is at right) (is .tabled .few))
 
     -- and the entries of row i are found
-    found-here : (x : Float) → x ≡ energy (p .electric) (squares (getD (states c L) i [])) → collected (v .moves) truncation (v .numbers) n s (v .numbers i) pointers i x (v .count) ≡ found c L p w i T
+    found-here : (x : Float) → x ≡ energy (p .electric) (squares (getD (states c L) i [])) → collected (v .moves) truncation (v .numbers) n s (v .numbers i) pointers i x (v .count) ≡ diagonal-first i (diagonal p (getD (states c L) i [])) (found c L p w i T)
     unfolding diagonal
     found-here x x-is =
         rw (truncation-is, n-is, s-is, x-is)
         (collected-told c (is .accepted) L p w free (is .listed) (v .moves) (λ k. k) (v .count) (is .moves-are) inside (v .numbers) (is .numbers-are) pointers i h behind (energy (p .electric) (squares (getD (states c L) i []))) (v .count) (omega arith)
-        ∙ ap (λ k. cond (kept (diagonal p (getD (states c L) i []))) ((i, diagonal p (getD (states c L) i [])) ∷ []) [] ++ flatMap (entry-of c L p w i) (below k)) (is .count)
-        ∙ in-order c L p w i T)
+        ∙ ap (diagonal-first i (diagonal p (getD (states c L) i []))) (ap (λ k. flatMap (entry-of c L p w i) (below k)) (is .count) ∙ in-order c L p w i T))
 
   -- the pointers before row i are behind the targets from there on
   behind-at : (i : ℕ) → i ≤ N → Behind c L (λ k. k) (v .count) (pointers-at v i) i
@@ -94,19 +86,18 @@ module _ {c : Complex} {L : ℕ} {p : KSParams} {w : ℕ → Float} {free : List
       let next = behind-after i h (pointers-at v i) (behind-at i (omega arith)) (v .truncation) (v .states) (v .state i) (is .truncation) (is .count-states) (is .state-is i h) (walk-pointers v i) in
       λ k small j low below. next k small j (omega arith) below
 
-  pub entries-told : (i : ℕ) → i < N → walk-entries v i ≡ found c L p w i T
+  entries-told : (i : ℕ) → i < N → walk-entries v i ≡ diagonal-first i (diagonal p (getD (states c L) i [])) (found c L p w i T)
   unfolding walk-entries entries-from
   entries-told i h =
       found-here i h (pointers-at v i) (behind-at i (omega arith)) (v .truncation) (v .states) (v .state i) (is .truncation) (is .count-states) (is .state-is i h) (energy (v .electric) (squares (v .state i)))
       (ap₂ (λ a b. energy a (squares b)) (is .factor) (is .state-is i h))
 
-  pub entries-below : (i : ℕ) → i < N → Each (λ (e : ℕ × Float). e .0 < N) (walk-entries v i)
-  entries-below i h = rw (entries-told i h) (found-below c (is .accepted) L p w i h T (omega arith))
+  pub entries-differ : (i : ℕ) → i < N → ColumnsDiffer (walk-entries v i)
+  entries-differ i h = rw (entries-told i h) (found-row c (is .accepted) L p w i h .0)
 
-  -- so its rows are the rows
-  pub rows-told : (i : ℕ) → i < N → made-rows (walk-entries v) N i ≡ csr-row c L p w i
-  unfolding made-rows
-  rows-told i h = rw (entries-told i h) (found-row c (is .accepted) L p w i h)
+  -- so its rows, sorted, are the rows
+  pub rows-told : SortedRows (walk-entries v) (csr-row c L p w) N
+  rows-told i h = rw (entries-told i h) (found-row c (is .accepted) L p w i h .1)
 
   pub walking : Walking v
   walking =

@@ -15,6 +15,7 @@ use Rattle.matrices.specs.declared.coupling.KSParams.{KSParams}
 use Rattle.matrices.specs.Coupling.{u1-right}
 use Rattle.matrices.specs.Weights.{weight, weights-tests}
 use Rattle.rows.specs.RowLists.{row-starts, row-columns, row-values}
+use Rattle.entries.specs.Once.{ColumnsOnce}
 use Rattle.entries.specs.Rows.{csr-row, csr-entries}
 
 -- 4, 5, 7 to 10, then 12 and 14 for the weights and the coupling, and 15 for a list that is too short: for the basis, for a start of each row
@@ -29,6 +30,11 @@ csr-tests c L p given weights work-room starts-room columns-room values-room =
           || (ltb columns-room (csr-entries c L p (weight given weights)) || ltb values-room (csr-entries c L p (weight given weights)))),
     ) ∷ []))
 
+-- what is known of the rows where they are written: there are not more than the limit, and none holds a column twice
+pub record RowsKnown (c : Complex) (L : ℕ) : Type 0 where
+  pub few : length (states c L) ≤ limit
+  pub once : ColumnsOnce c L
+
 -- build_csr: the number of entries is told, and the four lists begin with the basis, the starts of the rows, the columns and the values.
 unfoldable pub csr-call : Complex → ℕ → KSParams → Bool → List Float → List ℤ → List ℕ → List ℕ → List Float → Call ℕ (List ℤ × List ℕ × List ℕ × List Float)
 csr-call c L p given weights work starts columns values =
@@ -42,5 +48,5 @@ csr-call c L p given weights work starts columns values =
         front (row-columns (csr-row c L p (weight given weights)) (length (states c L))) columns,
         front (row-values (csr-row c L p (weight given weights)) (length (states c L))) values,
       );
-      known = length (states c L) ≤ limit;
+      known = RowsKnown c L;
     }

@@ -11,8 +11,8 @@ use Rattle.complex.specs.Judge.{Accepted}
 use Rattle.gauss_law.specs.Listing.{free-edges, states}
 use Rattle.matrices.specs.declared.coupling.KSParams.{KSParams}
 use Rattle.matrices.specs.Squares.{squares, energy}
-use Rattle.rows.specs.Row.{RowOf}
-use Rattle.rows.specs.RowLists.{made-rows, RowsWritten, AllRowsFit}
+use Rattle.rows.specs.Row.{Sorted}
+use Rattle.rows.specs.RowLists.{rows-to, AllRowsFit, SortedWritten}
 use Rattle.hilbert.specs.Search.{row}
 use Rattle.moves.specs.Numbers.{number, number-in}
 use Rattle.moves.specs.Moves.{Moves, collected, pointed, MoveAt, Tabled, StateMoves}
@@ -62,31 +62,32 @@ pub record Walking (v : Walk) : Type 0 where
   pub tabled : Tabled (v .moves) (v .count)
   pub each : (i : ℕ) → i < v .states → StateMoves (v .moves) (v .count) (v .truncation) (v .state i)
 
--- row i stands in the first r entries, and the pointers are moved
+-- row i stands in the first r entries, sorted, and the pointers are moved
 pub record RowFound (v : Walk) (i : ℕ) (pointers : List ℕ) (r : ℕ) (pointers′ : List ℕ) (new : List (ℕ × Float)) : Type 0 where
-  pub is : RowOf (entries-from v pointers i) (take r new)
+  pub is : Sorted (entries-from v pointers i) (take r new)
   pub pointers-are : pointers′ ≡ pointers-after v pointers i
 
 -- row i is written from a place on, its pointers are moved, and the upper bits of its word hold its length
 pub record RowDone (v : Walk) (i at : ℕ) (pointers words columns : List ℕ) (values : List Float) (r : ℕ) (pointers′ words′ columns′ : List ℕ) (values′ : List Float) : Type 0 where
   pub line : List (ℕ × Float)
-  pub is : RowOf (entries-from v pointers i) line
+  pub is : Sorted (entries-from v pointers i) line
   pub next : r ≡ at + length line
   pub columns-are : columns′ ≡ put columns at (map (λ e. e .0) line)
   pub values-are : values′ ≡ put values at (map (λ e. e .1) line)
   pub pointers-are : pointers′ ≡ pointers-after v pointers i
   pub words-are : words′ ≡ set words i (getD words i 0 + 1048576 * length line)
 
--- after i rows: the pointers before row i, numbers as before, words from i on as before, the lengths of the rows in the upper bits of the others;
--- columns and values are written, and the starts would be what is told
+-- after i rows: the place at which the next begins, the pointers before row i, numbers as before, words from i on as before, the lengths of the
+-- rows in the upper bits of the others; columns and values are written, and the starts would be what is told
 pub record WalkAt (v : Walk) (words₀ columns₀ : List ℕ) (values₀ : List Float) (i at : ℕ) (pointers words columns : List ℕ) (values : List Float) : Type 0 where
+  pub next : at ≡ length (rows-to (walk-entries v) i)
   pub pointers-are : pointers ≡ pointers-at v i
   pub numbers-are : number-in words ≡ v .numbers
   pub unset : (k : ℕ) → i ≤ k → getD words k 0 ≡ getD words₀ k 0
-  pub lengths : (k : ℕ) → k < i → getD words k 0 / 1048576 ≡ length (made-rows (walk-entries v) (v .states) k)
+  pub lengths : (k : ℕ) → k < i → getD words k 0 / 1048576 ≡ length (walk-entries v k)
   pub long : length words ≡ length words₀
   pub starts : List ℕ
-  pub written : RowsWritten (made-rows (walk-entries v) (v .states)) i at words₀ columns₀ values₀ starts columns values
+  pub written : SortedWritten (walk-entries v) i at words₀ columns₀ values₀ starts columns values
 
 -- what rows of a list can be written
 pub record Writable (v : Walk) (words : List ℕ) (columns-room values-room : ℕ) : Type 0 where

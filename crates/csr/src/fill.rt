@@ -5,12 +5,13 @@ use moves::seek::lower;
 use plaquettes::rows::row_energy;
 use plaquettes::target::Sizes;
 use rows::lists::copy_row;
-use rows::row::make_row;
+use rows::row::sort_row;
 ghost use mathlib.Core.Path.{_≡_};
 ghost use mathlib.Core.List.{List};
 ghost use Prim.Native.Nat.{ℕ, _+_, _*_, _^_, _<_, _≤_};
 ghost use lib.ListN.{getD, length};
 ghost use Rattle.rows.specs.Entries.{pairs};
+ghost use Rattle.rows.specs.Row.{ColumnsDiffer};
 ghost use Rattle.rows.specs.RowLists.{RowFits};
 ghost use Rattle.plaquettes.specs.Rows.{SmallRows};
 ghost use Rattle.moves.specs.Moves.{Pointers};
@@ -33,7 +34,7 @@ fn find_row(
     row_columns: &mut [u32],
     row_values: &mut [f64],
 ) -> usize
-    requires { ⌜ Walking (walkOf (now sides) (now units) (now lows) (now highs) (now terms) «n_moves» (s .lambda) (now words) (s .states) (now list) (s .edges) electric) × SmallRows (now list) (s .states) (s .edges) × (i < s .states) × (s .states ≤ length (now words)) × Pointers (s .states) (now pointers) × («n_moves» < length (now «row_columns»)) × (length (now «row_columns») ≡ length (now «row_values»)) ⌝ }
+    requires { ⌜ Walking (walkOf (now sides) (now units) (now lows) (now highs) (now terms) «n_moves» (s .lambda) (now words) (s .states) (now list) (s .edges) electric) × SmallRows (now list) (s .states) (s .edges) × (i < s .states) × (s .states ≤ length (now words)) × Pointers (s .states) (now pointers) × («n_moves» < length (now «row_columns»)) × (length (now «row_columns») ≡ length (now «row_values»)) × ColumnsDiffer (entries-from (walkOf (now sides) (now units) (now lows) (now highs) (now terms) «n_moves» (s .lambda) (now words) (s .states) (now list) (s .edges) electric) (now pointers) i) ⌝ }
     ensures { λ r. ⌜ RowFound (walkOf (now (sides .entry)) (now (units .entry)) (now (lows .entry)) (now (highs .entry)) (now (terms .entry)) «n_moves» (s .lambda) (now (words .entry)) (s .states) (now (list .entry)) (s .edges) electric) i (now (pointers .entry)) r (now (pointers .exit)) (pairs (now («row_columns» .exit)) (now («row_values» .exit))) × (r ≤ «n_moves» + 1) ⌝ }
 {
     let m = s.edges;
@@ -58,7 +59,8 @@ fn find_row(
         row_columns,
         row_values,
     );
-    make_row(row_columns, row_values, found)
+    sort_row(row_columns, row_values, found);
+    found
 }
 
 // The row of state i goes to two lists, from a place on, and its length to the upper bits of its word. Where the next begins is told.
@@ -81,7 +83,7 @@ fn add_row(
     columns: &mut [u32],
     values: &mut [f64],
 ) -> usize
-    requires { ⌜ Walking (walkOf (now sides) (now units) (now lows) (now highs) (now terms) «n_moves» (s .lambda) (now words) (s .states) (now list) (s .edges) electric) × SmallRows (now list) (s .states) (s .edges) × (i < s .states) × (s .states ≤ length (now words)) × Pointers (s .states) (now pointers) × («n_moves» < length (now «row_columns»)) × (length (now «row_columns») ≡ length (now «row_values»)) × (getD (now words) i 0 < 2 ^ 20) × RowFits (entries-from (walkOf (now sides) (now units) (now lows) (now highs) (now terms) «n_moves» (s .lambda) (now words) (s .states) (now list) (s .edges) electric) (now pointers) i) at (length (now columns)) (length (now values)) ⌝ }
+    requires { ⌜ Walking (walkOf (now sides) (now units) (now lows) (now highs) (now terms) «n_moves» (s .lambda) (now words) (s .states) (now list) (s .edges) electric) × SmallRows (now list) (s .states) (s .edges) × (i < s .states) × (s .states ≤ length (now words)) × Pointers (s .states) (now pointers) × («n_moves» < length (now «row_columns»)) × (length (now «row_columns») ≡ length (now «row_values»)) × ColumnsDiffer (entries-from (walkOf (now sides) (now units) (now lows) (now highs) (now terms) «n_moves» (s .lambda) (now words) (s .states) (now list) (s .edges) electric) (now pointers) i) × (getD (now words) i 0 < 2 ^ 20) × RowFits (entries-from (walkOf (now sides) (now units) (now lows) (now highs) (now terms) «n_moves» (s .lambda) (now words) (s .states) (now list) (s .edges) electric) (now pointers) i) at (length (now columns)) (length (now values)) ⌝ }
     ensures { λ r. ⌜ RowDone (walkOf (now (sides .entry)) (now (units .entry)) (now (lows .entry)) (now (highs .entry)) (now (terms .entry)) «n_moves» (s .lambda) (now (words .entry)) (s .states) (now (list .entry)) (s .edges) electric) i at (now (pointers .entry)) (now (words .entry)) (now (columns .entry)) (now (values .entry)) r (now (pointers .exit)) (now (words .exit)) (now (columns .exit)) (now (values .exit)) ⌝ }
 {
     let count = find_row(

@@ -16,7 +16,7 @@ use Rattle.matrices.specs.declared.coupling.KSParams.{KSParams}
 use Rattle.matrices.specs.Coupling.{float-of}
 use Rattle.matrices.specs.Squares.{squares}
 use Rattle.matrices.proofs.Squares.{square-small}
-use Rattle.rows.specs.RowLists.{kept}
+use Rattle.rows.specs.Row.{kept}
 use Rattle.rows.proofs.KeptDiagonals.{NotBelow}
 use Rattle.plaquettes.specs.Joined.{staying}
 use Rattle.plaquettes.proofs.Joined.{staying-few}

@@ -4,7 +4,7 @@ use mathlib.Core.Path.{_≡_, refl}
 use lib.Ieee.{binary64, ofInt, ofBits, add, mul, div, neg, lt}
 use Rattle.mathematics.specs.Integers.{equal}
 use Rattle.mathematics.specs.Lists.{same, listed, position, choose}
-use Rattle.mathematics.specs.Tests.{every-entry, every}
+use Rattle.mathematics.specs.Tests.{every-entry, every, some, the-one}
 use Rattle.mathematics.specs.Counting.{below, keep, counted}
 use Rattle.complex.specs.Complex.{Complex, uncharged}
 use Rattle.complex.specs.Search.{search, served, serve, scan, look, touches, across}
@@ -16,11 +16,11 @@ use Rattle.hilbert.specs.Basis.{decided, smaller, comes-before, place}
 use Rattle.matrices.specs.Coupling.{float-of, u1-params}
 use Rattle.matrices.specs.Squares.{squares}
 use Rattle.matrices.specs.Terms.{row-plaquette-term}
-use Rattle.rows.specs.Row.{summed, entry, row-of}
-use Rattle.rows.specs.RowLists.{kept, rows-to, row-starts, row-columns, row-values}
+use Rattle.rows.specs.Row.{kept, has-entry, entry-value, row-of}
+use Rattle.rows.specs.RowLists.{rows-to, row-starts, row-columns, row-values}
 use Rattle.plaquettes.specs.Triangle.{moved-state, sides-within, target, hits}
 use Rattle.plaquettes.specs.Joined.{staying}
-use Rattle.entries.specs.Rows.{diagonal, kept-diagonal, given-values, csr-row}
+use Rattle.entries.specs.Rows.{diagonal, csr-row}
 use Rattle.entries.specs.Count.{row-count, over-states}
 use Rattle.entries.specs.Entries.{triangle-hits, hits-number}
 
@@ -29,17 +29,17 @@ triangle = record { vertices = 3; edges = (0 ∷ 1 ∷ []) ∷ (0 ∷ 2 ∷ []) 
 
 -- g² 1, every weight 1: the diagonal of the middle state is 0 and is left out
 starts-are : row-starts (csr-row triangle 1 (u1-params (float-of 1)) (λ t. float-of 1)) 3 ≡ 0 ∷ 2 ∷ 4 ∷ 6 ∷ []
-unfolding triangle row-starts rows-to csr-row row-of entry summed given-values kept-diagonal diagonal kept row-plaquette-term squares u1-params float-of add mul div neg ofInt ofBits lt hits target moved-state sides-within triangle-move shifted raised side sides choose same position every-entry within place comes-before smaller decided states listing tree-edges free-edges values placed lawful gauss flow equal listed every below keep counted flatMap search served serve scan look touches across
+unfolding triangle row-starts rows-to csr-row row-of has-entry entry-value the-one some diagonal kept row-plaquette-term squares u1-params float-of add mul div neg ofInt ofBits lt hits target moved-state sides-within triangle-move shifted raised side sides choose same position every-entry within place comes-before smaller decided states listing tree-edges free-edges values placed lawful gauss flow equal listed every below keep counted flatMap search served serve scan look touches across
 starts-are = refl
 
 columns-are : row-columns (csr-row triangle 1 (u1-params (float-of 1)) (λ t. float-of 1)) 3 ≡ 0 ∷ 1 ∷ 0 ∷ 2 ∷ 1 ∷ 2 ∷ []
-unfolding triangle row-columns rows-to csr-row row-of entry summed given-values kept-diagonal diagonal kept row-plaquette-term squares u1-params float-of add mul div neg ofInt ofBits lt hits target moved-state sides-within triangle-move shifted raised side sides choose same position every-entry within place comes-before smaller decided states listing tree-edges free-edges values placed lawful gauss flow equal listed every below keep counted flatMap search served serve scan look touches across
+unfolding triangle row-columns rows-to csr-row row-of has-entry entry-value the-one some diagonal kept row-plaquette-term squares u1-params float-of add mul div neg ofInt ofBits lt hits target moved-state sides-within triangle-move shifted raised side sides choose same position every-entry within place comes-before smaller decided states listing tree-edges free-edges values placed lawful gauss flow equal listed every below keep counted flatMap search served serve scan look touches across
 columns-are = refl
 
 -- 1.5 -0.5 / -0.5 -0.5 / -0.5 1.5
 values-are : row-values (csr-row triangle 1 (u1-params (float-of 1)) (λ t. float-of 1)) 3
     ≡ ofBits binary64 0x3FF8000000000000 ∷ ofBits binary64 0xBFE0000000000000 ∷ ofBits binary64 0xBFE0000000000000 ∷ ofBits binary64 0xBFE0000000000000 ∷ ofBits binary64 0xBFE0000000000000 ∷ ofBits binary64 0x3FF8000000000000 ∷ []
-unfolding triangle row-values rows-to csr-row row-of entry summed given-values kept-diagonal diagonal kept row-plaquette-term squares u1-params float-of add mul div neg ofInt ofBits lt hits target moved-state sides-within triangle-move shifted raised side sides choose same position every-entry within place comes-before smaller decided states listing tree-edges free-edges values placed lawful gauss flow equal listed every below keep counted flatMap search served serve scan look touches across
+unfolding triangle row-values rows-to csr-row row-of has-entry entry-value the-one some diagonal kept row-plaquette-term squares u1-params float-of add mul div neg ofInt ofBits lt hits target moved-state sides-within triangle-move shifted raised side sides choose same position every-entry within place comes-before smaller decided states listing tree-edges free-edges values placed lawful gauss flow equal listed every below keep counted flatMap search served serve scan look touches across
 values-are = refl
 
 six : over-states (row-count triangle 1 (u1-params (float-of 1))) (states triangle 1) ≡ 6

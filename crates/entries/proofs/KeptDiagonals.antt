@@ -13,7 +13,7 @@ use Rattle.mathematics.proofs.Tests.{and-parts}
 use Rattle.matrices.specs.declared.coupling.KSParams.{KSParams}
 use Rattle.matrices.specs.Coupling.{float-of, coupling-right, u1-params, params-right, u1-right}
 use Rattle.matrices.specs.Squares.{energy}
-use Rattle.rows.specs.RowLists.{kept}
+use Rattle.rows.specs.Row.{kept}
 use Rattle.rows.proofs.KeptDiagonals.{NotBelow, by-power, above-lowest, below-highest, coupling-positive, electric-low, energy-kept, no-energy}
 
 two-is : float-of 2 ≡ fin false 1 (pos 1)

@@ -1,3 +1,4 @@
+pub mod Once
 pub mod Counted
 pub mod Zero
 pub mod Counting

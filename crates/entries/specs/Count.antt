@@ -9,7 +9,7 @@ use lib.ListN.{getD, length}
 use Rattle.complex.specs.Complex.{Complex, entries}
 use Rattle.matrices.specs.declared.coupling.KSParams.{KSParams}
 use Rattle.matrices.specs.Squares.{squares}
-use Rattle.rows.specs.RowLists.{kept}
+use Rattle.rows.specs.Row.{kept}
 use Rattle.plaquettes.specs.Joined.{staying}
 use Rattle.plaquettes.specs.Pairs.{stays, Movable}
 use Rattle.entries.specs.Rows.{diagonal}

@@ -1,3 +1,4 @@
+pub mod Once
 pub mod Rows
 pub mod Count
 pub mod Entries

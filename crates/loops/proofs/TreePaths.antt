@@ -12,24 +12,12 @@ use lib.IntN.{ℤ, pos}
 use lib.ListN.{getD, length-map}
 use Rattle.mathematics.specs.Lists.{listed, In}
 use Rattle.mathematics.specs.Entries.{Each, none, also}
-use Rattle.mathematics.proofs.Ordered.{Ordered, empty, before, each-to, each-append, ordered-append, ordered-map, ordered-at, at-ordered}
+use Rattle.mathematics.proofs.Ordered.{empty, before, each-to, each-append, each-parts, ordered-append, ordered-parts, ordered-map, ordered-at, at-ordered}
 use Rattle.mathematics.proofs.Below.{map-at}
 use Rattle.complex.specs.Complex.{Simplex, start, Joins}
 use Rattle.loops.specs.Parents.{Parents, ParentsOf, parent, Under, itself, above, Together, leaving, step-from, climb, tree-path}
 use Rattle.loops.specs.Walks.{Step, edge-of, Goes, Walk, stay, onward, EdgesOnce, IsPath}
 use Rattle.loops.proofs.Treads.{Simple, Free-of, walk-append, joins-back, first-up, last-down}
-
-each-left : {A : Type 0} {P : A → Type 0} (l m : List A) → Each P (l ++ m) → Each P l
-each-left [] m h = none
-each-left (x ∷ l) m (also p h) = also p (each-left l m h)
-
-each-right : {A : Type 0} {P : A → Type 0} (l : List A) {m : List A} → Each P (l ++ m) → Each P m
-each-right [] h = h
-each-right (x ∷ l) (also p h) = each-right l h
-
-ordered-left : {A : Type 0} {R : A → A → Type 0} (l m : List A) → Ordered R (l ++ m) → Ordered R l
-ordered-left [] m h = empty
-ordered-left (x ∷ l) m (before p h) = before (each-left l m p) (ordered-left l m h)
 
 pub once-simple : (w : List Step) → EdgesOnce w → Simple w
 once-simple w once =
@@ -88,7 +76,7 @@ module _ (es : List Simplex) (seen tree : List ℕ) (p : Parents) (good : Parent
           let low = good .earlier a sa n in
           let q : p .place v ≡ p .place (parent es p a) = ap (p .place) is in
           let w = last-down es seen tree p good v e′ d′ i′ g′ r fs o (omega arith) in
-          last (each-right (w .walk) (subst (λ l. Free-of e l) (w .is) f))
+          last (each-parts (w .walk) (subst (λ l. Free-of e l) (w .is) f) .1)
         where
           last : Free-of e (step-from es (p .edge a) (parent es p a) ∷ []) → ⊥
           last (also z n) = z own
@@ -120,7 +108,7 @@ module _ (es : List Simplex) (seen tree : List ℕ) (p : Parents) (good : Parent
           cases (begins {v = v} {e = e} {d = d} {l = m} i g r) (before f o) =
               let x = last-down es seen tree p good a e d i g r f o (omega arith) in
               let low = good .earlier b sb (x .under) in
-              let simple : Simple (x .walk) = ordered-left (x .walk) (step-from es (p .edge b) (parent es p b) ∷ []) (subst Simple (x .is) (before f o)) in
+              let simple : Simple (x .walk) = ordered-parts (x .walk) (subst Simple (x .is) (before f o)) .0 in
               let front : x .walk ≡ climb es p k a (parent es p b) = ih a (parent es p b) (x .walk) (omega arith) sa (good .parent-seen b sb (x .under)) (x .leads) simple in
               x .is ∙ ap (λ l. l ++ (step-from es (p .edge b) (parent es p b) ∷ [])) front
 

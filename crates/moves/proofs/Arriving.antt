@@ -18,7 +18,7 @@ use Rattle.complex.specs.Judge.{Accepted}
 use Rattle.gauss_law.specs.Listing.{free-edges, states, limit}
 use Rattle.matrices.specs.declared.coupling.KSParams.{KSParams}
 use Rattle.matrices.specs.Terms.{row-plaquette-term}
-use Rattle.rows.specs.RowLists.{kept}
+use Rattle.rows.specs.Row.{kept}
 use Rattle.plaquettes.specs.Triangle.{moved-state, sides-within, target}
 use Rattle.plaquettes.proofs.TriangleTelling.{state-there}
 use Rattle.plaquettes.proofs.Moves.{stays-at, target-rises}

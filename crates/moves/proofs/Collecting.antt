@@ -12,7 +12,8 @@ use lib.IntN.{ℤ}
 use lib.Ieee.{Float, nan}
 use lib.ListN.{getD, length, set, take, length-set, List·getD-eq-default}
 use lib.Seq.{getD-set-same, getD-set-other}
-use Rattle.rows.specs.RowLists.{kept, EntryPushed}
+use Rattle.rows.specs.Row.{kept}
+use Rattle.rows.specs.RowLists.{EntryPushed}
 use Rattle.moves.specs.Numbers.{sought}
 use Rattle.moves.specs.Moves.{Moves, goes, arrives, collected, pointed, Pointers, MovePushed}
 

@@ -13,7 +13,7 @@ use Rattle.gauss_law.specs.Listing.{free-edges, states}
 use Rattle.gauss_law.specs.Shifts.{triangle-move}
 use Rattle.matrices.specs.declared.coupling.KSParams.{KSParams}
 use Rattle.matrices.specs.Terms.{row-plaquette-term}
-use Rattle.rows.specs.RowLists.{kept}
+use Rattle.rows.specs.Row.{kept}
 use Rattle.plaquettes.specs.Pairs.{stays, Movable}
 use Rattle.plaquettes.specs.Triangle.{moved-state, sides-within, target}
 use Rattle.moves.specs.Numbers.{sought, number}

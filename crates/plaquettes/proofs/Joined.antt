@@ -4,7 +4,6 @@ use mathlib.Core.List.{List, [], _∷_, _++_}
 use mathlib.Core.Bool.{Bool, true, false, cond}
 use mathlib.Core.Path.{_≡_, refl, sym, ap, ap₂, _∙_}
 use mathlib.Core.Logic.{_≢_, _⊎_, inl, inr}
-use native.Mathlib.Numerals.{add-one}
 use native.Mathlib.Omega.{arith}
 use native.Mathlib.Decide.{ℕ-discrete}
 use borrow.Author.Tests.{eqb-true, eq-eqb}
@@ -19,8 +18,8 @@ use Rattle.mathematics.proofs.Integers.{positive, negative, integral, parts-sum
 use Rattle.mathematics.proofs.Tests.{same-tests}
 use Rattle.mathematics.proofs.Lists.{or-cases, or-right}
 use Rattle.mathematics.proofs.Counting.{some-at, at-some}
-use Rattle.mathematics.proofs.Below.{below-each, below-ordered, keep-count, listed-member, member-listed}
-use Rattle.mathematics.proofs.Ordered.{Member, front, Ordered, empty, before, each-to, each-both, each-append, each-member, member-left, member-right, ordered-append, keep-passes, keep-each, keep-ordered}
+use Rattle.mathematics.proofs.Below.{keep-count, listed-member, member-listed}
+use Rattle.mathematics.proofs.Ordered.{Member, front, Ordered, empty, before, each-to, each-append, each-member, member-left, member-right, ordered-append}
 use Rattle.complex.specs.Complex.{Complex}
 use Rattle.complex.specs.Judge.{Accepted}
 use Rattle.complex.specs.Sides.{side, EdgeOf}
@@ -42,7 +41,7 @@ back-moves : negsuc 0 ≢ pos 0
 unfolding positive negative
 back-moves e = omega (arith, to-parts (negsuc 0) (pos 0) e)
 
-step-moves : {u : ℤ} → OneStep u → u ≢ pos 0
+pub step-moves : {u : ℤ} → OneStep u → u ≢ pos 0
 step-moves (inl e) z = one-moves (sym e ∙ z)
 step-moves (inr e) z = back-moves (sym e ∙ z)
 
@@ -50,17 +49,7 @@ apart : pos 1 ≢ negsuc 0
 unfolding positive negative
 apart e = omega (arith, to-parts (pos 1) (negsuc 0) e)
 
--- ---- one triangle more, as a loop counts
-pub arrivals-next : (c : Complex) (L i t : ℕ) → arrivals c L i (t + 1) ≡ arrivals c L i t ++ (arrival c L t (pos 1) i ++ arrival c L t (negsuc 0) i)
-unfolding arrivals
-arrivals-next c L i t = rw (add-one t)
-
 module _ (c : Complex) (L : ℕ) (s : List ℤ) where
-  pub staying-next : (t : ℕ) → staying c L s (t + 1)
-      ≡ staying c L s t + (cond (sides-within c L t (triangle-move c t (pos 1) s)) 1 0 + cond (sides-within c L t (triangle-move c t (negsuc 0) s)) 1 0)
-  unfolding staying
-  staying-next t = rw (add-one t)
-
   -- two for each triangle at most
   pub staying-few : (n : ℕ) → staying c L s n ≤ 2 * n
   unfolding staying
@@ -239,17 +228,6 @@ module _ (c : Complex) (accepted : Accepted c) (L : ℕ) where
 
     pub arrivals-count : length (arrivals c L i T) ≡ staying c L (getD (states c L) i []) T
     arrivals-count = arrivals-staying T
-
-    -- the joined states rise, and each is joined by a triangle
-    pub joined-rising : Ordered (λ j k. j < k) (joined c L i)
-    unfolding joined
-    joined-rising = keep-ordered (λ j. some (λ t. joins c L t i j) T) (below-ordered (length (states c L)))
-
-    pub joined-by : Each (λ j. (j < length (states c L)) × ((t : ℕ) × (t < T) × (joins c L t i j ≡ true))) (joined c L i)
-    unfolding joined
-    joined-by =
-        each-both (keep-each (λ j. some (λ t. joins c L t i j) T) (below-each (length (states c L))))
-        (each-to (λ j e. some-at (λ t. joins c L t i j) T e) (keep-passes (λ j. some (λ t. joins c L t i j) T) (below (length (states c L)))))
 
     -- as many states are joined to state i as moves of it stay within -L to L
     pub joined-count : length (joined c L i) ≡ staying c L (getD (states c L) i []) T

@@ -27,12 +27,11 @@ staying c L s (suc t) =
     + (cond (sides-within c L t (triangle-move c t (pos 1) s)) 1 0
     + cond (sides-within c L t (triangle-move c t (negsuc 0) s)) 1 0)
 
--- ---- as the code keeps it
 -- the target of one move, and none where an edge leaves -L to L
 unfoldable pub arrival : Complex → ℕ → ℕ → ℤ → ℕ → List ℕ
 arrival c L t u i = cond (sides-within c L t (moved-state c L t u i)) (target c L t u i ∷ []) []
 
--- the targets of state i, triangle by triangle, each forward and then back
+-- the targets of state i, of the first n triangles, each forward and then back
 unfoldable pub arrivals : Complex → ℕ → ℕ → ℕ → List ℕ
 arrivals c L i zero = []
 arrivals c L i (suc t) = arrivals c L i t ++ (arrival c L t (pos 1) i ++ arrival c L t (negsuc 0) i)

@@ -19,7 +19,7 @@ use Rattle.mathematics.proofs.Lists.{or-right}
 use Rattle.matrices.specs.declared.coupling.KSParams.{KSParams}
 use Rattle.matrices.specs.Coupling.{float-of, coupling-right, params-right}
 use Rattle.matrices.specs.Squares.{energy}
-use Rattle.rows.specs.RowLists.{kept}
+use Rattle.rows.specs.Row.{kept}
 
 holds : (b : Bool) → b ≡ true → T b
 holds true e = tt

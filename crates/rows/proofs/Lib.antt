@@ -1,11 +1,10 @@
 pub mod Pairs
-pub mod Columns
+pub mod SameEntries
 pub mod Sorting
 pub mod Shifting
-pub mod Examples
-pub mod Merging
 pub mod Inserting
-pub mod Joining
 pub mod RowsWritten
-pub mod MadeRows
+pub mod SortedRows
+pub mod RowOf
 pub mod KeptDiagonals
+pub mod Examples

@@ -1,19 +1,13 @@
 -- The rows of a matrix one after the other, in three lists: where each row begins, and the columns and the values of all entries.
 use Prim.Native.Nat.{ℕ, _+_, _^_, _<_, _≤_}
 use mathlib.Core.List.{List, [], _∷_, _++_, map, flatMap}
-use mathlib.Core.Bool.{Bool, _||_, cond}
+use mathlib.Core.Bool.{Bool, cond}
 use mathlib.Core.Path.{_≡_}
-use lib.Ieee.{Float, lt}
+use lib.Ieee.{Float}
 use lib.ListN.{length, take, set}
 use Rattle.mathematics.specs.Counting.{below}
 use Rattle.mathematics.specs.Writing.{put, front}
-use Rattle.mathematics.specs.Entries.{Each}
-use Rattle.matrices.specs.Coupling.{float-of}
-use Rattle.rows.specs.Row.{values-at, row-of}
-
--- a value whose absolute value exceeds 0: such a diagonal is kept
-unfoldable pub kept : Float → Bool
-kept x = lt x (float-of 0) || lt (float-of 0) x
+use Rattle.rows.specs.Row.{ColumnsDiffer, Sorted}
 
 -- the entries of the first n rows
 unfoldable pub rows-to : (ℕ → List (ℕ × Float)) → ℕ → List (ℕ × Float)
@@ -49,21 +43,25 @@ pub record RowsWritten (row : ℕ → List (ℕ × Float)) (i at : ℕ) (starts 
   pub columns-are : columns′ ≡ front (row-columns row i) columns
   pub values-are : values′ ≡ front (row-values row i) values
 
--- the row that some entries make has room behind a place in the columns and in the values, and ends below 2^32
+-- some entries have room behind a place in the columns and in the values, and end below 2^32
 pub record RowFits (entries : List (ℕ × Float)) (at columns-room values-room : ℕ) : Type 0 where
-  pub columns : ℕ
-  pub below : Each (λ e. e .0 < columns) entries
-  pub columns-fit : at + length (row-of (λ j. values-at j entries) columns) ≤ columns-room
-  pub values-fit : at + length (row-of (λ j. values-at j entries) columns) ≤ values-room
-  pub small : at + length (row-of (λ j. values-at j entries) columns) < 2 ^ 32
+  pub columns-fit : at + length entries ≤ columns-room
+  pub values-fit : at + length entries ≤ values-room
+  pub small : at + length entries < 2 ^ 32
 
--- the rows that the entries of each row make in n columns
-unfoldable pub made-rows : (ℕ → List (ℕ × Float)) → ℕ → ℕ → List (ℕ × Float)
-made-rows entries n i = row-of (λ j. values-at j (entries i)) n
-
--- there is room for all of them
+-- the entries of n rows, before they are sorted: no two entries of a row have one column, and there is room for all
 pub record AllRowsFit (entries : ℕ → List (ℕ × Float)) (n columns-room values-room : ℕ) : Type 0 where
-  pub within : (i : ℕ) → i < n → Each (λ e. e .0 < n) (entries i)
-  pub columns-fit : length (rows-to (made-rows entries n) n) ≤ columns-room
-  pub values-fit : length (rows-to (made-rows entries n) n) ≤ values-room
-  pub small : length (rows-to (made-rows entries n) n) < 2 ^ 32
+  pub differ : (i : ℕ) → i < n → ColumnsDiffer (entries i)
+  pub columns-fit : length (rows-to entries n) ≤ columns-room
+  pub values-fit : length (rows-to entries n) ≤ values-room
+  pub small : length (rows-to entries n) < 2 ^ 32
+
+-- each of the first n rows is its entries, sorted
+abbrev pub SortedRows : (ℕ → List (ℕ × Float)) → (ℕ → List (ℕ × Float)) → ℕ → Type 0
+SortedRows entries row n = (i : ℕ) → i < n → Sorted (entries i) (row i)
+
+-- The first i rows are written, each of them its entries, sorted. Where no two entries of a row have one column, as `AllRowsFit` asks, there is
+-- just one such row.
+abbrev pub SortedWritten : (ℕ → List (ℕ × Float)) → ℕ → ℕ → List ℕ → List ℕ → List Float → List ℕ → List ℕ → List Float → Type 0
+SortedWritten entries i at starts columns values starts′ columns′ values′ =
+    (row : ℕ → List (ℕ × Float)) → SortedRows entries row i → RowsWritten row i at starts columns values starts′ columns′ values′

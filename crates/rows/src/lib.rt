@@ -1,4 +1,4 @@
-// A sparse matrix as row lists: a row made of entries in any order, and rows written one after the other.
+// A sparse matrix as row lists: entries in any order sorted into a row, and rows written one after the other.
 
 pub mod lists;
 pub mod row;

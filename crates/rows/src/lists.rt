@@ -4,7 +4,8 @@ ghost use Prim.Native.Nat.{_+_, _^_, _<_, _≤_};
 ghost use lib.ListN.{length, take};
 ghost use lib.Seq.{paste};
 ghost use Rattle.rows.specs.Entries.{pairs};
-ghost use Rattle.rows.specs.RowLists.{kept, EntryPushed, RowAppended};
+ghost use Rattle.rows.specs.Row.{kept};
+ghost use Rattle.rows.specs.RowLists.{EntryPushed, RowAppended};
 
 // Whether the absolute value of a float exceeds 0.
 pub fn is_kept(x: f64) -> bool

@@ -1,6 +1,6 @@
 -- The flips of a triangle: which state goes to which. Different triangles take a state to different states, none of them itself.
 use Prim.Native.Nat.{ℕ, _+_, _%_, _^_, _<_}
-use mathlib.Core.List.{List, [], _∷_, map}
+use mathlib.Core.List.{[], _∷_}
 use mathlib.Core.Bool.{Bool, true, false}
 use mathlib.Core.Path.{_≡_, refl, sym, ap, _∙_}
 use mathlib.Core.Logic.{_≢_, inl, inr}
@@ -17,7 +17,7 @@ use Rattle.mathematics.specs.Entries.{Each}
 use Rattle.mathematics.proofs.Bits.{bit-xor, bit-of-zero, bit-power, bit-power-other, xor-cancel, xor-back}
 use Rattle.mathematics.proofs.Tests.{same-tests}
 use Rattle.mathematics.proofs.Counting.{some-at, at-some}
-use Rattle.mathematics.proofs.Ordered.{Ordered, each-to, each-both, each-map, member-map, member-place, ordered-map, ordered-to, keep-passes, keep-each, keep-ordered}
+use Rattle.mathematics.proofs.Ordered.{Ordered, each-to, each-map, member-map, member-place, ordered-map, ordered-to}
 use Rattle.mathematics.proofs.Below.{length-below, below-each, below-ordered, below-member, map-below-at, keep-count, listed-member, member-listed}
 use Rattle.complex.specs.Complex.{Complex}
 use Rattle.complex.specs.Judge.{Accepted}
@@ -28,7 +28,7 @@ use Rattle.su2_even_sets.proofs.EvenLists.{even-complete, state-place, three-li
 use Rattle.su2_even_sets.specs.declared.Forest.{Forest}
 use Rattle.su2_even_sets.specs.Loops.{closing-bits}
 use Rattle.su2_masks.specs.Place.{LoopsOf}
-use Rattle.su2_masks.specs.Flips.{triangle-mask, flipped-state, su2-target, flips, su2-joined}
+use Rattle.su2_masks.specs.Flips.{triangle-mask, flipped-state, su2-target, su2-targets, flips, su2-joined}
 use Rattle.su2_masks.proofs.Placing.{listed-place}
 
 -- ---- the mask of a triangle
@@ -171,44 +171,28 @@ module _ (c : Complex) (accepted : Accepted c) where
     unfolding flips
     one-flip t t′ j number number′ e e′ = same-target t t′ number number′ (eqb-true (su2-target c t i) j e ∙ sym (eqb-true (su2-target c t′ i) j e′))
 
-    pub su2-targets : List ℕ
-    su2-targets = map (λ t. su2-target c t i) (below T)
-
-    pub su2-targets-once : Ordered (λ x y. x ≢ y) su2-targets
-    unfolding su2-targets
+    pub su2-targets-once : Ordered (λ x y. x ≢ y) (su2-targets c i)
     su2-targets-once = ordered-map (λ t. su2-target c t i) (ordered-to (λ t t′ a b less e. let same = same-target t t′ a b e in omega arith) (below-each T) (below-ordered T))
 
-    pub su2-targets-below : Each (λ x. x < length (su2-states c)) su2-targets
-    unfolding su2-targets
+    pub su2-targets-below : Each (λ x. x < length (su2-states c)) (su2-targets c i)
     su2-targets-below = each-map (λ t. su2-target c t i) (each-to (λ t b. su2-target-at t b i h .below) (below-each T))
 
-    -- the joined states rise, and each is joined by a triangle
-    pub su2-joined-rising : Ordered (λ j k. j < k) (su2-joined c i)
-    unfolding su2-joined
-    su2-joined-rising = keep-ordered (λ j. some (λ t. flips c t i j) T) (below-ordered (length (su2-states c)))
-
-    pub su2-joined-by : Each (λ j. (j < length (su2-states c)) × ((t : ℕ) × (t < T) × (flips c t i j ≡ true))) (su2-joined c i)
-    unfolding su2-joined
-    su2-joined-by =
-        each-both (keep-each (λ j. some (λ t. flips c t i j) T) (below-each (length (su2-states c))))
-        (each-to (λ j e. some-at (λ t. flips c t i j) T e) (keep-passes (λ j. some (λ t. flips c t i j) T) (below (length (su2-states c)))))
-
-    pub su2-targets-joined : (j : ℕ) → j < length (su2-states c) → some (λ t. flips c t i j) T ≡ listed eqb j su2-targets
-    unfolding su2-targets flips
+    pub su2-targets-joined : (j : ℕ) → j < length (su2-states c) → some (λ t. flips c t i j) T ≡ listed eqb j (su2-targets c i)
+    unfolding flips
     su2-targets-joined j k =
         same-tests _ _
         (λ e. let r = some-at (λ t. flips c t i j) T e in
         member-listed (rw (eqb-true (su2-target c (r .0) i) j (r .2)) at (member-map (λ t. su2-target c t i) (below-member T (r .0) (r .1)))))
-        (λ e. back (member-place 0 (listed-member j su2-targets e)))
+        (λ e. back (member-place 0 (listed-member j (su2-targets c i) e)))
       where
-        back : (t : ℕ) × (t < length su2-targets) × (getD su2-targets t 0 ≡ j) → some (λ t. flips c t i j) T ≡ true
+        back : (t : ℕ) × (t < length (su2-targets c i)) × (getD (su2-targets c i) t 0 ≡ j) → some (λ t. flips c t i j) T ≡ true
         back (t, b, e) =
             let number : t < T = omega (arith, length-map (below T) (λ t. su2-target c t i), length-below T) in
             at-some (λ t. flips c t i j) T t number (eq-eqb (su2-target c t i) j (sym (map-below-at (λ t. su2-target c t i) T t 0 number) ∙ e))
 
     -- as many states are joined to state i as there are triangles
     pub su2-joined-count : length (su2-joined c i) ≡ T
-    unfolding su2-joined su2-targets
+    unfolding su2-joined
     su2-joined-count =
-        keep-count su2-targets (length (su2-states c)) su2-targets-once su2-targets-below (λ j. some (λ t. flips c t i j) T) su2-targets-joined
+        keep-count (su2-targets c i) (length (su2-states c)) su2-targets-once su2-targets-below (λ j. some (λ t. flips c t i j) T) su2-targets-joined
         ∙ length-map (below T) (λ t. su2-target c t i) ∙ length-below T

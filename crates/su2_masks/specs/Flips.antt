@@ -1,6 +1,6 @@
 -- The flip of a triangle: which state goes to which, and the columns of a row.
 use Prim.Native.Nat.{ℕ, _^_}
-use mathlib.Core.List.{List}
+use mathlib.Core.List.{List, map}
 use mathlib.Core.Bool.{Bool}
 use lib.Bits.{bitXor}
 use lib.Dec.{eqb}
@@ -21,6 +21,10 @@ flipped-state c t i = bitXor (getD (su2-states c) i 0) (triangle-mask c t)
 
 abbrev pub su2-target : Complex → ℕ → ℕ → ℕ
 su2-target c t i = mask-place c (flipped-state c t i)
+
+-- the states to which the triangles flip state i, triangle by triangle
+abbrev pub su2-targets : Complex → ℕ → List ℕ
+su2-targets c i = map (λ t. su2-target c t i) (below (length (c .triangles)))
 
 -- triangle t flips state i to state j
 unfoldable pub flips : Complex → ℕ → ℕ → ℕ → Bool

@@ -24,7 +24,7 @@ use Rattle.su2_masks.specs.Flips.{su2-target}
 use Rattle.su2_masks.proofs.Placing.{states-number}
 use Rattle.su2_masks.proofs.Flips.{su2-target-read, flip-within}
 use Rattle.su2_rows.specs.Rows.{su2-diagonal, Tables}
-use Rattle.rows.proofs.MadeRows.{map-each}
+use Rattle.mathematics.proofs.Maps.{map-each}
 use Rattle.su2_products.specs.Product.{su2-electric-part, su2-product-at, su2-product, listed-part, flip-part, listed-product-at, BlockFits, ProductOf}
 
 -- numbers with equal values

@@ -12,7 +12,7 @@ use Rattle.mathematics.proofs.Tests.{and-parts}
 use Rattle.matrices.specs.declared.coupling.KSParams.{KSParams}
 use Rattle.matrices.specs.Coupling.{float-of, coupling-right, su2-params, params-right, su2-right}
 use Rattle.matrices.specs.Squares.{energy}
-use Rattle.rows.specs.RowLists.{kept}
+use Rattle.rows.specs.Row.{kept}
 use Rattle.rows.proofs.KeptDiagonals as diagonals
 
 three-is : float-of 3 ≡ fin false 3 (pos 0)

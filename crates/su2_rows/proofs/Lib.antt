@@ -1,7 +1,9 @@
 pub mod KeptDiagonals
+pub mod Once
+pub mod Flipping
+pub mod RowEntries
 pub mod RowLengths
 pub mod TableRows
-pub mod SameColumns
 pub mod RowSteps
 pub mod ListedRows
 pub mod Examples

@@ -1,27 +1,22 @@
 -- All rows of the Hamiltonian, as the tables of the triangles make them.
 use Prim.Native.Nat.{ℕ, _+_, _-_, _*_, _^_, _≤_, _<_}
 use mathlib.Core.List.{List, _++_}
-use mathlib.Core.Bool.{Bool, true, false, not, _&&_, cond}
-use mathlib.Core.Path.{_≡_, refl, sym, ap, _∙_}
+use mathlib.Core.Path.{_≡_, sym, ap, _∙_}
 use native.Mathlib.Nat.{mul-le-mul, mul-pos}
 use native.Mathlib.Omega.{arith}
-use lib.Dec.{eqb}
 use lib.Ieee.{Float}
-use lib.ListN.{length, length-append}
+use lib.ListN.{getD, length, length-append, List·getD-append}
 use lib.Pow.{pow-mono, pow-pos}
-use Rattle.mathematics.specs.Refusals.{first}
 use Rattle.complex.specs.Complex.{Complex}
 use Rattle.matrices.specs.declared.coupling.KSParams.{KSParams}
-use Rattle.matrices.specs.Weights.{weights-tests}
-use Rattle.rows.specs.RowLists.{rows-to, RowsWritten}
-use Rattle.rows.proofs.MadeRows.{rows-agree, written-agree}
+use Rattle.rows.specs.RowLists.{rows-to, RowsWritten, SortedRows, SortedWritten}
+use Rattle.rows.proofs.SortedRows.{rows-lengths}
 use Rattle.su2_even_sets.specs.declared.Forest.{Forest}
 use Rattle.su2_even_sets.specs.EvenSets.{su2-states}
 use Rattle.su2_masks.proofs.Placing.{states-number}
-use Rattle.su2_masks.proofs.Flips.{flip-within}
-use Rattle.su2_rows.specs.Rows.{su2-row, su2-entries, table-rows, Tables, RowsFit, RowsOf}
+use Rattle.su2_rows.specs.Rows.{su2-row, su2-entries, table-entries, Tables, RowsFit, RowsOf}
 use Rattle.su2_rows.proofs.RowLengths.{entries-number}
-use Rattle.su2_rows.proofs.TableRows.{table-below, table-row-is}
+use Rattle.su2_rows.proofs.TableRows.{table-differ, table-sorted}
 
 -- ---- what is judged
 -- few triangles and states have few entries, and there is one at least or none is left out
@@ -38,15 +33,26 @@ module _ (c : Complex) (f : Forest) (p : KSParams) (n starts-room columns-room v
   rows-number = m .states ∙ sym (states-number c f (m .loops))
 
   module _ (w : ℕ → Float) (places : List ℕ) (terms : List Float) (tables : Tables c p w (length (c .triangles)) places terms) (states rest : List ℕ) (begins : states ≡ su2-states c ++ rest) where
-    abbrev made : ℕ → List (ℕ × Float)
-    made = table-rows (p .electric) states places terms (length (c .triangles)) n
+    abbrev entries : ℕ → List (ℕ × Float)
+    entries = table-entries (p .electric) states places terms (length (c .triangles))
 
-    same-row : (i : ℕ) → i < n → made i ≡ su2-row c p w i
-    same-row i h = table-row-is c (m .loops .accepted) p w places terms tables states rest begins n i rows-number h
+    -- a state of the list
+    module _ (i : ℕ) (h : i < n) where
+      inside : i < length (su2-states c)
+      inside = rw (← rows-number) h
 
-    number : length (rows-to made n) ≡ (length (c .triangles) + 1) * n - 1
+      state : getD states i 0 ≡ getD (su2-states c) i 0
+      state = rw begins (List·getD-append (su2-states c) rest 0 i inside)
+
+    sorted : SortedRows entries (su2-row c p w) n
+    sorted i h = table-sorted c (m .loops .accepted) p w places terms tables states i (inside i h) (state i h)
+
+    number : length (rows-to entries n) ≡ su2-entries c p w
     unfolding su2-entries
-    number = ap length (rows-agree made (su2-row c p w) n same-row) ∙ rw rows-number (entries-number c (m .loops .accepted) p (m .right) w)
+    number = sym (rows-lengths entries (su2-row c p w) n sorted) ∙ rw rows-number
+
+    number-is : length (rows-to entries n) ≡ (length (c .triangles) + 1) * n - 1
+    number-is = number ∙ rw rows-number (entries-number c (m .loops .accepted) p (m .right) w)
 
     pub rows-fit : 256 ≤ length places → length places ≡ length terms → RowsFit n (p .electric) states places terms (length (c .triangles)) starts-room columns-room values-room
     rows-fit places-long same-long =
@@ -62,17 +68,13 @@ module _ (c : Complex) (f : Forest) (p : KSParams) (n starts-room columns-room v
           starts-fit = m .starts-fit;
           fit =
               record {
-                within = λ i h.
-                    table-below (p .electric) states places terms (length (c .triangles)) n i h
-                    (λ k b. rw (tables .places-are k b, rows-number) (flip-within c (m .loops .accepted) k b i (rw (← rows-number) h)));
-                columns-fit = rw number (m .columns-fit);
-                values-fit = rw number (m .values-fit);
-                small = rw (number, m .states) (omega (arith, most));
+                differ = λ i h. table-differ c (m .loops .accepted) p w places terms tables states i (inside i h) (state i h);
+                columns-fit = rw number-is (m .columns-fit);
+                values-fit = rw number-is (m .values-fit);
+                small = rw (number-is, m .states) (omega (arith, most));
               };
         }
 
     pub rows-written : (starts columns : List ℕ) (values : List Float) (starts′ columns′ : List ℕ) (values′ : List Float)
-        → RowsWritten made n (length (rows-to made n)) starts columns values starts′ columns′ values′ → RowsWritten (su2-row c p w) n (su2-entries c p w) starts columns values starts′ columns′ values′
-    unfolding su2-entries
-    rows-written starts columns values starts′ columns′ values′ written =
-        rw (← rows-number) (written-agree made (su2-row c p w) n same-row starts columns values starts′ columns′ values′ written)
+        → SortedWritten entries n (length (rows-to entries n)) starts columns values starts′ columns′ values′ → RowsWritten (su2-row c p w) n (su2-entries c p w) starts columns values starts′ columns′ values′
+    rows-written starts columns values starts′ columns′ values′ written = rw number at (written (su2-row c p w) sorted)

@@ -7,9 +7,9 @@ use lib.Ieee.{Float, nan}
 use lib.ListN.{getD, length, take}
 use Rattle.mathematics.proofs.Front.{take-next}
 use Rattle.rows.specs.Entries.{pairs}
-use Rattle.rows.specs.RowLists.{kept, EntryPushed}
+use Rattle.rows.specs.Row.{kept, diagonal-first}
+use Rattle.rows.specs.RowLists.{EntryPushed}
 use Rattle.rows.proofs.Pairs.{pairs-length, pairs-at}
-use Rattle.su2_rows.specs.Rows.{diagonal-first}
 
 -- the diagonal first
 pub diagonal-pushed : (i : ℕ) (x : Float) (old new : List (ℕ × Float)) (r : ℕ) → EntryPushed old 0 (i, x) (kept x) r new → take r new ≡ diagonal-first i x []

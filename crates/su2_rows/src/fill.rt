@@ -3,8 +3,8 @@ use crate::row::add_row;
 use crate::row::flip_row;
 use matrices::electric::mask_energy;
 ghost use lib.ListN.{length};
-ghost use Rattle.rows.specs.RowLists.{rows-to, RowsWritten};
-ghost use Rattle.su2_rows.specs.Rows.{table-rows, RowsFit};
+ghost use Rattle.rows.specs.RowLists.{rows-to, SortedWritten};
+ghost use Rattle.su2_rows.specs.Rows.{table-entries, RowsFit};
 
 // The rows of the first n states go to the beginning of three lists. The tables hold the columns and the terms of the triangles in one row after
 // the other, at first those of row 0.
@@ -20,7 +20,7 @@ pub fn write_rows(
     values: &mut [f64],
 )
     requires { ⌜ RowsFit n electric (now states) (now places) (now terms) «n_triangles» (length (now starts)) (length (now columns)) (length (now values)) ⌝ }
-    ensures { λ _. ⌜ RowsWritten (table-rows electric (now (states .entry)) (now (places .entry)) (now (terms .entry)) «n_triangles» n) n (length (rows-to (table-rows electric (now (states .entry)) (now (places .entry)) (now (terms .entry)) «n_triangles» n) n)) (now (starts .entry)) (now (columns .entry)) (now (values .entry)) (now (starts .exit)) (now (columns .exit)) (now (values .exit)) ⌝ }
+    ensures { λ _. ⌜ SortedWritten (table-entries electric (now (states .entry)) (now (places .entry)) (now (terms .entry)) «n_triangles») n (length (rows-to (table-entries electric (now (states .entry)) (now (places .entry)) (now (terms .entry)) «n_triangles») n)) (now (starts .entry)) (now (columns .entry)) (now (values .entry)) (now (starts .exit)) (now (columns .exit)) (now (values .exit)) ⌝ }
 {
     let mut row_columns = [0u32; 257];
     let mut row_values = [0.0f64; 257];

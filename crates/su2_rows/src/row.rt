@@ -2,16 +2,15 @@
 use rows::lists::append_row;
 use rows::lists::is_kept;
 use rows::lists::push_entry;
-use rows::row::make_row;
 use rows::row::sort_row;
 ghost use mathlib.Core.Path.{_≡_};
 ghost use Prim.Native.Nat.{ℕ, _+_, _^_, _<_, _≤_};
 ghost use lib.Bits.{bitXor};
 ghost use lib.ListN.{getD, length, take};
 ghost use Rattle.rows.specs.Entries.{pairs};
-ghost use Rattle.rows.specs.Row.{values-at};
+ghost use Rattle.rows.specs.Row.{diagonal-first, ColumnsDiffer, Sorted};
 ghost use Rattle.rows.specs.RowLists.{RowFits};
-ghost use Rattle.su2_rows.specs.Rows.{diagonal-first, RowAdded};
+ghost use Rattle.su2_rows.specs.Rows.{flipped-entries, RowAdded};
 
 // The entries of row i: the diagonal where it is kept, then that of each triangle. How many there are is told.
 fn collect_row(
@@ -49,12 +48,21 @@ pub fn add_row(
     columns: &mut [u32],
     values: &mut [f64],
 ) -> usize
-    requires { ⌜ (i < 2 ^ 20) × (n < length (now «row_columns»)) × (length (now «row_columns») ≡ length (now «row_values»)) × (n ≤ length (now flips)) × (length (now flips) ≡ length (now terms)) × (i + 1 < length (now starts)) × RowFits (diagonal-first i diagonal (take n (pairs (now flips) (now terms)))) at (length (now columns)) (length (now values)) ⌝ }
+    requires { ⌜ (i < 2 ^ 20) × (n < length (now «row_columns»)) × (length (now «row_columns») ≡ length (now «row_values»)) × (n ≤ length (now flips)) × (length (now flips) ≡ length (now terms)) × (i + 1 < length (now starts)) × ColumnsDiffer (diagonal-first i diagonal (take n (pairs (now flips) (now terms)))) × RowFits (diagonal-first i diagonal (take n (pairs (now flips) (now terms)))) at (length (now columns)) (length (now values)) ⌝ }
     ensures { λ r. ⌜ RowAdded (diagonal-first i diagonal (take n (pairs (now (flips .entry)) (now (terms .entry))))) i at (now (starts .entry)) (now (columns .entry)) (now (values .entry)) r (now (starts .exit)) (now (columns .exit)) (now (values .exit)) ⌝ }
 {
     let found = collect_row(row_columns, row_values, i, diagonal, flips, terms, n);
-    let m = make_row(row_columns, row_values, found);
-    append_row(row_columns, row_values, m, i, at, starts, columns, values)
+    sort_row(row_columns, row_values, found);
+    append_row(
+        row_columns,
+        row_values,
+        found,
+        i,
+        at,
+        starts,
+        columns,
+        values,
+    )
 }
 
 // The first n columns of a list, each flipped by the same bits.
@@ -69,8 +77,8 @@ fn flip_columns(flips: &mut [u32], n: usize, by: u32)
 
 // The columns of n triangles in one row become those in another, and are sorted with their terms. From a row to the next few change their order.
 pub fn flip_row(flips: &mut [u32], terms: &mut [f64], n: usize, by: u32)
-    requires { ⌜ (n ≤ length (now flips)) × (length (now flips) ≡ length (now terms)) ⌝ }
-    ensures { λ _. ⌜ ((j : ℕ) → values-at j (take n (pairs (now (flips .exit)) (now (terms .exit)))) ≡ values-at (bitXor j by) (take n (pairs (now (flips .entry)) (now (terms .entry))))) ⌝ }
+    requires { ⌜ (n ≤ length (now flips)) × (length (now flips) ≡ length (now terms)) × ColumnsDiffer (take n (pairs (now flips) (now terms))) ⌝ }
+    ensures { λ _. ⌜ Sorted (flipped-entries by (take n (pairs (now (flips .entry)) (now (terms .entry))))) (take n (pairs (now (flips .exit)) (now (terms .exit)))) ⌝ }
 {
     flip_columns(flips, n, by);
     sort_row(flips, terms, n);

@@ -30,15 +30,16 @@ fn rows(energies: &[f64], terms: &[Term], both_ways: bool) -> Vec<f64> {
     (0..count * count).map(|at| entry(at / count, at % count)).collect()
 }
 
-/// The row lists of so many states: a column has an entry where something is given for it, the first of it with the others added.
+/// The row lists of so many states: a column has an entry where a value is given for it. None has two.
 fn row_lists(energies: &[f64], terms: &[Term], both_ways: bool) -> RowLists {
     let mut lists = RowLists { starts: vec![0], columns: vec![], values: vec![] };
     for row in 0..energies.len() {
         for column in 0..energies.len() {
             let kept = row == column && energies[row] != 0.0;
             let joins = |term: &&Term| term.to[row] == Some(column) || both_ways && term.to[column] == Some(row);
-            let given = kept.then_some(energies[row]).into_iter().chain(terms.iter().filter(joins).map(|term| term.adds));
-            if let Some(value) = given.reduce(|sum, next| sum + next) {
+            let mut given = kept.then_some(energies[row]).into_iter().chain(terms.iter().filter(joins).map(|term| term.adds));
+            if let Some(value) = given.next() {
+                assert!(given.next().is_none(), "row {row} holds column {column} twice");
                 lists.columns.push(column as u32);
                 lists.values.push(value);
             }

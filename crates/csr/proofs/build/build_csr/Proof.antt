@@ -21,7 +21,8 @@ use Rattle.matrices.specs.Weights.{weight, weights-tests}
 use Rattle.triangles.proofs.SidesFound.{triangles-long}
 use Rattle.matrices.proofs.Weighing.{weights-fit, weights-refuse, past-weights}
 use Rattle.answers.specs.Answer.{numberAnswer}
-use Rattle.rows.proofs.MadeRows.{coupling-fits, lists-are}
+use Rattle.entries.proofs.Once.{no-column-twice}
+use Rattle.rows.proofs.SortedRows.{coupling-fits, lists-are}
 use Rattle.plaquettes.proofs.Listed.{basis-listed}
 use Rattle.entries.specs.Rows.{csr-entries}
 use Rattle.entries.proofs.Counting.{all-countable, counted-entries}
@@ -186,7 +187,7 @@ returns-4 c =
     let passed = judged seen in
     let written = c .before .before .before .before .before .before .write-lists .ensures in
     ends _ (past-basis (passed .before .before .before .before .prepare-basis .ensures) (passed .before .before .before .if1 .left) (past-weights _ _ _ _ (right passed) (past (no-room seen ∙ enough .if3 .left) none)))
-    (told seen) (lists-are (basis-written _ _ _ _ (basis passed) _ _ _ (listed .write-states .ensures) .1) (number listed ∙ counted seen) written) (basis passed .few)
+    (told seen) (lists-are (basis-written _ _ _ _ (basis passed) _ _ _ (listed .write-states .ensures) .1) (number listed ∙ counted seen) written) (record { few = basis passed .few; once = no-column-twice _ (basis passed .walks .accepted) _ })
 
 pub build-csr-spec : {M : Type 1} → statement M
 build-csr-spec =

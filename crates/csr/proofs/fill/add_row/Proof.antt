@@ -21,7 +21,7 @@ inside : (c : tie.After-find-row) → c .find-row .result ≤ length (c .find-ro
 inside c = omega (arith, c .find-row .ensures .1, columns-long c, start c .pre .5)
 
 fits : (c : tie.After-find-row) → (start c .args .at + c .find-row .result ≤ length (start c .args .columns .now)) × (start c .args .at + c .find-row .result ≤ length (start c .args .values .now)) × (start c .args .at + c .find-row .result < 2 ^ 32)
-fits c = found-fits _ _ _ _ _ _ _ _ _ (c .find-row .ensures .0) (rw (pairs-length _ _ (same c)) (inside c)) (start c .pre .8)
+fits c = found-fits _ _ _ _ _ _ _ _ _ (c .find-row .ensures .0) (rw (pairs-length _ _ (same c)) (inside c)) (start c .pre .9)
 
 find-row-requires : tie.Need-find-row-requires
 find-row-requires c κs = search needs
@@ -35,7 +35,7 @@ set-length-requires : tie.Need-set-length-requires
 set-length-requires c κs =
     let found = c .before .before .before .before .before .before .before .before .before .before .before .before .before .before .before .before in
     let pre = start found .pre in
-    (omega (arith, pre .2, pre .3), pre .7, omega (arith, found .find-row .ensures .1, pre .0 .tabled .few))
+    (omega (arith, pre .2, pre .3), pre .8, omega (arith, found .find-row .ensures .1, pre .0 .tabled .few))
 
 add-result : tie.Need-add-result
 add-result c = let h = fits (c .before .before .before .before .before .before .before .before .before .before .before .before .before .before .before .before .before .before .before) in search needs

@@ -1,14 +1,13 @@
-use Prim.Native.Nat.{ℕ, _+_, _*_, _^_, _<_, _≤_}
-use mathlib.Core.Path.{_≡_, refl, sym, ap, _∙_}
+use Prim.Native.Nat.{_+_, _*_, _≤_}
+use mathlib.Core.Path.{_≡_}
 use native.Mathlib.Omega.{arith}
 use native.Mathlib.Nat.{mul-le-mul, mul-le-mul-right}
-use lib.ListN.{length, take}
-use Rattle.rows.specs.Entries.{pairs}
+use lib.ListN.{length}
 use Rattle.hilbert.proofs.Searching.{row-part}
 use Rattle.plaquettes.specs.Rows.{electric-term}
 use Rattle.matrices.specs.Squares.{squares, energy}
 use Rattle.hilbert.specs.Search.{row}
-use Rattle.csr.proofs.Filling.{row-found}
+use Rattle.csr.proofs.Filling.{collected-differ, row-found}
 use borrow.Author.Needs.{needs}
 use Rattle.csr.proofs.fill.find_row.Statement.{statement}
 use Rattle.csr.proofs.fill.find_row.Tie as tie
@@ -56,8 +55,18 @@ collect-row-requires c κs =
     let walking = s .pre .0 in
     (walking .tabled, rw (row-part (s .args .list .now) (s .args .s .edges) (s .args .i)) (walking .each (s .args .i) (s .pre .2)), s .pre .4, walking .few, s .pre .3, omega (arith, s .pre .2, walking .few), c .before .before .before .before .lower .ensures .1, s .pre .5, s .pre .6)
 
-make-row-requires : tie.Need-make-row-requires
-make-row-requires c κs = search needs
+abbrev start : tie.After-collect-row → tie.Start
+start c = c .before .before .before .before .before .before .before .before .before .before .before .before
+
+-- the diagonal is the energy of state i
+energy-told : (c : tie.After-collect-row) → c .before .before .before .before .before .before .before .row-energy .result ≡ energy (start c .args .electric) (squares (row (start c .args .s .edges) (start c .args .list .now) (start c .args .i)))
+unfolding electric-term
+energy-told c = c .before .before .before .before .before .before .before .row-energy .ensures
+
+sort-row-requires : tie.Need-sort-row-requires
+sort-row-requires c κs =
+    let found = c .before .before .before .before .before .before .before .before in
+    (search needs, search needs, collected-differ _ _ _ _ _ _ (row-part (start found .args .list .now) (start found .args .s .edges) (start found .args .i)) (found .before .before .before .before .before .lower .ensures .0) (energy-told found) _ (found .collect-row .ensures .0) (start found .pre .7))
 
 same-length : tie.Need-same-length
 same-length c = search needs
@@ -68,17 +77,11 @@ same-length-2 c = search needs
 same-length-3 : tie.Need-same-length-3
 same-length-3 c = search needs
 
-energy-told : (c : tie.After-slice-known8) → c .before .before .before .before .before .before .before .before .before .before .before .before .before .before .before .before .before .before .before .before .row-energy .result ≡ energy (c .before .before .before .before .before .before .before .before .before .before .before .before .before .before .before .before .before .before .before .before .before .before .before .before .before .args .electric) (squares (row (c .before .before .before .before .before .before .before .before .before .before .before .before .before .before .before .before .before .before .before .before .before .before .before .before .before .args .s .edges) (c .before .before .before .before .before .before .before .before .before .before .before .before .before .before .before .before .before .before .before .before .before .before .before .before .before .args .list .now) (c .before .before .before .before .before .before .before .before .before .before .before .before .before .before .before .before .before .before .before .before .before .before .before .before .before .args .i)))
-unfolding electric-term
-energy-told c = c .before .before .before .before .before .before .before .before .before .before .before .before .before .before .before .before .before .before .before .before .row-energy .ensures
-
 returns : tie.Need-returns
 returns c =
-    let s = c .before .before .before .before .before .before .before .before .before .before .before .before .before .before .before .before .before .before .before .before .before .before .before .before .before in
-    let made = c .before .before .before .before .make-row in
-    let collected = c .before .before .before .before .before .before .before .before .before .before .before .before .before .collect-row in (
-      row-found _ _ _ _ _ _ (row-part (s .args .list .now) (s .args .s .edges) (s .args .i)) (c .before .before .before .before .before .before .before .before .before .before .before .before .before .before .before .before .before .before .lower .ensures .0) (energy-told c) _ _ _ _ _ (collected .ensures .0) (made .ensures) (collected .ensures .2),
-      omega (arith, made .ensures .room, collected .ensures .1),
+    let found = c .before .before .before .before .before .before .before .before .before .before .before .before .before in (
+      row-found _ _ _ _ _ _ (row-part (start found .args .list .now) (start found .args .s .edges) (start found .args .i)) (found .before .before .before .before .before .lower .ensures .0) (energy-told found) _ (found .collect-row .ensures .0) _ _ _ (c .before .before .before .before .sort-row .ensures .sorted) (found .collect-row .ensures .2),
+      found .collect-row .ensures .1,
     )
 
 pub find-row-spec : {M : Type 1} → statement M
@@ -96,7 +99,7 @@ find-row-spec =
     part-collect-row-start
     part-collect-row-end
     collect-row-requires
-    make-row-requires
+    sort-row-requires
     same-length
     same-length-2
     same-length-3

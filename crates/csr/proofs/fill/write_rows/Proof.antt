@@ -8,7 +8,7 @@ use lib.ListN.{length}
 use Rattle.moves.specs.Moves.{Pointers}
 use Rattle.moves.proofs.Collecting.{pointers-same}
 use Rattle.csr.specs.Fill.{Walk, walkOf, WalkAt}
-use Rattle.csr.proofs.Filling.{walk-start, walk-fits, walk-unset, walk-step, walk-pointers, walk-same, fits-same, done-same}
+use Rattle.csr.proofs.Filling.{walk-start, walk-fits, walk-differ, walk-unset, walk-step, walk-pointers, walk-same, differ-same, fits-same, done-same}
 use borrow.Author.Needs.{needs}
 use Rattle.csr.proofs.fill.write_rows.Statement.{statement}
 use Rattle.csr.proofs.fill.write_rows.Tie as tie
@@ -72,6 +72,7 @@ add-row-requires c κs =
       pointers-right at-loop,
       omega (arith, inv .3, walking .tabled .few),
       inv .3 ∙ sym (inv .4),
+      differ-same (same at-loop) (at-loop .loop .pointers) (at-loop .loop .i) (walk-differ _ _ _ _ writable _ _ _ _ _ _ (inv .5) inside),
       walk-unset _ _ _ _ writable _ _ _ _ _ _ (inv .5) inside,
       rw (inv .1, inv .2) (fits-same (same at-loop) (at-loop .loop .pointers) (at-loop .loop .i) (at-loop .loop .at) _ _ (walk-fits _ _ _ _ writable _ _ _ _ _ _ (inv .5) inside)),
     )

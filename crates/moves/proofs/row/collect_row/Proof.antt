@@ -7,7 +7,7 @@ use mir.Syntax.{w32}
 use mir.Val.{toZ, ofZ}
 use Rattle.mathematics.proofs.Signed.{small-back, size-neg}
 use Rattle.rows.specs.Entries.{pairs}
-use Rattle.rows.proofs.MadeRows.{pushed-few}
+use Rattle.rows.proofs.SortedRows.{pushed-few}
 use Rattle.moves.specs.Numbers.{number-in}
 use Rattle.moves.specs.Moves.{Moves, goes, collected, pointed, Pointers}
 use Rattle.moves.specs.Tables.{tables}

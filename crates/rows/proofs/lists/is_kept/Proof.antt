@@ -1,5 +1,5 @@
 use Rattle.matrices.proofs.Literals.{zero}
-use Rattle.rows.specs.RowLists.{kept}
+use Rattle.rows.specs.Row.{kept}
 use Rattle.rows.proofs.lists.is_kept.Statement.{statement}
 use Rattle.rows.proofs.lists.is_kept.Tie as tie
 

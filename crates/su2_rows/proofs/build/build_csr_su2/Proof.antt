@@ -20,8 +20,9 @@ use Rattle.answers.specs.Answer.{numberAnswer}
 use Rattle.matrices.proofs.Weighing.{weights-fit, weights-refuse, past-weights}
 use Rattle.su2_masks.proofs.Placing.{loops-of, states-number, masks-are}
 use Rattle.su2_masks.proofs.Telling.{limit-refuses, past-masks, masks-known, masks-written}
-use Rattle.rows.proofs.MadeRows.{long-enough, coupling-fits, lists-are}
+use Rattle.rows.proofs.SortedRows.{long-enough, coupling-fits, lists-are}
 use Rattle.su2_rows.specs.Rows.{su2-entries, su2-rows-call}
+use Rattle.su2_rows.proofs.Once.{no-column-twice}
 use Rattle.su2_rows.proofs.RowLengths.{entries-number}
 use Rattle.su2_rows.proofs.ListedRows.{entries-few}
 use borrow.Author.Needs.{needs}
@@ -188,7 +189,7 @@ returns-5 c =
     ends _ (past-masks fine of (few small) (past-weights _ _ _ _ (weighed right) (past (rw (entries-are right, states-number _ _ of) (not-short enough)) none)))
     (rw (number small) (sym (entries-are right)))
     (lists-are (masks-written fine of _ _ (masks .write-masks .ensures)) (number small ∙ sym (states-number _ _ of)) (lists .write-lists .ensures))
-    (record { few = masks-known fine of (few small) .few; count = entries-number _ (of .accepted) _ (right-coupling right) _ })
+    (record { few = masks-known fine of (few small) .few; once = no-column-twice _ (of .accepted); count = entries-number _ (of .accepted) _ (right-coupling right) _ })
 
 pub build-csr-su2-spec : {M : Type 1} → statement M
 build-csr-su2-spec =

@@ -1,30 +1,51 @@
 use Prim.Native.Nat.{_≤_}
-use mathlib.Core.Path.{sym, _∙_}
+use mathlib.Core.Path.{_≡_, sym, ap, _∙_}
 use native.Mathlib.Omega.{arith}
 use lib.ListN.{length, take}
+use lib.Seq.{length-take-le}
 use Rattle.rows.specs.Entries.{pairs}
 use Rattle.rows.proofs.Pairs.{pairs-length}
-use Rattle.rows.proofs.MadeRows.{made-row, made-fits}
+use Rattle.rows.specs.Row.{diagonal-first}
 use borrow.Author.Needs.{needs}
 use Rattle.su2_rows.proofs.row.add_row.Statement.{statement}
 use Rattle.su2_rows.proofs.row.add_row.Tie as tie
 
+abbrev start : tie.After-collect-row → tie.Start
+start c = c .before .before .before .before .before .before .before .before .before .before
+
+-- the entries that are found: there is room for them, and how many there are
+long : (c : tie.After-collect-row) → length (c .collect-row .last .0) ≡ length (c .collect-row .last .1 .0)
+long c = c .collect-row .kept .0 ∙ start c .pre .2 ∙ sym (c .collect-row .kept .1 .0)
+
+room : (c : tie.After-collect-row) → c .collect-row .result ≤ length (c .collect-row .last .0)
+room c = omega (arith, c .collect-row .ensures .1, start c .pre .1, c .collect-row .kept .0)
+
+count : (c : tie.After-collect-row) → c .collect-row .result ≡ length (diagonal-first (start c .args .i) (start c .args .diagonal) (take (start c .args .n) (pairs (start c .args .flips .now) (start c .args .terms .now))))
+count c =
+    sym (length-take-le _ (pairs (c .collect-row .last .0) (c .collect-row .last .1 .0)) (rw (pairs-length (c .collect-row .last .0) (c .collect-row .last .1 .0) (long c)) (room c)))
+    ∙ ap length (c .collect-row .ensures .0)
+
 collect-row-requires : tie.Need-collect-row-requires
 collect-row-requires c κs = search needs
 
-make-row-requires : tie.Need-make-row-requires
-make-row-requires c κs = search needs
+sort-row-requires : tie.Need-sort-row-requires
+sort-row-requires c κs =
+    let found = c .before .before .before .before .before .before in
+    (room found, long found, rw (found .collect-row .ensures .0) (start found .pre .6))
 
 append-row-requires : tie.Need-append-row-requires
 append-row-requires c κs =
-    let made = c .before .before .before .before .before .before .before .before .before .make-row in
-    let found = c .before .before .before .before .before .before .before .before .before .before .before .before .before .before .before .before .collect-row in
-    let pre = c .before .before .before .before .before .before .before .before .before .before .before .before .before .before .before .before .before .before .before .before .before .before .before .before .before .before .pre in
-    let long = made .kept .0 ∙ found .kept .0 in
-    let same = long ∙ pre .2 ∙ sym (made .kept .1 .0 ∙ found .kept .1 .0) in
-    let inside : made .result ≤ length (made .last .0) = omega (arith, made .ensures .room, found .ensures .1, pre .1, long) in
-    let fits = made-fits _ _ _ _ _ _ _ _ (found .ensures .0) (made .ensures) (pre .6) (rw (pairs-length (made .last .0) (made .last .1 .0) same) inside) in
-    (inside, same, pre .5, fits .0, fits .1, fits .2)
+    let sorted = c .before .before .before .before .before .before .before .before .before .sort-row in
+    let found = c .before .before .before .before .before .before .before .before .before .before .before .before .before .before .before .before in
+    let pre = start found .pre in
+    let many = count found in (
+      omega (arith, room found, sorted .kept .0),
+      sorted .kept .0 ∙ long found ∙ sym (sorted .kept .1 .0),
+      pre .5,
+      rw many (pre .7 .columns-fit),
+      rw many (pre .7 .values-fit),
+      rw many (pre .7 .small),
+    )
 
 same-length : tie.Need-same-length
 same-length c = search needs
@@ -43,10 +64,11 @@ same-length-5 c = search needs
 
 returns : tie.Need-returns
 returns c =
-    let made = c .before .before .before .before .before .before .before .before .before .before .before .before .before .before .before .before .make-row in
+    let sorted = c .before .before .before .before .before .before .before .before .before .before .before .before .before .before .before .before .sort-row in
+    let found = c .before .before .before .before .before .before .before .before .before .before .before .before .before .before .before .before .before .before .before .before .before .before .before .collect-row in
     record {
-      row = take (made .result) (pairs (made .last .0) (made .last .1 .0));
-      is = made-row _ _ _ _ _ _ _ _ (c .before .before .before .before .before .before .before .before .before .before .before .before .before .before .before .before .before .before .before .before .before .before .before .collect-row .ensures .0) (made .ensures) (c .before .before .before .before .before .before .before .before .before .before .before .before .before .before .before .before .before .before .before .before .before .before .before .before .before .before .before .before .before .before .before .before .before .pre .6);
+      row = take (found .result) (pairs (sorted .last .0) (sorted .last .1 .0));
+      is = rw (found .ensures .0) at (sorted .ensures .sorted);
       appended = c .before .before .before .before .before .before .append-row .ensures;
     }
 
@@ -55,7 +77,7 @@ add-row-spec =
     tie.close
     (tie.spec
     collect-row-requires
-    make-row-requires
+    sort-row-requires
     append-row-requires
     same-length
     same-length-2

@@ -3,8 +3,8 @@ use mathlib.Core.Path.{_≡_, refl, sym, _∙_}
 use native.Mathlib.Omega.{arith}
 use lib.ListN.{length, take}
 use Rattle.rows.specs.Entries.{pairs}
-use Rattle.su2_rows.specs.Rows.{diagonal-first}
-use Rattle.rows.proofs.MadeRows.{pushed-few}
+use Rattle.rows.specs.Row.{diagonal-first}
+use Rattle.rows.proofs.SortedRows.{pushed-few}
 use Rattle.su2_rows.proofs.RowSteps.{diagonal-pushed, triangle-pushed}
 use borrow.Author.Needs.{needs}
 use Rattle.su2_rows.proofs.row.collect_row.Statement.{statement}

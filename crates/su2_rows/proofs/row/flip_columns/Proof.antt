@@ -2,7 +2,7 @@ use Prim.Native.Nat.{_-_, _≤_}
 use mathlib.Core.Path.{_≡_, refl}
 use native.Mathlib.Omega.{arith}
 use lib.ListN.{length, length-set}
-use Rattle.su2_rows.proofs.SameColumns.{Flipped, none-flipped, one-flipped}
+use Rattle.su2_rows.proofs.Flipping.{Flipped, none-flipped, one-flipped}
 use borrow.Author.Needs.{needs}
 use Rattle.su2_rows.proofs.row.flip_columns.Statement.{statement}
 use Rattle.su2_rows.proofs.row.flip_columns.Tie as tie
