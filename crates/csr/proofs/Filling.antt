@@ -149,10 +149,10 @@ walk-pointers v (suc i) =
     pointed-pointers (v .moves) (v .truncation) (v .numbers) (v .states) (v .state i) (v .numbers i) (pointers-at v i) (v .count) (walk-pointers v i)
 
 -- the same walk, by words with the same numbers
-pub walk-same : (sides : List ℕ) (units : List ℤ) (lows highs : List ℕ) (terms : List Float) (count L : ℕ) (words words₀ : List ℕ) (n : ℕ) (list : List ℤ) (m : ℕ) (electric : Float) → number-in words ≡ number-in words₀
-    → walkOf sides units lows highs terms count L words n list m electric ≡ walkOf sides units lows highs terms count L words₀ n list m electric
-walk-same sides units lows highs terms count L words words₀ n list m electric e =
-    ap (λ f. record { moves = record { sides = sides; units = units; lows = lows; highs = highs; terms = terms }; count = count; truncation = L; numbers = f; states = n; state = row m list; electric = electric }) e
+pub walk-same : (sides keys : List ℕ) (terms : List Float) (count L : ℕ) (words words₀ : List ℕ) (n : ℕ) (list : List ℤ) (m : ℕ) (electric : Float) → number-in words ≡ number-in words₀
+    → walkOf sides keys terms count L words n list m electric ≡ walkOf sides keys terms count L words₀ n list m electric
+walk-same sides keys terms count L words words₀ n list m electric e =
+    ap (λ f. record { moves = record { sides = sides; keys = keys; terms = terms }; count = count; truncation = L; numbers = f; states = n; state = row m list; electric = electric }) e
 
 pub differ-same : {v v′ : Walk} → v′ ≡ v → (pointers : List ℕ) (i : ℕ) → ColumnsDiffer (entries-from v pointers i) → ColumnsDiffer (entries-from v′ pointers i)
 differ-same e pointers i h = rw e h

@@ -17,7 +17,7 @@ use Rattle.plaquettes.proofs.TriangleTelling.{state-there}
 use Rattle.plaquettes.proofs.Targets.{there, row-long, row-is}
 use Rattle.plaquettes.proofs.Moves.{small-everywhere}
 use Rattle.moves.specs.Numbers.{number, lower, Numbered}
-use Rattle.moves.specs.Tables.{tables, MovesWritten}
+use Rattle.moves.specs.Tables.{MovesWritten}
 use Rattle.moves.proofs.Numbers.{number-few}
 use Rattle.entries.specs.Rows.{csr-entries}
 use Rattle.csr.specs.Words.{FirstWords}
@@ -66,17 +66,17 @@ module _ (c : Complex) (list : List ℤ) (s : Sizes) (free : List ℕ) (basis : 
     pub word-small : (i : ℕ) → i < N → getD words i 0 < 2 ^ 20
     word-small i h = omega (arith, word-is i h, few i h)
 
-    pub walk-made : (sides : List ℕ) (units : List ℤ) (lows highs : List ℕ) (terms : List Float) (count : ℕ) → count ≡ 2 * length (c .triangles) → MovesWritten c L p w free (tables sides units lows highs terms)
-        → WalkOf c L p w free (walkOf sides units lows highs terms count L words (s .states) list (s .edges) (p .electric))
-    walk-made sides units lows highs terms count count-is moves =
+    pub walk-made : (sides keys : List ℕ) (terms : List Float) (count : ℕ) → count ≡ 2 * length (c .triangles) → MovesWritten c L p w free (record { sides = sides; keys = keys; terms = terms })
+        → WalkOf c L p w free (walkOf sides keys terms count L words (s .states) list (s .edges) (p .electric))
+    walk-made sides keys terms count count-is moves =
         record {
           accepted = basis .accepted;
           few = rw (← (basis .count)) (basis .few);
           small = basis .truncation;
           listed = listed;
           count = count-is;
-          tabled = rw count-is (moves .tabled);
-          moves-are = λ k h. moves .each k (rw (← count-is) h);
+          candidates = rw (basis .free-count) at candidates;
+          moves-are = moves;
           truncation = refl;
           count-states = basis .count;
           state-is = λ i h. row-is c list s free basis i (rw (basis .count) h);

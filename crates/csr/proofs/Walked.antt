@@ -1,57 +1,26 @@
 -- The walk over the states finds the entries of each row, and so its rows are the rows.
-use Prim.Native.Nat.{ℕ, zero, suc, _+_, _*_, _/_, _%_, _<_, _≤_}
-use mathlib.Core.List.{List, [], _∷_, _++_, append-assoc, flatMap}
-use mathlib.Core.Path.{_≡_, refl, sym, ap, ap₂, _∙_}
+use Prim.Native.Nat.{ℕ, zero, suc, _+_, _*_, _<_, _≤_}
+use mathlib.Core.List.{List, [], _∷_, flatMap}
+use mathlib.Core.Path.{_≡_, ap, ap₂, _∙_}
 use native.Mathlib.Omega.{arith}
-use lib.IntN.{ℤ, pos, negsuc}
+use lib.IntN.{ℤ}
 use lib.Ieee.{Float}
 use lib.ListN.{getD, length, getD-replicate}
 use Rattle.mathematics.specs.Counting.{below}
-use Rattle.mathematics.proofs.Flat.{flatMap-last}
 use Rattle.complex.specs.Complex.{Complex, entries}
 use Rattle.complex.proofs.TriangleEdges.{triangle-sides}
 use Rattle.gauss_law.specs.Listing.{states}
 use Rattle.matrices.specs.declared.coupling.KSParams.{KSParams}
 use Rattle.matrices.specs.Squares.{squares, energy}
-use Rattle.matrices.specs.Terms.{row-plaquette-term}
 use Rattle.rows.specs.Row.{diagonal-first, ColumnsDiffer}
 use Rattle.rows.specs.RowLists.{SortedRows}
 use Rattle.plaquettes.proofs.TriangleTelling.{state-there}
-use Rattle.moves.specs.Moves.{collected, pointed, unit-of, moved-entry, entry-of, Behind, Pointers, StateMoves}
+use Rattle.moves.specs.Moves.{collected, pointed, triangle-of, move-at, entry-of, MoveAt, Behind, Pointers, StateMoves}
 use Rattle.moves.proofs.Arriving.{behind-next, collected-told}
 use Rattle.entries.specs.Rows.{diagonal, csr-row}
-use Rattle.csr.specs.Found.{found}
 use Rattle.csr.specs.Fill.{Walk, entries-from, pointers-after, pointers-at, walk-entries, Walking, WalkOf}
 use Rattle.csr.proofs.Found.{found-row}
 use Rattle.csr.proofs.Filling.{walk-pointers}
-
-module _ (c : Complex) (L : ℕ) (p : KSParams) (w : ℕ → Float) (i : ℕ) where
-  -- both moves of triangle t
-  entry-forward : (t : ℕ) → entry-of c L p w i (2 * t) ≡ moved-entry c L t (pos 1) (row-plaquette-term p (w t)) i
-  unfolding entry-of unit-of
-  entry-forward t =
-      let half : 2 * t / 2 ≡ t = omega arith in
-      let even : 2 * t % 2 ≡ 0 = omega arith in
-      rw (half, even)
-
-  entry-back : (t : ℕ) → entry-of c L p w i (2 * t + 1) ≡ moved-entry c L t (negsuc 0) (row-plaquette-term p (w t)) i
-  unfolding entry-of unit-of
-  entry-back t =
-      let half : (2 * t + 1) / 2 ≡ t = omega arith in
-      let odd : (2 * t + 1) % 2 ≡ 1 = omega arith in
-      rw (half, odd)
-
-  -- the moves by their numbers are the triangles, each forward and back
-  in-order : (n : ℕ) → flatMap (entry-of c L p w i) (below (2 * n)) ≡ found c L p w i n
-  unfolding found below flatMap
-  in-order zero = refl
-  in-order (suc n) =
-      let e : 2 * suc n ≡ suc (suc (2 * n)) = omega arith in
-      let more : 2 * n + 1 ≡ suc (2 * n) = omega arith in
-      ap (λ k. flatMap (entry-of c L p w i) (below k)) e ∙ flatMap-last (entry-of c L p w i) (below (suc (2 * n))) (suc (2 * n))
-      ∙ ap₂ (λ a b. a ++ b) (flatMap-last (entry-of c L p w i) (below (2 * n)) (2 * n)) (ap (entry-of c L p w i) (sym more) ∙ entry-back n)
-      ∙ append-assoc (flatMap (entry-of c L p w i) (below (2 * n))) (entry-of c L p w i (2 * n)) (moved-entry c L n (negsuc 0) (row-plaquette-term p (w n)) i)
-      ∙ ap₂ (λ a b. a ++ (b ++ moved-entry c L n (negsuc 0) (row-plaquette-term p (w n)) i)) (in-order n) (entry-forward n)
 
 module _ {c : Complex} {L : ℕ} {p : KSParams} {w : ℕ → Float} {free : List ℕ} {v : Walk} (is : WalkOf c L p w free v) where
   abbrev N : ℕ
@@ -60,50 +29,57 @@ module _ {c : Complex} {L : ℕ} {p : KSParams} {w : ℕ → Float} {free : List
   abbrev T : ℕ
   T = length (c .triangles)
 
-  inside : (k : ℕ) → k < v .count → k / 2 < T
-  inside k h = let e = is .count in omega arith
+  -- the entries of the moves, as they stand in the tables
+  abbrev found : ℕ → List (ℕ × Float)
+  found i = flatMap (λ k. entry-of c L p w i (move-at (v .moves) k)) (below (2 * T))
 
-  module _ (i : ℕ) (h : i < N) (pointers : List ℕ) (behind : Behind c L (λ k. k) (v .count) pointers i) (truncation n : ℕ) (s : List ℤ) (truncation-is : truncation ≡ L) (n-is : n ≡ N) (s-is : s ≡ getD (states c L) i []) where
+  move-there : (k : ℕ) → k < v .count → MoveAt c L p w free (v .moves) k
+  move-there k h = is .moves-are .each k (rw (← (is .count)) h)
+
+  moves-few : v .count ≤ 512
+  moves-few = omega (arith, is .count, is .accepted .few-triangles)
+
+  module _ (i : ℕ) (h : i < N) (pointers : List ℕ) (behind : Behind c L (v .moves) (v .count) pointers i) (truncation n : ℕ) (s : List ℤ) (truncation-is : truncation ≡ L) (n-is : n ≡ N) (s-is : s ≡ getD (states c L) i []) where
     -- the pointers after row i are behind the targets of the next states
-    behind-after : Pointers n pointers → Behind c L (λ k. k) (v .count) (pointed (v .moves) truncation (v .numbers) n s (v .numbers i) pointers (v .count)) (i + 1)
+    behind-after : Pointers n pointers → Behind c L (v .moves) (v .count) (pointed (v .moves) truncation (v .numbers) n s (v .numbers i) pointers (v .count)) (i + 1)
     behind-after right =
         rw (truncation-is, n-is, s-is)
-        (behind-next c (is .accepted) L p w free (is .listed) (v .moves) (λ k. k) (v .count) (is .moves-are) inside (v .numbers) (is .numbers-are) pointers i h behind (rw n-is at right) (is .tabled .few))
+        (behind-next c (is .accepted) L p w free (is .listed) (is .candidates) (v .moves) (v .count) move-there (v .numbers) (is .numbers-are) pointers i h behind (rw n-is at right) moves-few)
 
     -- and the entries of row i are found
-    found-here : (x : Float) → x ≡ energy (p .electric) (squares (getD (states c L) i [])) → collected (v .moves) truncation (v .numbers) n s (v .numbers i) pointers i x (v .count) ≡ diagonal-first i (diagonal p (getD (states c L) i [])) (found c L p w i T)
+    found-here : (x : Float) → x ≡ energy (p .electric) (squares (getD (states c L) i [])) → collected (v .moves) truncation (v .numbers) n s (v .numbers i) pointers i x (v .count) ≡ diagonal-first i (diagonal p (getD (states c L) i [])) (found i)
     unfolding diagonal
     found-here x x-is =
         rw (truncation-is, n-is, s-is, x-is)
-        (collected-told c (is .accepted) L p w free (is .listed) (v .moves) (λ k. k) (v .count) (is .moves-are) inside (v .numbers) (is .numbers-are) pointers i h behind (energy (p .electric) (squares (getD (states c L) i []))) (v .count) (omega arith)
-        ∙ ap (diagonal-first i (diagonal p (getD (states c L) i []))) (ap (λ k. flatMap (entry-of c L p w i) (below k)) (is .count) ∙ in-order c L p w i T))
+        (collected-told c (is .accepted) L p w free (is .listed) (is .candidates) (v .moves) (v .count) move-there (v .numbers) (is .numbers-are) pointers i h behind (energy (p .electric) (squares (getD (states c L) i []))) (v .count) (omega arith)
+        ∙ ap (λ n. diagonal-first i (diagonal p (getD (states c L) i [])) (flatMap (λ k. entry-of c L p w i (move-at (v .moves) k)) (below n))) (is .count))
 
   -- the pointers before row i are behind the targets from there on
-  behind-at : (i : ℕ) → i ≤ N → Behind c L (λ k. k) (v .count) (pointers-at v i) i
+  behind-at : (i : ℕ) → i ≤ N → Behind c L (v .moves) (v .count) (pointers-at v i) i
   unfolding pointers-at pointers-after
-  behind-at zero h = λ k small j low below. rw (getD-replicate {A = ℕ} 512 k 0 0 (omega (arith, is .tabled .few))) (omega arith)
+  behind-at zero h = λ k small j low below. rw (getD-replicate {A = ℕ} 512 k 0 0 (omega (arith, moves-few))) (omega arith)
   behind-at (suc i) h =
       let next = behind-after i h (pointers-at v i) (behind-at i (omega arith)) (v .truncation) (v .states) (v .state i) (is .truncation) (is .count-states) (is .state-is i h) (walk-pointers v i) in
       λ k small j low below. next k small j (omega arith) below
 
-  entries-told : (i : ℕ) → i < N → walk-entries v i ≡ diagonal-first i (diagonal p (getD (states c L) i [])) (found c L p w i T)
+  entries-told : (i : ℕ) → i < N → walk-entries v i ≡ diagonal-first i (diagonal p (getD (states c L) i [])) (found i)
   unfolding walk-entries entries-from
   entries-told i h =
       found-here i h (pointers-at v i) (behind-at i (omega arith)) (v .truncation) (v .states) (v .state i) (is .truncation) (is .count-states) (is .state-is i h) (energy (v .electric) (squares (v .state i)))
       (ap₂ (λ a b. energy a (squares b)) (is .factor) (is .state-is i h))
 
   pub entries-differ : (i : ℕ) → i < N → ColumnsDiffer (walk-entries v i)
-  entries-differ i h = rw (entries-told i h) (found-row c (is .accepted) L p w i h .0)
+  entries-differ i h = rw (entries-told i h) (found-row c (is .accepted) L p w free (v .moves) (is .moves-are) i h .0)
 
   -- so its rows, sorted, are the rows
   pub rows-told : SortedRows (walk-entries v) (csr-row c L p w) N
-  rows-told i h = rw (entries-told i h) (found-row c (is .accepted) L p w i h .1)
+  rows-told i h = rw (entries-told i h) (found-row c (is .accepted) L p w free (v .moves) (is .moves-are) i h .1)
 
   pub walking : Walking v
   walking =
       record {
         few = rw (is .count-states) (is .few);
-        tabled = is .tabled;
+        moves-few = moves-few;
         each = λ i h. let there : i < N = omega (arith, is .count-states) in moving i there (v .truncation) (v .state i) (is .truncation) (is .state-is i there);
       }
     where
@@ -115,7 +91,8 @@ module _ {c : Complex} {L : ℕ} {p : KSParams} {w : ℕ → Float} {free : List
             truncation = is .small;
             edges-few = rw (state .sized) (is .accepted .few-edges);
             movable = λ k small.
-                let ends = triangle-sides c (is .accepted) (k / 2) (inside k small) in
-                let edges : entries (v .moves .sides) (3 * k) 3 ≡ ends .i ∷ ends .j ∷ ends .k ∷ [] = is .moves-are k small .sides-are ∙ ends .numbers in
+                let move = move-there k small in
+                let ends = triangle-sides c (is .accepted) (triangle-of (move-at (v .moves) k)) (move .inside) in
+                let edges : entries (v .moves .sides) (3 * triangle-of (move-at (v .moves) k)) 3 ≡ ends .i ∷ ends .j ∷ ends .k ∷ [] = move .sides-are ∙ ends .numbers in
                 rw edges (record { small = λ e b. let t = state .within e (rw (← (state .sized)) b) in omega (arith, t, is .small); first-below = rw (state .sized) (ends .i-below); second-below = rw (state .sized) (ends .j-below); third-below = rw (state .sized) (ends .k-below) });
           })

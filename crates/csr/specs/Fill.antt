@@ -8,14 +8,15 @@ use lib.ListN.{getD, length, set, take, replicate}
 use Rattle.mathematics.specs.Writing.{put}
 use Rattle.complex.specs.Complex.{Complex}
 use Rattle.complex.specs.Judge.{Accepted}
-use Rattle.gauss_law.specs.Listing.{free-edges, states}
+use Rattle.gauss_law.specs.Listing.{free-edges, states, limit}
 use Rattle.matrices.specs.declared.coupling.KSParams.{KSParams}
 use Rattle.matrices.specs.Squares.{squares, energy}
 use Rattle.rows.specs.Row.{Sorted}
 use Rattle.rows.specs.RowLists.{rows-to, AllRowsFit, SortedWritten}
 use Rattle.hilbert.specs.Search.{row}
 use Rattle.moves.specs.Numbers.{number, number-in}
-use Rattle.moves.specs.Moves.{Moves, collected, pointed, MoveAt, Tabled, StateMoves}
+use Rattle.moves.specs.Moves.{Moves, collected, pointed, StateMoves}
+use Rattle.moves.specs.Tables.{MovesWritten}
 
 -- the moves in their tables, the states of a list with their numbers, and the electric factor
 pub record Walk : Type 0 where
@@ -27,10 +28,10 @@ pub record Walk : Type 0 where
   pub state : ℕ → List ℤ
   pub electric : Float
 
-abbrev pub walkOf : List ℕ → List ℤ → List ℕ → List ℕ → List Float → ℕ → ℕ → List ℕ → ℕ → List ℤ → ℕ → Float → Walk
-walkOf sides units lows highs terms count L words n list m electric =
+abbrev pub walkOf : List ℕ → List ℕ → List Float → ℕ → ℕ → List ℕ → ℕ → List ℤ → ℕ → Float → Walk
+walkOf sides keys terms count L words n list m electric =
     record {
-      moves = record { sides = sides; units = units; lows = lows; highs = highs; terms = terms };
+      moves = record { sides = sides; keys = keys; terms = terms };
       count = count;
       truncation = L;
       numbers = number-in words;
@@ -59,7 +60,7 @@ walk-entries v i = entries-from v (pointers-at v i) i
 -- tables and n states by which rows can be made
 pub record Walking (v : Walk) : Type 0 where
   pub few : v .states ≤ 2 ^ 20
-  pub tabled : Tabled (v .moves) (v .count)
+  pub moves-few : v .count ≤ 512
   pub each : (i : ℕ) → i < v .states → StateMoves (v .moves) (v .count) (v .truncation) (v .state i)
 
 -- row i stands in the first r entries, sorted, and the pointers are moved
@@ -96,15 +97,15 @@ pub record Writable (v : Walk) (words : List ℕ) (columns-room values-room : �
   pub unset : (i : ℕ) → i < v .states → getD words i 0 < 2 ^ 20
   pub fit : AllRowsFit (walk-entries v) (v .states) columns-room values-room
 
--- a walk over the states of a complex by the moves of its triangles, in the order of their numbers
+-- a walk over the states of a complex by the moves of its triangles, in whatever order
 pub record WalkOf (c : Complex) (L : ℕ) (p : KSParams) (w : ℕ → Float) (free : List ℕ) (v : Walk) : Type 0 where
   pub accepted : Accepted c
   pub few : length (states c L) ≤ 2 ^ 20
   pub small : L ≤ 1000
   pub listed : (j : ℕ) → j < length (free-edges c) → getD free j 0 ≡ getD (free-edges c) j 0
   pub count : v .count ≡ 2 * length (c .triangles)
-  pub tabled : Tabled (v .moves) (v .count)
-  pub moves-are : (k : ℕ) → k < v .count → MoveAt c L p w free (v .moves) k k
+  pub candidates : (2 * L + 1) ^ length (free-edges c) ≤ limit
+  pub moves-are : MovesWritten c L p w free (v .moves)
   pub truncation : v .truncation ≡ L
   pub count-states : v .states ≡ length (states c L)
   pub state-is : (i : ℕ) → i < length (states c L) → v .state i ≡ getD (states c L) i []

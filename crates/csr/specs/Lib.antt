@@ -1,4 +1,3 @@
 pub mod Csr
-pub mod Found
 pub mod Fill
 pub mod Words

@@ -14,7 +14,6 @@ use plaquettes::target::Sizes;
 use runs::count_states;
 use runs::write_states;
 use triangles::all_sides;
-ghost use mathlib.Core.Path.{_≡_};
 ghost use Prim.Native.Nat.{_+_, _*_, _^_, _<_, _≤_};
 ghost use lib.ListN.{length};
 ghost use Rattle.mathematics.specs.Calls.{Answered};
@@ -23,12 +22,14 @@ ghost use Rattle.complex.specs.Complex.{complexOf};
 ghost use Rattle.matrices.specs.Weights.{weight, Weighed};
 ghost use Rattle.rows.specs.RowLists.{RowsWritten};
 ghost use Rattle.plaquettes.specs.Targets.{BasisList};
+ghost use Rattle.triangles.specs.Indices.{AllSides};
 ghost use Rattle.entries.specs.Rows.{csr-row, csr-entries};
 ghost use Rattle.csr.specs.Csr.{csr-call};
 
 // The rows of all states go to the beginning of three lists. Another list begins with the states.
 fn write_lists(
     c: SimplicialComplex,
+    all: &[u8; 768],
     p: KSParams,
     given: bool,
     weights: &[f64],
@@ -39,26 +40,22 @@ fn write_lists(
     columns: &mut [u32],
     values: &mut [f64],
 )
-    requires { ⌜ BasisList (complexOf c) (now list) s (now free) × ((2 * s .lambda + 1) ^ s .free ≤ 1048576) × Weighed (length (complexOf c .triangles)) given (now weights) × (s .states < length (now starts)) × (csr-entries (complexOf c) (s .lambda) p (weight given (now weights)) ≤ length (now columns)) × (csr-entries (complexOf c) (s .lambda) p (weight given (now weights)) ≤ length (now values)) ⌝ }
+    requires { ⌜ BasisList (complexOf c) (now list) s (now free) × AllSides (complexOf c) (now all) × ((2 * s .lambda + 1) ^ s .free ≤ 1048576) × Weighed (length (complexOf c .triangles)) given (now weights) × (s .states < length (now starts)) × (csr-entries (complexOf c) (s .lambda) p (weight given (now weights)) ≤ length (now columns)) × (csr-entries (complexOf c) (s .lambda) p (weight given (now weights)) ≤ length (now values)) ⌝ }
     ensures { λ _. ⌜ RowsWritten (csr-row (complexOf c) (s .lambda) p (weight given (now (weights .entry)))) (s .states) (csr-entries (complexOf c) (s .lambda) p (weight given (now (weights .entry)))) (now (starts .entry)) (now (columns .entry)) (now (values .entry)) (now (starts .exit)) (now (columns .exit)) (now (values .exit)) ⌝ }
 {
-    let mut sides = [0u8; 1536];
-    let mut units = [0i32; 512];
-    let mut lows = [0usize; 512];
-    let mut highs = [0usize; 512];
+    let mut keys = [0u32; 512];
     let mut terms = [0.0f64; 512];
     write_moves(
         c,
+        all,
         p,
         given,
         weights,
         free,
         s.free,
         s.lambda,
-        &mut sides,
-        &mut units,
-        &mut lows,
-        &mut highs,
+        s.states,
+        &mut keys,
         &mut terms,
     );
     write_numbers(list, s, free, starts);
@@ -66,10 +63,8 @@ fn write_lists(
         list,
         s,
         p.electric,
-        &sides,
-        &units,
-        &lows,
-        &highs,
+        all,
+        &keys,
         &terms,
         2 * c.n_triangles,
         starts,
@@ -122,6 +117,7 @@ pub fn build_csr(
     };
     write_lists(
         c,
+        &all,
         p,
         given,
         weights,

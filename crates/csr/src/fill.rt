@@ -23,10 +23,8 @@ fn find_row(
     s: Sizes,
     i: usize,
     electric: f64,
-    sides: &[u8; 1536],
-    units: &[i32; 512],
-    lows: &[usize; 512],
-    highs: &[usize; 512],
+    all: &[u8; 768],
+    keys: &[u32; 512],
     terms: &[f64; 512],
     n_moves: usize,
     words: &[u32],
@@ -34,8 +32,8 @@ fn find_row(
     row_columns: &mut [u32],
     row_values: &mut [f64],
 ) -> usize
-    requires { ⌜ Walking (walkOf (now sides) (now units) (now lows) (now highs) (now terms) «n_moves» (s .lambda) (now words) (s .states) (now list) (s .edges) electric) × SmallRows (now list) (s .states) (s .edges) × (i < s .states) × (s .states ≤ length (now words)) × Pointers (s .states) (now pointers) × («n_moves» < length (now «row_columns»)) × (length (now «row_columns») ≡ length (now «row_values»)) × ColumnsDiffer (entries-from (walkOf (now sides) (now units) (now lows) (now highs) (now terms) «n_moves» (s .lambda) (now words) (s .states) (now list) (s .edges) electric) (now pointers) i) ⌝ }
-    ensures { λ r. ⌜ RowFound (walkOf (now (sides .entry)) (now (units .entry)) (now (lows .entry)) (now (highs .entry)) (now (terms .entry)) «n_moves» (s .lambda) (now (words .entry)) (s .states) (now (list .entry)) (s .edges) electric) i (now (pointers .entry)) r (now (pointers .exit)) (pairs (now («row_columns» .exit)) (now («row_values» .exit))) × (r ≤ «n_moves» + 1) ⌝ }
+    requires { ⌜ Walking (walkOf (now all) (now keys) (now terms) «n_moves» (s .lambda) (now words) (s .states) (now list) (s .edges) electric) × SmallRows (now list) (s .states) (s .edges) × (i < s .states) × (s .states ≤ length (now words)) × Pointers (s .states) (now pointers) × («n_moves» < length (now «row_columns»)) × (length (now «row_columns») ≡ length (now «row_values»)) × ColumnsDiffer (entries-from (walkOf (now all) (now keys) (now terms) «n_moves» (s .lambda) (now words) (s .states) (now list) (s .edges) electric) (now pointers) i) ⌝ }
+    ensures { λ r. ⌜ RowFound (walkOf (now (all .entry)) (now (keys .entry)) (now (terms .entry)) «n_moves» (s .lambda) (now (words .entry)) (s .states) (now (list .entry)) (s .edges) electric) i (now (pointers .entry)) r (now (pointers .exit)) (pairs (now («row_columns» .exit)) (now («row_values» .exit))) × (r ≤ «n_moves» + 1) ⌝ }
 {
     let m = s.edges;
     let from = i * m;
@@ -46,10 +44,8 @@ fn find_row(
         i,
         diagonal,
         s.lambda,
-        sides,
-        units,
-        lows,
-        highs,
+        all,
+        keys,
         terms,
         n_moves,
         words,
@@ -69,10 +65,8 @@ fn add_row(
     s: Sizes,
     i: usize,
     electric: f64,
-    sides: &[u8; 1536],
-    units: &[i32; 512],
-    lows: &[usize; 512],
-    highs: &[usize; 512],
+    all: &[u8; 768],
+    keys: &[u32; 512],
     terms: &[f64; 512],
     n_moves: usize,
     words: &mut [u32],
@@ -83,18 +77,16 @@ fn add_row(
     columns: &mut [u32],
     values: &mut [f64],
 ) -> usize
-    requires { ⌜ Walking (walkOf (now sides) (now units) (now lows) (now highs) (now terms) «n_moves» (s .lambda) (now words) (s .states) (now list) (s .edges) electric) × SmallRows (now list) (s .states) (s .edges) × (i < s .states) × (s .states ≤ length (now words)) × Pointers (s .states) (now pointers) × («n_moves» < length (now «row_columns»)) × (length (now «row_columns») ≡ length (now «row_values»)) × ColumnsDiffer (entries-from (walkOf (now sides) (now units) (now lows) (now highs) (now terms) «n_moves» (s .lambda) (now words) (s .states) (now list) (s .edges) electric) (now pointers) i) × (getD (now words) i 0 < 2 ^ 20) × RowFits (entries-from (walkOf (now sides) (now units) (now lows) (now highs) (now terms) «n_moves» (s .lambda) (now words) (s .states) (now list) (s .edges) electric) (now pointers) i) at (length (now columns)) (length (now values)) ⌝ }
-    ensures { λ r. ⌜ RowDone (walkOf (now (sides .entry)) (now (units .entry)) (now (lows .entry)) (now (highs .entry)) (now (terms .entry)) «n_moves» (s .lambda) (now (words .entry)) (s .states) (now (list .entry)) (s .edges) electric) i at (now (pointers .entry)) (now (words .entry)) (now (columns .entry)) (now (values .entry)) r (now (pointers .exit)) (now (words .exit)) (now (columns .exit)) (now (values .exit)) ⌝ }
+    requires { ⌜ Walking (walkOf (now all) (now keys) (now terms) «n_moves» (s .lambda) (now words) (s .states) (now list) (s .edges) electric) × SmallRows (now list) (s .states) (s .edges) × (i < s .states) × (s .states ≤ length (now words)) × Pointers (s .states) (now pointers) × («n_moves» < length (now «row_columns»)) × (length (now «row_columns») ≡ length (now «row_values»)) × ColumnsDiffer (entries-from (walkOf (now all) (now keys) (now terms) «n_moves» (s .lambda) (now words) (s .states) (now list) (s .edges) electric) (now pointers) i) × (getD (now words) i 0 < 2 ^ 20) × RowFits (entries-from (walkOf (now all) (now keys) (now terms) «n_moves» (s .lambda) (now words) (s .states) (now list) (s .edges) electric) (now pointers) i) at (length (now columns)) (length (now values)) ⌝ }
+    ensures { λ r. ⌜ RowDone (walkOf (now (all .entry)) (now (keys .entry)) (now (terms .entry)) «n_moves» (s .lambda) (now (words .entry)) (s .states) (now (list .entry)) (s .edges) electric) i at (now (pointers .entry)) (now (words .entry)) (now (columns .entry)) (now (values .entry)) r (now (pointers .exit)) (now (words .exit)) (now (columns .exit)) (now (values .exit)) ⌝ }
 {
     let count = find_row(
         list,
         s,
         i,
         electric,
-        sides,
-        units,
-        lows,
-        highs,
+        all,
+        keys,
         terms,
         n_moves,
         words,
@@ -112,18 +104,16 @@ pub fn write_rows(
     list: &[i32],
     s: Sizes,
     electric: f64,
-    sides: &[u8; 1536],
-    units: &[i32; 512],
-    lows: &[usize; 512],
-    highs: &[usize; 512],
+    all: &[u8; 768],
+    keys: &[u32; 512],
     terms: &[f64; 512],
     n_moves: usize,
     words: &mut [u32],
     columns: &mut [u32],
     values: &mut [f64],
 )
-    requires { ⌜ SmallRows (now list) (s .states) (s .edges) × Writable (walkOf (now sides) (now units) (now lows) (now highs) (now terms) «n_moves» (s .lambda) (now words) (s .states) (now list) (s .edges) electric) (now words) (length (now columns)) (length (now values)) ⌝ }
-    ensures { λ _. ⌜ ((at : ℕ) × (pointers : List ℕ) × WalkAt (walkOf (now (sides .entry)) (now (units .entry)) (now (lows .entry)) (now (highs .entry)) (now (terms .entry)) «n_moves» (s .lambda) (now (words .entry)) (s .states) (now (list .entry)) (s .edges) electric) (now (words .entry)) (now (columns .entry)) (now (values .entry)) (s .states) at pointers (now (words .exit)) (now (columns .exit)) (now (values .exit))) ⌝ }
+    requires { ⌜ SmallRows (now list) (s .states) (s .edges) × Writable (walkOf (now all) (now keys) (now terms) «n_moves» (s .lambda) (now words) (s .states) (now list) (s .edges) electric) (now words) (length (now columns)) (length (now values)) ⌝ }
+    ensures { λ _. ⌜ ((at : ℕ) × (pointers : List ℕ) × WalkAt (walkOf (now (all .entry)) (now (keys .entry)) (now (terms .entry)) «n_moves» (s .lambda) (now (words .entry)) (s .states) (now (list .entry)) (s .edges) electric) (now (words .entry)) (now (columns .entry)) (now (values .entry)) (s .states) at pointers (now (words .exit)) (now (columns .exit)) (now (values .exit))) ⌝ }
 {
     let mut pointers = [0usize; 512];
     let mut row_columns = [0u32; 513];
@@ -135,10 +125,8 @@ pub fn write_rows(
             s,
             i,
             electric,
-            sides,
-            units,
-            lows,
-            highs,
+            all,
+            keys,
             terms,
             n_moves,
             words,

@@ -1,8 +1,8 @@
 -- The entries of a row as the code collects them, move by move.
-use Prim.Native.Nat.{ℕ, zero, suc, _+_, _*_, _-_, _<_, _≤_, min}
-use mathlib.Core.List.{List, [], _∷_, _++_, append-nil}
+use Prim.Native.Nat.{ℕ, zero, suc, _+_, _-_, _<_, _≤_, min}
+use mathlib.Core.List.{List, append-nil}
 use mathlib.Core.Bool.{Bool, true, false, cond}
-use mathlib.Core.Path.{_≡_, refl, sym, ap, _∙_}
+use mathlib.Core.Path.{_≡_, refl, sym, _∙_}
 use native.Mathlib.Numerals.{add-one}
 use native.Mathlib.Omega.{arith}
 use native.Mathlib.Decide.{ℕ-discrete}
@@ -12,10 +12,11 @@ use lib.IntN.{ℤ}
 use lib.Ieee.{Float, nan}
 use lib.ListN.{getD, length, set, take, length-set, List·getD-eq-default}
 use lib.Seq.{getD-set-same, getD-set-other}
+use Rattle.gauss_law.specs.Listing.{limit}
 use Rattle.rows.specs.Row.{kept}
 use Rattle.rows.specs.RowLists.{EntryPushed}
 use Rattle.moves.specs.Numbers.{sought}
-use Rattle.moves.specs.Moves.{Moves, goes, arrives, collected, pointed, Pointers, MovePushed}
+use Rattle.moves.specs.Moves.{Moves, change-in, goes, arrives, collected, pointed, Pointers, MovePushed}
 
 pub pointers-same : {n : ℕ} {p q : List ℕ} → p ≡ q → Pointers n q → Pointers n p
 pointers-same e h = rw e h
@@ -87,7 +88,7 @@ module _ (v : Moves) (L : ℕ) (numbers : ℕ → ℕ) (n : ℕ) (s : List ℤ) 
       go p false = p
 
   pub arrives-kept : (k : ℕ) (now : List ℕ) → now ≡ pointed v L numbers n s a pointers k
-      → sought numbers (getD (v .lows) k 0) (a + getD (v .highs) k 0) (getD now k 0) (n - getD now k 0) ≡ arrives v numbers n a pointers k
+      → sought numbers limit (a + change-in (getD (v .keys) k 0)) (getD now k 0) (n - getD now k 0) ≡ arrives v numbers n a pointers k
   unfolding arrives
   arrives-kept k now e = rw (e, pointed-kept k k (omega arith))
 
@@ -100,7 +101,7 @@ module _ (v : Moves) (L : ℕ) (numbers : ℕ → ℕ) (n : ℕ) (s : List ℤ) 
     -- then a move more
     module _ (k m : ℕ) (now : List ℕ) (old : List (ℕ × Float)) (r : ℕ) (after : List ℕ) (new : List (ℕ × Float)) (taken : Bool) (is : taken ≡ goes v L s k)
         (pointers-are : now ≡ pointed v L numbers n s a pointers k)
-        (pushed : MovePushed taken (sought numbers (getD (v .lows) k 0) (a + getD (v .highs) k 0) (getD now k 0) (n - getD now k 0)) (getD (v .terms) k nan) n k m now old r after new) where
+        (pushed : MovePushed taken (sought numbers limit (a + change-in (getD (v .keys) k 0)) (getD now k 0) (n - getD now k 0)) (getD (v .terms) k nan) n k m now old r after new) where
       pub move-collected : take m old ≡ collected v L numbers n s a pointers i x k → take r new ≡ collected v L numbers n s a pointers i x (k + 1)
       unfolding collected
       move-collected so-far = rw (add-one k) (pushed .entries ∙ rw (so-far, is, arrives-kept k now pointers-are))

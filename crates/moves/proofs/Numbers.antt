@@ -4,7 +4,7 @@ use mathlib.Core.List.{List, []}
 use mathlib.Core.Bool.{Bool, true, false, cond, false≢true}
 use mathlib.Core.Path.{_≡_, refl, sym, ap, _∙_}
 use native.Mathlib.Omega.{arith}
-use native.Mathlib.Nat.{mul-le-mul-left, pow-zero, pow-suc, mul-le-mul, mul-le-mul-right}
+use native.Mathlib.Nat.{mul-le-mul-left, pow-zero, pow-suc, mul-le-mul-right}
 use lib.Dec.{eqb}
 use lib.IntN.{ℤ, pos, negsuc, natAbs, negℤ, _+ℤ_, +ℤ-idl}
 use lib.Signed.{ltZ}
@@ -52,6 +52,10 @@ module _ (base : ℕ) (x : ℕ → ℕ) where
       let last : x n * base ^ n ≤ 2 * base ^ n = mul-le-mul-right (base ^ n) (h n (omega arith)) in
       let grows : 2 * suc n * base ^ n * 1 ≤ 2 * suc n * base ^ n * base = mul-le-mul-left (2 * suc n * base ^ n) some in
       rw (numeral-more n, pow-suc base n) (omega (arith, numeral-few n some (λ j k. h j (omega arith))))
+
+ones : (n : ℕ) → 1 ^ n ≡ 1
+ones zero = pow-zero 1
+ones (suc n) = pow-suc 1 n ∙ omega (arith, ones n)
 
 -- numbers add as their digits do
 numeral-sum : (base : ℕ) (x y x′ y′ : ℕ → ℕ) (n : ℕ) → ((j : ℕ) → j < n → x j + y j ≡ x′ j + y′ j)
@@ -147,13 +151,21 @@ module _ (c : Complex) (accepted : Accepted c) (L : ℕ) (free : List ℕ) (list
   number-few few i h = omega (arith, number-below L free F (getD (states c L) i []) (state-small i h))
 
   -- a number whose digits are at most 2
-  small-few : (x : ℕ → ℕ) → ((j : ℕ) → x j ≤ 2) → (2 * L + 1) ^ F ≤ limit → numeral (2 * L + 1) x F 0 ≤ 126 * limit
-  small-few x h few =
-      let short : 2 * F ≤ 126 = omega (arith, free-count c accepted, accepted .few-edges, accepted .some-vertex) in
-      omega (arith, numeral-few (2 * L + 1) x F (omega arith) (λ j k. h j), mul-le-mul short few)
+  small-few : (x : ℕ → ℕ) → ((j : ℕ) → x j ≤ 2) → (2 * L + 1) ^ F ≤ limit → numeral (2 * L + 1) x F 0 ≤ limit
+  small-few x h few = go L few
+    where
+      short : 2 * F ≤ 126
+      short = omega (arith, free-count c accepted, accepted .few-edges, accepted .some-vertex)
+
+      go : (L : ℕ) → (2 * L + 1) ^ F ≤ limit → numeral (2 * L + 1) x F 0 ≤ limit
+      go zero few =
+          let one = ones F in
+          let most : 2 * F * 1 ^ F ≡ 2 * F = rw one (omega arith) in
+          omega (arith, short, most, numeral-few 1 x F (omega arith) (λ j k. h j))
+      go (suc L) few = omega (arith, few, numeral-below (2 * suc L + 1) x F (λ j k. omega (arith, h j)))
 
   module _ (z : List ℤ) (sized : length z ≡ length (c .edges)) (zeros : (e : ℕ) → getD z e (pos 0) ≡ pos 0) where
-    pub rest-few : (2 * L + 1) ^ F ≤ limit → number L 1 free F z ≤ 126 * limit
+    pub rest-few : (2 * L + 1) ^ F ≤ limit → number L 1 free F z ≤ limit
     unfolding number digit
     rest-few = small-few (digit 1 free z) (λ j. rw (zeros (getD free j 0)) (omega arith))
 
@@ -197,6 +209,6 @@ module _ (c : Complex) (accepted : Accepted c) (L : ℕ) (free : List ℕ) (list
           let back : target c L t (pos 1) j ≡ i = target-back c accepted L t triangle (negsuc 0) i j h below refl in
           sym (rw back at (forward-number j below (target-stays c L t (pos 1) j (rw back h))))
 
-    pub change-few : (2 * L + 1) ^ F ≤ limit → (t : ℕ) → t < length (c .triangles) → number L 1 free F (triangle-move c t (pos 1) z) ≤ 126 * limit
+    pub change-few : (2 * L + 1) ^ F ≤ limit → (t : ℕ) → t < length (c .triangles) → number L 1 free F (triangle-move c t (pos 1) z) ≤ limit
     unfolding number
     change-few few t triangle = small-few (digit 1 free (triangle-move c t (pos 1) z)) (change-small t triangle) few

@@ -1,15 +1,15 @@
 -- The moves of all triangles in tables, and what they make of a row.
-use Prim.Native.Nat.{ℕ, zero, suc, _+_, _*_, _-_, _/_, _%_, _^_, _<_, _≤_, min}
+use Prim.Native.Nat.{ℕ, zero, suc, _+_, _*_, _-_, _/_, _%_, _<_, _≤_, min}
 use mathlib.Core.List.{List, [], _∷_, _++_}
 use mathlib.Core.Bool.{Bool, cond}
 use mathlib.Core.Path.{_≡_}
-use lib.Dec.{eqb}
-use lib.IntN.{ℤ, pos, negsuc, natAbs}
+use lib.Dec.{ltb}
+use lib.IntN.{ℤ, pos, negsuc}
 use lib.Ieee.{Float, nan}
 use lib.ListN.{getD, length, set, take, replicate}
 use Rattle.complex.specs.Complex.{Complex, entries}
 use Rattle.complex.specs.Sides.{sides}
-use Rattle.gauss_law.specs.Listing.{free-edges, states}
+use Rattle.gauss_law.specs.Listing.{free-edges, states, limit}
 use Rattle.gauss_law.specs.Shifts.{triangle-move}
 use Rattle.matrices.specs.declared.coupling.KSParams.{KSParams}
 use Rattle.matrices.specs.Terms.{row-plaquette-term}
@@ -18,21 +18,38 @@ use Rattle.plaquettes.specs.Pairs.{stays, Movable}
 use Rattle.plaquettes.specs.Triangle.{moved-state, sides-within, target}
 use Rattle.moves.specs.Numbers.{sought, number}
 
--- of each move the three edges of its triangle, its unit, 1 or -1, what is added to both numbers that are compared, and its value
+-- the three edges of each triangle; of each move a key, and the value that it gives an entry
 pub record Moves : Type 0 where
   pub sides : List ℕ
-  pub units : List ℤ
-  pub lows : List ℕ
-  pub highs : List ℕ
+  pub keys : List ℕ
   pub terms : List Float
 
--- move k keeps the three values of a state within -L to L
-unfoldable pub goes : Moves → ℕ → List ℤ → ℕ → Bool
-goes v L s k = stays L s (entries (v .sides) (3 * k) 3) (getD (v .units) k (pos 0))
+-- A move has a number: that of its triangle for the move by -1, and 256 more for the move by 1.
+unfoldable pub triangle-of : ℕ → ℕ
+triangle-of q = q % 256
 
--- The n states have numbers that rise. Where move k takes the state with number a: sought from the pointer of the move on.
+unfoldable pub unit-of : ℕ → ℤ
+unit-of q = cond (ltb q 256) (negsuc 0) (pos 1)
+
+-- Its key has this number in the lowest nine bits. Above them stands what the move adds to the number of a state, raised by the limit. So the
+-- keys rise with what the moves add, and no two moves have one key.
+unfoldable pub move-in : ℕ → ℕ
+move-in key = key % 512
+
+unfoldable pub change-in : ℕ → ℕ
+change-in key = key / 512
+
+-- the number of the move at place k
+abbrev pub move-at : Moves → ℕ → ℕ
+move-at v k = move-in (getD (v .keys) k 0)
+
+-- the move at place k keeps the three values of a state within -L to L
+unfoldable pub goes : Moves → ℕ → List ℤ → ℕ → Bool
+goes v L s k = stays L s (entries (v .sides) (3 * triangle-of (move-at v k)) 3) (unit-of (move-at v k))
+
+-- The n states have numbers that rise. Where the move at place k takes the state with number a: sought from the pointer of the move on.
 unfoldable pub arrives : Moves → (ℕ → ℕ) → ℕ → ℕ → List ℕ → ℕ → ℕ
-arrives v numbers n a pointers k = sought numbers (getD (v .lows) k 0) (a + getD (v .highs) k 0) (getD pointers k 0) (n - getD pointers k 0)
+arrives v numbers n a pointers k = sought numbers limit (a + change-in (getD (v .keys) k 0)) (getD pointers k 0) (n - getD pointers k 0)
 
 -- the entries of row i: x where it is kept, then for each of the moves that stay the place it leads to and its value
 unfoldable pub collected : Moves → ℕ → (ℕ → ℕ) → ℕ → List ℤ → ℕ → List ℕ → ℕ → Float → ℕ → List (ℕ × Float)
@@ -47,10 +64,6 @@ pointed v L numbers n s a pointers (suc k) =
     cond (goes v L s k) (set (pointed v L numbers n s a pointers k) k (min (arrives v numbers n a pointers k + 1) n)) (pointed v L numbers n s a pointers k)
 
 -- ---- the moves of a complex
--- The moves have numbers: 2t that of triangle t by 1, 2t + 1 that by -1.
-unfoldable pub unit-of : ℕ → ℤ
-unit-of q = cond (eqb (q % 2) 0) (pos 1) (negsuc 0)
-
 -- no value on any of m edges
 unfoldable pub zeros : ℕ → List ℤ
 zeros m = replicate m (pos 0)
@@ -62,13 +75,20 @@ rest-number c L free = number L 1 free (length (free-edges c)) (zeros (length (c
 unfoldable pub shift-number : Complex → ℕ → List ℕ → ℕ → ℕ
 shift-number c L free t = number L 1 free (length (free-edges c)) (triangle-move c t (pos 1) (zeros (length (c .edges))))
 
--- entry k of the tables is move q: the numbers of a state and of its target differ as those of no shift and of the shift
-pub record MoveAt (c : Complex) (L : ℕ) (p : KSParams) (w : ℕ → Float) (free : List ℕ) (v : Moves) (k q : ℕ) : Type 0 where
-  pub sides-are : entries (v .sides) (3 * k) 3 ≡ sides c (q / 2)
-  pub unit-is : getD (v .units) k (pos 0) ≡ unit-of q
-  pub low-is : getD (v .lows) k 0 ≡ cond (eqb (q % 2) 0) (rest-number c L free) (shift-number c L free (q / 2))
-  pub high-is : getD (v .highs) k 0 ≡ cond (eqb (q % 2) 0) (shift-number c L free (q / 2)) (rest-number c L free)
-  pub term-is : getD (v .terms) k nan ≡ row-plaquette-term p (w (q / 2))
+-- what move q adds to the number of a state, raised by the limit: the shift of its triangle less no shift, or no shift less the shift
+unfoldable pub change-of : Complex → ℕ → List ℕ → ℕ → ℕ
+change-of c L free q =
+    cond (ltb q 256) (limit + rest-number c L free - shift-number c L free (triangle-of q)) (limit + shift-number c L free (triangle-of q) - rest-number c L free)
+
+unfoldable pub key-of : Complex → ℕ → List ℕ → ℕ → ℕ
+key-of c L free q = 512 * change-of c L free q + q
+
+-- what stands at place k is a move of the complex
+pub record MoveAt (c : Complex) (L : ℕ) (p : KSParams) (w : ℕ → Float) (free : List ℕ) (v : Moves) (k : ℕ) : Type 0 where
+  pub inside : triangle-of (move-at v k) < length (c .triangles)
+  pub sides-are : entries (v .sides) (3 * triangle-of (move-at v k)) 3 ≡ sides c (triangle-of (move-at v k))
+  pub change-is : change-in (getD (v .keys) k 0) ≡ change-of c L free (move-at v k)
+  pub term-is : getD (v .terms) k nan ≡ row-plaquette-term p (w (triangle-of (move-at v k)))
 
 -- the target of one move with its value, and nothing where an edge leaves -L to L
 unfoldable pub moved-entry : Complex → ℕ → ℕ → ℤ → Float → ℕ → List (ℕ × Float)
@@ -76,27 +96,19 @@ moved-entry c L t u x i = cond (sides-within c L t (moved-state c L t u i)) ((ta
 
 -- that of move q
 unfoldable pub entry-of : Complex → ℕ → KSParams → (ℕ → Float) → ℕ → ℕ → List (ℕ × Float)
-entry-of c L p w i q = moved-entry c L (q / 2) (unit-of q) (row-plaquette-term p (w (q / 2))) i
+entry-of c L p w i q = moved-entry c L (triangle-of q) (unit-of q) (row-plaquette-term p (w (triangle-of q))) i
 
 -- no target of state i or of a later one is before the pointer of its move
-abbrev pub Behind : Complex → ℕ → (ℕ → ℕ) → ℕ → List ℕ → ℕ → Type 0
-Behind c L order moves pointers i =
-    (k : ℕ) → k < moves → (j : ℕ) → i ≤ j → j < length (states c L) → getD pointers k 0 ≤ target c L (order k / 2) (unit-of (order k)) j
+abbrev pub Behind : Complex → ℕ → Moves → ℕ → List ℕ → ℕ → Type 0
+Behind c L v moves pointers i =
+    (k : ℕ) → k < moves → (j : ℕ) → i ≤ j → j < length (states c L) → getD pointers k 0 ≤ target c L (triangle-of (move-at v k)) (unit-of (move-at v k)) j
 
 -- ---- what the code asks
--- what is asked of tables of t moves
-pub record Tabled (v : Moves) (t : ℕ) : Type 0 where
-  pub few : t ≤ 512
-  pub sides-long : length (v .sides) ≡ 1536
-  pub units-small : (k : ℕ) → k < t → natAbs (getD (v .units) k (pos 0)) ≤ 1
-  pub lows-small : (k : ℕ) → k < t → getD (v .lows) k 0 ≤ 2 ^ 30
-  pub highs-small : (k : ℕ) → k < t → getD (v .highs) k 0 ≤ 2 ^ 30
-
 -- a state whose three values each move can change
 pub record StateMoves (v : Moves) (t L : ℕ) (s : List ℤ) : Type 0 where
   pub truncation : L ≤ 1000
   pub edges-few : length s ≤ 63
-  pub movable : (k : ℕ) → k < t → Movable s (entries (v .sides) (3 * k) 3)
+  pub movable : (k : ℕ) → k < t → Movable s (entries (v .sides) (3 * triangle-of (move-at v k)) 3)
 
 -- a pointer for each move, none of them past n places
 pub record Pointers (n : ℕ) (pointers : List ℕ) : Type 0 where

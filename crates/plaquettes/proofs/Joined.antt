@@ -45,7 +45,7 @@ pub step-moves : {u : ℤ} → OneStep u → u ≢ pos 0
 step-moves (inl e) z = one-moves (sym e ∙ z)
 step-moves (inr e) z = back-moves (sym e ∙ z)
 
-apart : pos 1 ≢ negsuc 0
+pub apart : pos 1 ≢ negsuc 0
 unfolding positive negative
 apart e = omega (arith, to-parts (pos 1) (negsuc 0) e)
 

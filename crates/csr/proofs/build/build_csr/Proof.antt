@@ -1,4 +1,4 @@
-use Prim.Native.Nat.{ℕ, _+_, _*_, _^_, _<_, _≤_}
+use Prim.Native.Nat.{ℕ, _+_, _*_, _≤_}
 use mathlib.Core.Bool.{_||_}
 use mathlib.Core.Path.{_≡_, refl, sym, ap, _∙_}
 use native.Mathlib.Omega.{arith}
@@ -153,12 +153,13 @@ number c = c .write-states .ensures .count ∙ sym (c .before .before .before .b
 
 write-lists-requires : tie.Need-write-lists-requires
 write-lists-requires c κs =
-    let listed = c .before .before .before .before .before .before in
+    let listed = c .before .before .before .before .before .before .before in
     let enough = listed .before .before .before in
     let seen = enough .before .before in
     let passed = judged seen in
     let space = room enough in (
       basis-listed _ _ _ _ (basis passed) _ _ _ (listed .write-states .ensures) _ refl,
+      seen .before .before .all-sides .ensures,
       rw (basis passed .walks .count) (can passed .candidates),
       weights-fit _ _ _ _ (right passed),
       omega (arith, number listed, space .1),
@@ -181,7 +182,7 @@ same-length-4 c = search needs
 returns-4 : tie.Need-returns-4
 unfolding csr-call numberAnswer
 returns-4 c =
-    let listed = c .before .before .before .before .before .before .before .before .before .before .before .before .before in
+    let listed = c .before .before .before .before .before .before .before .before .before .before .before .before .before .before in
     let enough = listed .before .before .before in
     let seen = enough .before .before in
     let passed = judged seen in

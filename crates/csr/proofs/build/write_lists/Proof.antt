@@ -1,5 +1,5 @@
-use Prim.Native.Nat.{ℕ, _+_, _*_, _^_, _<_, _≤_}
-use mathlib.Core.Path.{_≡_, refl, sym, ap, _∙_}
+use Prim.Native.Nat.{_*_, _^_, _<_}
+use mathlib.Core.Path.{_≡_, refl, sym, ap}
 use native.Mathlib.Omega.{arith}
 use lib.ListN.{length}
 use Rattle.complex.specs.Complex.{Complex, complexOf}
@@ -20,7 +20,7 @@ abbrev Numbers : Type 0
 Numbers = tie.After-write-numbers
 
 abbrev start : Numbers → tie.Start
-start c = c .before .before .before .before .before .before .before .before .before .before .before .before .before .before .before .before .before
+start c = c .before .before .before .before .before .before .before .before .before .before .before
 
 abbrev the-complex : Numbers → Complex
 the-complex c = complexOf (start c .args .c)
@@ -38,12 +38,12 @@ few c = entries-small (the-complex c) (basis c .accepted) (start c .args .s .lam
 abbrev walk : Numbers → Walk
 walk c =
     let a = start c .args in
-    let moves = c .before .before .before .before .before .before .before .write-moves .last in
-    walkOf (moves .1 .1 .1 .1 .1 .1 .1 .0) (moves .1 .1 .1 .1 .1 .1 .1 .1 .0) (moves .1 .1 .1 .1 .1 .1 .1 .1 .1 .0) (moves .1 .1 .1 .1 .1 .1 .1 .1 .1 .1 .0) (moves .1 .1 .1 .1 .1 .1 .1 .1 .1 .1 .1 .0) (2 * a .c .«n_triangles») (a .s .lambda) (c .write-numbers .last .1 .1 .1 .0) (a .s .states) (a .list .now) (a .s .edges) (a .p .electric)
+    let moves = c .before .before .before .before .write-moves .last in
+    walkOf (a .all .now) (moves .1 .1 .1 .1 .1 .1 .1 .1 .1 .0) (moves .1 .1 .1 .1 .1 .1 .1 .1 .1 .1 .0) (2 * a .c .«n_triangles») (a .s .lambda) (c .write-numbers .last .1 .1 .1 .0) (a .s .states) (a .list .now) (a .s .edges) (a .p .electric)
 
 is : (c : Numbers) → WalkOf (the-complex c) (start c .args .s .lambda) (start c .args .p) (weight (start c .args .given) (start c .args .weights .now)) (start c .args .free .now) (walk c)
 is c =
-    walk-made (the-complex c) (start c .args .list .now) (start c .args .s) (start c .args .free .now) (basis c) (start c .pre .1) (start c .args .p) (weight (start c .args .given) (start c .args .weights .now)) (start c .args .starts .now) (c .write-numbers .last .1 .1 .1 .0) (c .write-numbers .ensures) _ _ _ _ _ _ (triangles c) (c .before .before .before .before .before .before .before .write-moves .ensures)
+    walk-made (the-complex c) (start c .args .list .now) (start c .args .s) (start c .args .free .now) (basis c) (start c .pre .2) (start c .args .p) (weight (start c .args .given) (start c .args .weights .now)) (start c .args .starts .now) (c .write-numbers .last .1 .1 .1 .0) (c .write-numbers .ensures) _ _ _ _ (triangles c) (c .before .before .before .before .write-moves .ensures)
 
 slice-aggregate-write-moves : tie.Need-slice-aggregate-write-moves
 slice-aggregate-write-moves c = search needs
@@ -51,50 +51,43 @@ slice-aggregate-write-moves c = search needs
 slice-aggregate-write-moves-2 : tie.Need-slice-aggregate-write-moves-2
 slice-aggregate-write-moves-2 c = search needs
 
-slice-aggregate-write-moves-3 : tie.Need-slice-aggregate-write-moves-3
-slice-aggregate-write-moves-3 c = search needs
-
-slice-aggregate-write-moves-4 : tie.Need-slice-aggregate-write-moves-4
-slice-aggregate-write-moves-4 c = search needs
-
-slice-aggregate-write-moves-5 : tie.Need-slice-aggregate-write-moves-5
-slice-aggregate-write-moves-5 c = search needs
-
 write-moves-requires : tie.Need-write-moves-requires
 write-moves-requires c κs =
-    let s = c .before .before .before .before .before .before .before .before .before in
+    let s = c .before .before .before .before .before .before in
     let b = s .pre .0 in (
-      record { accepted = b .accepted; truncation = b .truncation; weighed = s .pre .2; free-count = b .free-count; free-fit = rw (← (b .edges)) (b .free-fit); free-listed = b .free-listed; few = s .pre .1 },
-      record { sides-long = refl; units-long = refl; lows-long = refl; highs-long = refl; terms-long = refl },
+      record { accepted = b .accepted; truncation = b .truncation; weighed = s .pre .3; free-count = b .free-count; free-fit = rw (← (b .edges)) (b .free-fit); free-listed = b .free-listed; few = s .pre .2 },
+      s .pre .1,
+      refl,
+      refl,
     )
 
 write-numbers-requires : tie.Need-write-numbers-requires
 write-numbers-requires c κs =
-    let s = c .before .before .before .before .before .before .before .before .before .before .before .before .before .before .before .before in
-    (small-rows _ _ _ _ (s .pre .0), numbered _ _ _ _ (s .pre .0) (s .pre .1), omega (arith, s .pre .3))
+    let s = c .before .before .before .before .before .before .before .before .before .before in
+    (small-rows _ _ _ _ (s .pre .0), numbered _ _ _ _ (s .pre .0) (s .pre .2), omega (arith, s .pre .4))
 
 mul-write-rows : tie.Need-mul-write-rows
 mul-write-rows c =
-    let made = c .before .before .before .before .before .before .before .before in
+    let made = c .before .before .before .before .before in
     let h = basis made .accepted .few-triangles in
     let e = triangles made in
     search needs
 
 write-rows-requires : tie.Need-write-rows-requires
 write-rows-requires c κs =
-    let made = c .before .before .before .before .before .before .before .before .before .before .before in
+    let made = c .before .before .before .before .before .before .before .before in
     let s = start made in (
       small-rows _ _ _ _ (basis made),
-      writable (is made) _ _ _ (omega (arith, basis made .count, made .write-numbers .ensures .long, s .pre .3))
-          (word-small _ _ _ _ (basis made) (s .pre .1) (s .args .p) (weight (s .args .given) (s .args .weights .now)) _ _ (made .write-numbers .ensures)) (s .pre .4) (s .pre .5) (few made),
+      writable (is made) _ _ _ (omega (arith, basis made .count, made .write-numbers .ensures .long, s .pre .4))
+          (word-small _ _ _ _ (basis made) (s .pre .2) (s .args .p) (weight (s .args .given) (s .args .weights .now)) _ _ (made .write-numbers .ensures)) (s .pre .5) (s .pre .6) (few made),
     )
 
 write-starts-requires : tie.Need-write-starts-requires
 write-starts-requires c κs =
-    let made = c .before .before .before .before .before .before .before .before .before .before .before .before .before .before .before .before .before .before .before in
+    let made = c .before .before .before .before .before .before .before .before .before .before .before .before .before .before .before .before in
     let s = start made in
     let walked = c .before .before .before .before .before .before .before .write-rows .ensures .2 in
-    (omega (arith, walked .long, made .write-numbers .ensures .long, s .pre .3), starts-fit (is made) (s .args .s .states) (basis made .count) _ _ _ _ _ _ _ _ walked (few made))
+    (omega (arith, walked .long, made .write-numbers .ensures .long, s .pre .4), starts-fit (is made) (s .args .s .states) (basis made .count) _ _ _ _ _ _ _ _ walked (few made))
 
 same-length : tie.Need-same-length
 same-length c = search needs
@@ -107,9 +100,9 @@ same-length-3 c = search needs
 
 returns : tie.Need-returns
 returns c =
-    let made = c .before .before .before .before .before .before .before .before .before .before .before .before .before .before .before .before .before .before .before .before .before .before in
+    let made = c .before .before .before .before .before .before .before .before .before .before .before .before .before .before .before .before .before .before .before in
     let s = start made in
-    lists-written (is made) (s .args .s .states) (basis made .count) _ _ _ _ _ _ _ _ _ _ _ (s .pre .3) (made .write-numbers .ensures) (c .before .before .before .before .before .before .before .before .before .before .write-rows .ensures .2) (c .before .before .write-starts .ensures)
+    lists-written (is made) (s .args .s .states) (basis made .count) _ _ _ _ _ _ _ _ _ _ _ (s .pre .4) (made .write-numbers .ensures) (c .before .before .before .before .before .before .before .before .before .before .write-rows .ensures .2) (c .before .before .write-starts .ensures)
 
 pub write-lists-spec : {M : Type 1} → statement M
 write-lists-spec =
@@ -117,9 +110,6 @@ write-lists-spec =
     (tie.spec
     slice-aggregate-write-moves
     slice-aggregate-write-moves-2
-    slice-aggregate-write-moves-3
-    slice-aggregate-write-moves-4
-    slice-aggregate-write-moves-5
     write-moves-requires
     write-numbers-requires
     mul-write-rows

@@ -1,5 +1,5 @@
 use Prim.Native.Nat.{_+_, _^_, _<_, _≤_}
-use mathlib.Core.Path.{_≡_, refl, sym, _∙_}
+use mathlib.Core.Path.{_≡_, sym, _∙_}
 use native.Mathlib.Omega.{arith}
 use lib.ListN.{length}
 use Rattle.rows.proofs.Pairs.{pairs-length}
@@ -11,13 +11,13 @@ use Rattle.csr.proofs.fill.add_row.Tie as tie
 abbrev start : tie.After-find-row → tie.Start
 start c = c .before .before .before .before .before .before .before .before .before .before .before
 
-columns-long : (c : tie.After-find-row) → length (c .find-row .last .1 .1 .1 .1 .1 .1 .1 .1 .1 .1 .1 .1 .0) ≡ length (start c .args .row-columns .now)
-columns-long c = c .find-row .kept .1 .1 .1 .1 .1 .1 .1 .1 .1 .1 .1 .1 .0
+columns-long : (c : tie.After-find-row) → length (c .find-row .last .1 .1 .1 .1 .1 .1 .1 .1 .1 .1 .0) ≡ length (start c .args .row-columns .now)
+columns-long c = c .find-row .kept .1 .1 .1 .1 .1 .1 .1 .1 .1 .1 .0
 
-same : (c : tie.After-find-row) → length (c .find-row .last .1 .1 .1 .1 .1 .1 .1 .1 .1 .1 .1 .1 .0) ≡ length (c .find-row .last .1 .1 .1 .1 .1 .1 .1 .1 .1 .1 .1 .1 .1 .0)
-same c = columns-long c ∙ start c .pre .6 ∙ sym (c .find-row .kept .1 .1 .1 .1 .1 .1 .1 .1 .1 .1 .1 .1 .1 .0)
+same : (c : tie.After-find-row) → length (c .find-row .last .1 .1 .1 .1 .1 .1 .1 .1 .1 .1 .0) ≡ length (c .find-row .last .1 .1 .1 .1 .1 .1 .1 .1 .1 .1 .1 .0)
+same c = columns-long c ∙ start c .pre .6 ∙ sym (c .find-row .kept .1 .1 .1 .1 .1 .1 .1 .1 .1 .1 .1 .0)
 
-inside : (c : tie.After-find-row) → c .find-row .result ≤ length (c .find-row .last .1 .1 .1 .1 .1 .1 .1 .1 .1 .1 .1 .1 .0)
+inside : (c : tie.After-find-row) → c .find-row .result ≤ length (c .find-row .last .1 .1 .1 .1 .1 .1 .1 .1 .1 .1 .0)
 inside c = omega (arith, c .find-row .ensures .1, columns-long c, start c .pre .5)
 
 fits : (c : tie.After-find-row) → (start c .args .at + c .find-row .result ≤ length (start c .args .columns .now)) × (start c .args .at + c .find-row .result ≤ length (start c .args .values .now)) × (start c .args .at + c .find-row .result < 2 ^ 32)
@@ -35,7 +35,7 @@ set-length-requires : tie.Need-set-length-requires
 set-length-requires c κs =
     let found = c .before .before .before .before .before .before .before .before .before .before .before .before .before .before .before .before in
     let pre = start found .pre in
-    (omega (arith, pre .2, pre .3), pre .8, omega (arith, found .find-row .ensures .1, pre .0 .tabled .few))
+    (omega (arith, pre .2, pre .3), pre .8, omega (arith, found .find-row .ensures .1, pre .0 .moves-few))
 
 add-result : tie.Need-add-result
 add-result c = let h = fits (c .before .before .before .before .before .before .before .before .before .before .before .before .before .before .before .before .before .before .before) in search needs

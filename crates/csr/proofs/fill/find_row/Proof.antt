@@ -53,7 +53,7 @@ collect-row-requires : tie.Need-collect-row-requires
 collect-row-requires c κs =
     let s = c .before .before .before .before .before .before .before .before .before .before .before in
     let walking = s .pre .0 in
-    (walking .tabled, rw (row-part (s .args .list .now) (s .args .s .edges) (s .args .i)) (walking .each (s .args .i) (s .pre .2)), s .pre .4, walking .few, s .pre .3, omega (arith, s .pre .2, walking .few), c .before .before .before .before .lower .ensures .1, s .pre .5, s .pre .6)
+    (walking .moves-few, rw (row-part (s .args .list .now) (s .args .s .edges) (s .args .i)) (walking .each (s .args .i) (s .pre .2)), s .pre .4, walking .few, s .pre .3, omega (arith, s .pre .2, walking .few), c .before .before .before .before .lower .ensures .1, s .pre .5, s .pre .6)
 
 abbrev start : tie.After-collect-row → tie.Start
 start c = c .before .before .before .before .before .before .before .before .before .before .before .before

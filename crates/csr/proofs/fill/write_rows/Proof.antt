@@ -1,9 +1,6 @@
-use Prim.Native.Nat.{ℕ, _+_, _-_, _<_, _≤_}
-use mathlib.Core.List.{List}
+use Prim.Native.Nat.{_-_, _<_, _≤_}
 use mathlib.Core.Path.{_≡_, refl, sym, _∙_}
 use native.Mathlib.Omega.{arith}
-use lib.Ieee.{Float}
-use lib.IntN.{ℤ}
 use lib.ListN.{length}
 use Rattle.moves.specs.Moves.{Pointers}
 use Rattle.moves.proofs.Collecting.{pointers-same}
@@ -14,12 +11,12 @@ use Rattle.csr.proofs.fill.write_rows.Statement.{statement}
 use Rattle.csr.proofs.fill.write_rows.Tie as tie
 
 abbrev Inv-loop : tie.InvT-loop
-Inv-loop list s electric sides units lows highs terms n-moves words₀ columns₀ values₀ pointers₀ row-columns₀ row-values₀ at₀ i₀ i-end words columns values pointers row-columns row-values at i =
+Inv-loop list s electric all keys terms n-moves words₀ columns₀ values₀ pointers₀ row-columns₀ row-values₀ at₀ i₀ i-end words columns values pointers row-columns row-values at i =
     (i ≤ s .states) × (length columns ≡ length columns₀) × (length values ≡ length values₀) × (length row-columns ≡ 513) × (length row-values ≡ 513)
-    × WalkAt (walkOf sides units lows highs terms n-moves (s .lambda) words₀ (s .states) list (s .edges) electric) words₀ columns₀ values₀ i at pointers words columns values
+    × WalkAt (walkOf all keys terms n-moves (s .lambda) words₀ (s .states) list (s .edges) electric) words₀ columns₀ values₀ i at pointers words columns values
 
 abbrev μ-loop : tie.MeasureT-loop
-μ-loop list s electric sides units lows highs terms n-moves words₀ columns₀ values₀ pointers₀ row-columns₀ row-values₀ at₀ i₀ i-end words columns values pointers row-columns row-values at i = s .states - i
+μ-loop list s electric all keys terms n-moves words₀ columns₀ values₀ pointers₀ row-columns₀ row-values₀ at₀ i₀ i-end words columns values pointers row-columns row-values at i = s .states - i
 
 abbrev Loop : Type 0
 Loop = tie.At-loop Inv-loop μ-loop
@@ -30,17 +27,17 @@ start c = c .before .before .before .before
 abbrev walk : Loop → Walk
 walk c =
     let a = start c .args in
-    walkOf (a .sides .now) (a .units .now) (a .lows .now) (a .highs .now) (a .terms .now) (a .n-moves) (a .s .lambda) (a .words .now) (a .s .states) (a .list .now) (a .s .edges) (a .electric)
+    walkOf (a .all .now) (a .keys .now) (a .terms .now) (a .n-moves) (a .s .lambda) (a .words .now) (a .s .states) (a .list .now) (a .s .edges) (a .electric)
 
 abbrev walk-now : Loop → Walk
 walk-now c =
     let a = start c .args in
-    walkOf (a .sides .now) (a .units .now) (a .lows .now) (a .highs .now) (a .terms .now) (a .n-moves) (a .s .lambda) (c .loop .words) (a .s .states) (a .list .now) (a .s .edges) (a .electric)
+    walkOf (a .all .now) (a .keys .now) (a .terms .now) (a .n-moves) (a .s .lambda) (c .loop .words) (a .s .states) (a .list .now) (a .s .edges) (a .electric)
 
 same : (c : Loop) → walk-now c ≡ walk c
 same c =
     let a = start c .args in
-    walk-same (a .sides .now) (a .units .now) (a .lows .now) (a .highs .now) (a .terms .now) (a .n-moves) (a .s .lambda) (c .loop .words) (a .words .now) (a .s .states) (a .list .now) (a .s .edges) (a .electric) (c .loop .inv .5 .numbers-are)
+    walk-same (a .all .now) (a .keys .now) (a .terms .now) (a .n-moves) (a .s .lambda) (c .loop .words) (a .words .now) (a .s .states) (a .list .now) (a .s .edges) (a .electric) (c .loop .inv .5 .numbers-are)
 
 pointers-right : (c : Loop) → Pointers (start c .args .s .states) (c .loop .pointers)
 pointers-right c = pointers-same (c .loop .inv .5 .pointers-are) (walk-pointers (walk c) (c .loop .i))
@@ -65,12 +62,12 @@ add-row-requires c κs =
     let writable = s .pre .1 in
     let walking = writable .walking in
     let inside : at-loop .loop .i < s .args .s .states = c .before .before .before .before .before .before .loop-test .taken in (
-      record { few = walking .few; tabled = walking .tabled; each = walking .each },
+      record { few = walking .few; moves-few = walking .moves-few; each = walking .each },
       s .pre .0,
       inside,
       omega (arith, inv .5 .long, writable .room),
       pointers-right at-loop,
-      omega (arith, inv .3, walking .tabled .few),
+      omega (arith, inv .3, walking .moves-few),
       inv .3 ∙ sym (inv .4),
       differ-same (same at-loop) (at-loop .loop .pointers) (at-loop .loop .i) (walk-differ _ _ _ _ writable _ _ _ _ _ _ (inv .5) inside),
       walk-unset _ _ _ _ writable _ _ _ _ _ _ (inv .5) inside,
@@ -91,10 +88,10 @@ loop-again c =
     let inside : at-loop .loop .i < s .args .s .states = c .before .before .before .before .before .before .before .before .before .before .before .before .before .before .before .before .loop-test .taken in
     let added = c .before .before .before .before .before .before .before .before .before .add-row in (
       omega arith,
-      added .kept .1 .1 .1 .1 .1 .1 .1 .1 .1 .1 .1 .1 .1 .1 .1 .0 ∙ inv .1,
-      added .kept .1 .1 .1 .1 .1 .1 .1 .1 .1 .1 .1 .1 .1 .1 .1 .1 .0 ∙ inv .2,
-      added .kept .1 .1 .1 .1 .1 .1 .1 .1 .1 .1 .1 .1 .0 ∙ inv .3,
-      added .kept .1 .1 .1 .1 .1 .1 .1 .1 .1 .1 .1 .1 .1 .0 ∙ inv .4,
+      added .kept .1 .1 .1 .1 .1 .1 .1 .1 .1 .1 .1 .1 .1 .0 ∙ inv .1,
+      added .kept .1 .1 .1 .1 .1 .1 .1 .1 .1 .1 .1 .1 .1 .1 .0 ∙ inv .2,
+      added .kept .1 .1 .1 .1 .1 .1 .1 .1 .1 .1 .0 ∙ inv .3,
+      added .kept .1 .1 .1 .1 .1 .1 .1 .1 .1 .1 .1 .0 ∙ inv .4,
       walk-step _ _ _ _ (s .pre .1) _ _ _ _ _ _ (inv .5) inside _ _ _ _ _ (done-same (same at-loop) (added .ensures)),
     )
 

@@ -1,29 +1,24 @@
 use Prim.Native.Nat.{_+_, _-_, _<_, _≤_}
-use mathlib.Core.Path.{_≡_, refl, sym, ap, _∙_}
+use mathlib.Core.Path.{_≡_, refl, sym, _∙_}
 use native.Mathlib.Omega.{arith}
-use lib.IntN.{pos, natAbs}
-use lib.ListN.{getD, length, take}
-use mir.Syntax.{w32}
-use mir.Val.{toZ, ofZ}
-use Rattle.mathematics.proofs.Signed.{small-back, size-neg}
+use lib.ListN.{length, take}
 use Rattle.rows.specs.Entries.{pairs}
 use Rattle.rows.proofs.SortedRows.{pushed-few}
 use Rattle.moves.specs.Numbers.{number-in}
 use Rattle.moves.specs.Moves.{Moves, goes, collected, pointed, Pointers}
-use Rattle.moves.specs.Tables.{tables}
 use Rattle.moves.proofs.Collecting.{pointers-same, pointed-pointers, diagonal-collected, move-collected, move-pointed}
 use borrow.Author.Needs.{needs}
 use Rattle.moves.proofs.row.collect_row.Statement.{statement}
 use Rattle.moves.proofs.row.collect_row.Tie as tie
 
 abbrev Inv-loop : tie.InvT-loop
-Inv-loop state i diagonal lambda sides units lows highs terms n-moves words n number pointers₀ row-columns₀ row-values₀ kept m₀ k₀ pointers row-columns row-values m k =
+Inv-loop state i diagonal lambda all keys terms n-moves words n number pointers₀ row-columns₀ row-values₀ kept m₀ k₀ pointers row-columns row-values m k =
     (k ≤ n-moves) × (length row-columns ≡ length row-columns₀) × (length row-values ≡ length row-values₀)
-    × (take m (pairs row-columns row-values) ≡ collected (tables sides units lows highs terms) lambda (number-in words) n state number pointers₀ i diagonal k)
-    × (m ≤ k + 1) × (pointers ≡ pointed (tables sides units lows highs terms) lambda (number-in words) n state number pointers₀ k)
+    × (take m (pairs row-columns row-values) ≡ collected (record { sides = all; keys = keys; terms = terms }) lambda (number-in words) n state number pointers₀ i diagonal k)
+    × (m ≤ k + 1) × (pointers ≡ pointed (record { sides = all; keys = keys; terms = terms }) lambda (number-in words) n state number pointers₀ k)
 
 abbrev μ-loop : tie.MeasureT-loop
-μ-loop state i diagonal lambda sides units lows highs terms n-moves words n number pointers₀ row-columns₀ row-values₀ kept m₀ k₀ pointers row-columns row-values m k = n-moves - k
+μ-loop state i diagonal lambda all keys terms n-moves words n number pointers₀ row-columns₀ row-values₀ kept m₀ k₀ pointers row-columns row-values m k = n-moves - k
 
 abbrev Loop : Type 0
 Loop = tie.At-loop Inv-loop μ-loop
@@ -32,21 +27,12 @@ abbrev start : Loop → tie.Start Inv-loop μ-loop
 start c = c .before .before .before .before .before .before .before .before .before .before .before .before .before
 
 abbrev tables-of : Loop → Moves
-tables-of c = let a = start c .args in tables (a .sides .now) (a .units .now) (a .lows .now) (a .highs .now) (a .terms .now)
+tables-of c = let a = start c .args in record { sides = a .all .now; keys = a .keys .now; terms = a .terms .now }
 
-abbrev loop-of : tie.After-move-sides Inv-loop μ-loop → Loop
-loop-of c = c .before .before .before
-
--- the unit of the move
-unit-back : (c : Loop) → c .loop .k < start c .args .n-moves → toZ w32 (ofZ w32 (getD (start c .args .units .now) (c .loop .k) (pos 0))) ≡ getD (start c .args .units .now) (c .loop .k) (pos 0)
-unit-back c inside = small-back (getD (start c .args .units .now) (c .loop .k) (pos 0)) (omega (arith, start c .pre .0 .units-small (c .loop .k) inside))
-
--- whether it is taken
-taken-is : (c : tie.After-stays Inv-loop μ-loop) → c .stays .result ≡ goes (tables-of (loop-of (c .before .before))) (start (loop-of (c .before .before)) .args .lambda) (start (loop-of (c .before .before)) .args .state .now) (loop-of (c .before .before) .loop .k)
+-- whether the move is taken
+taken-is : (c : tie.After-goes Inv-loop μ-loop) → c .goes .result ≡ goes (tables-of (c .before .before .before)) (start (c .before .before .before) .args .lambda) (start (c .before .before .before) .args .state .now) (c .before .before .before .loop .k)
 unfolding goes
-taken-is c =
-    let at-loop = loop-of (c .before .before) in
-    c .stays .ensures ∙ rw (unit-back at-loop (c .before .before .before .before .loop-test .taken), ← (c .before .before .move-sides .ensures))
+taken-is c = c .goes .ensures
 
 -- the pointers are still in range
 pointers-right : (c : Loop) → Pointers (start c .args .n) (c .loop .pointers)
@@ -71,33 +57,26 @@ loop-holds c =
     let first = rw (c .before .before .before .before .before .before .before .is-kept .ensures) at pushed in
     (omega arith, refl, refl, diagonal-collected _ _ _ _ _ _ _ _ _ _ _ _ first, pushed-few pushed, refl)
 
-mul-by : tie.Need-mul-by Inv-loop μ-loop
-mul-by c = search needs
+mul-key : tie.Need-mul-key Inv-loop μ-loop
+mul-key c = search needs
 
-element-copy-out-by : tie.Need-element-copy-out-by Inv-loop μ-loop
-element-copy-out-by c = search needs
+element-copy-out-key : tie.Need-element-copy-out-key Inv-loop μ-loop
+element-copy-out-key c = search needs
 
-move-sides-requires : tie.Need-move-sides-requires Inv-loop μ-loop
-move-sides-requires c κs = search needs
-
-opposite-requires : tie.Need-opposite-requires Inv-loop μ-loop
-opposite-requires c κs =
-    let at-loop = loop-of c in
-    let inside = c .before .before .loop-test .taken in
-    rw (unit-back at-loop inside) (start at-loop .pre .0 .units-small (at-loop .loop .k) inside)
-
-stays-requires : tie.Need-stays-requires Inv-loop μ-loop
-stays-requires c κs =
-    let at-loop = loop-of (c .before) in
+goes-requires : tie.Need-goes-requires Inv-loop μ-loop
+goes-requires c κs =
+    let at-loop = c .before .before in
     let moves = start at-loop .pre .1 in
-    let inside = c .before .before .before .loop-test .taken in
-    let unit = unit-back at-loop inside in
-    let small = start at-loop .pre .0 .units-small (at-loop .loop .k) inside in (
-      rw (c .before .move-sides .ensures) at (moves .movable (at-loop .loop .k) inside),
-      moves .truncation,
-      rw unit small,
-      small-back (c .opposite .result) (omega (arith, ap natAbs (c .opposite .ensures), size-neg (toZ w32 (ofZ w32 (getD (start at-loop .args .units .now) (at-loop .loop .k) (pos 0)))), ap natAbs unit, small)) ∙ c .opposite .ensures,
-    )
+    (moves .movable (at-loop .loop .k) (c .before .loop-test .taken), moves .truncation)
+
+change-in-requires : tie.Need-change-in-requires Inv-loop μ-loop
+change-in-requires c κs = search needs
+
+add-push-move : tie.Need-add-push-move Inv-loop μ-loop
+add-push-move c =
+    let small = c .change-in .ensures .1 in
+    let few = start (c .before .before .before .before) .pre .6 in
+    search needs
 
 mul-push-move : tie.Need-mul-push-move Inv-loop μ-loop
 mul-push-move c = search needs
@@ -105,36 +84,16 @@ mul-push-move c = search needs
 element-copy-out-push-move : tie.Need-element-copy-out-push-move Inv-loop μ-loop
 element-copy-out-push-move c = search needs
 
-mul-push-move-2 : tie.Need-mul-push-move-2 Inv-loop μ-loop
-mul-push-move-2 c = search needs
-
-element-copy-out-push-move-2 : tie.Need-element-copy-out-push-move-2 Inv-loop μ-loop
-element-copy-out-push-move-2 c = search needs
-
-add-push-move : tie.Need-add-push-move Inv-loop μ-loop
-add-push-move c =
-    let at-loop = c .before .before .before .before .before .before .before in
-    let small = start at-loop .pre .0 .highs-small (at-loop .loop .k) (c .before .before .before .before .before .before .loop-test .taken) in
-    let few = start at-loop .pre .6 in
-    search needs
-
-mul-push-move-3 : tie.Need-mul-push-move-3 Inv-loop μ-loop
-mul-push-move-3 c = search needs
-
-element-copy-out-push-move-3 : tie.Need-element-copy-out-push-move-3 Inv-loop μ-loop
-element-copy-out-push-move-3 c = search needs
-
 push-move-requires : tie.Need-push-move-requires Inv-loop μ-loop
 push-move-requires c κs =
-    let at-loop = c .before .before .before .before .before .before .before .before .before .before .before in
+    let at-loop = c .before .before .before .before .before .before .before .before in
     let s = start at-loop in
-    let inside : at-loop .loop .k < s .args .n-moves = c .before .before .before .before .before .before .before .before .before .before .loop-test .taken in
+    let inside : at-loop .loop .k < s .args .n-moves = c .before .before .before .before .before .before .before .loop-test .taken in
     let pointers = pointers-right at-loop in
     let pushed = at-loop .before .before .before .before .before .push-entry .kept in (
       s .pre .3,
       s .pre .4,
-      s .pre .0 .lows-small (at-loop .loop .k) inside,
-      omega (arith, pointers .long, inside, s .pre .0 .few),
+      omega (arith, pointers .long, inside, s .pre .0),
       pointers .below (at-loop .loop .k),
       omega (arith, at-loop .loop .inv .1, at-loop .loop .inv .4, inside, pushed .0, s .pre .7),
       at-loop .loop .inv .1 ∙ pushed .0 ∙ s .pre .8 ∙ sym (at-loop .loop .inv .2 ∙ pushed .1 .0),
@@ -142,9 +101,9 @@ push-move-requires c κs =
 
 add-k : tie.Need-add-k Inv-loop μ-loop
 add-k c =
-    let at-loop = c .before .before .before .before .before .before .before .before .before .before .before .before .before .before .before .before .before .before in
-    let few = start at-loop .pre .0 .few in
-    let inside = c .before .before .before .before .before .before .before .before .before .before .before .before .before .before .before .before .before .loop-test .taken in
+    let at-loop = c .before .before .before .before .before .before .before .before .before .before .before .before .before .before .before in
+    let few = start at-loop .pre .0 in
+    let inside = c .before .before .before .before .before .before .before .before .before .before .before .before .before .before .loop-test .taken in
     search needs
 
 loop-less : tie.Need-loop-less Inv-loop μ-loop
@@ -152,17 +111,19 @@ loop-less c = search needs
 
 loop-again : tie.Need-loop-again Inv-loop μ-loop
 loop-again c =
-    let at-loop = c .before .before .before .before .before .before .before .before .before .before .before .before .before .before .before .before .before .before in
+    let at-loop = c .before .before .before .before .before .before .before .before .before .before .before .before .before .before .before in
     let s = start at-loop in
-    let inside : at-loop .loop .k < s .args .n-moves = c .before .before .before .before .before .before .before .before .before .before .before .before .before .before .before .before .before .loop-test .taken in
+    let inside : at-loop .loop .k < s .args .n-moves = c .before .before .before .before .before .before .before .before .before .before .before .before .before .before .loop-test .taken in
+    let made = c .before .before .before .before .before .before .before .before .before .before .before in
     let pushed = c .before .before .before .before .before .before .push-move in
-    let taken = taken-is (c .before .before .before .before .before .before .before .before .before .before .before .before .before) in (
+    let taken = taken-is (c .before .before .before .before .before .before .before .before .before .before .before .before) in
+    let as-told = rw (made .change-in .ensures .0) at (pushed .ensures) in (
       omega arith,
-      pushed .kept .1 .1 .1 .1 .1 .1 .1 .1 .0 ∙ at-loop .loop .inv .1,
-      pushed .kept .1 .1 .1 .1 .1 .1 .1 .1 .1 .0 ∙ at-loop .loop .inv .2,
-      move-collected (tables-of at-loop) _ _ _ _ _ _ _ _ _ _ _ _ _ _ _ _ taken (at-loop .loop .inv .5) (pushed .ensures) (at-loop .loop .inv .3),
+      pushed .kept .1 .1 .1 .1 .1 .1 .1 .0 ∙ at-loop .loop .inv .1,
+      pushed .kept .1 .1 .1 .1 .1 .1 .1 .1 .0 ∙ at-loop .loop .inv .2,
+      move-collected (tables-of at-loop) _ _ _ _ _ _ _ _ _ _ _ _ _ _ _ _ taken (at-loop .loop .inv .5) as-told (at-loop .loop .inv .3),
       omega (arith, pushed .ensures .room, at-loop .loop .inv .4),
-      move-pointed (tables-of at-loop) _ _ _ _ _ _ (s .args .i) (s .args .diagonal) _ _ _ _ _ _ _ _ taken (at-loop .loop .inv .5) (pushed .ensures),
+      move-pointed (tables-of at-loop) _ _ _ _ _ _ (s .args .i) (s .args .diagonal) _ _ _ _ _ _ _ _ taken (at-loop .loop .inv .5) as-told,
     )
 
 same-length : tie.Need-same-length Inv-loop μ-loop
@@ -190,18 +151,13 @@ collect-row-spec =
     cast-push-entry
     push-entry-requires
     loop-holds
-    mul-by
-    element-copy-out-by
-    move-sides-requires
-    opposite-requires
-    stays-requires
+    mul-key
+    element-copy-out-key
+    goes-requires
+    change-in-requires
+    add-push-move
     mul-push-move
     element-copy-out-push-move
-    mul-push-move-2
-    element-copy-out-push-move-2
-    add-push-move
-    mul-push-move-3
-    element-copy-out-push-move-3
     push-move-requires
     add-k
     loop-less
