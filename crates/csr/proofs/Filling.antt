@@ -20,7 +20,7 @@ use Rattle.rows.proofs.RowsWritten.{row-copied, none-written}
 use Rattle.rows.proofs.SortedRows.{fits-at, added-next, added-written}
 use Rattle.hilbert.specs.Search.{row}
 use Rattle.moves.specs.Numbers.{lower, number-in}
-use Rattle.moves.specs.Moves.{collected, pointed, Pointers}
+use Rattle.moves.specs.Moves.{tables, collected, pointed, Pointers}
 use Rattle.moves.proofs.Collecting.{pointed-pointers}
 use Rattle.csr.specs.Fill.{Walk, walkOf, entries-from, pointers-after, pointers-at, walk-entries, RowFound, RowDone, WalkAt, Writable}
 
@@ -152,7 +152,7 @@ walk-pointers v (suc i) =
 pub walk-same : (sides keys : List ℕ) (terms : List Float) (count L : ℕ) (words words₀ : List ℕ) (n : ℕ) (list : List ℤ) (m : ℕ) (electric : Float) → number-in words ≡ number-in words₀
     → walkOf sides keys terms count L words n list m electric ≡ walkOf sides keys terms count L words₀ n list m electric
 walk-same sides keys terms count L words words₀ n list m electric e =
-    ap (λ f. record { moves = record { sides = sides; keys = keys; terms = terms }; count = count; truncation = L; numbers = f; states = n; state = row m list; electric = electric }) e
+    ap (λ f. record { moves = tables sides keys terms; count = count; truncation = L; numbers = f; states = n; state = row m list; electric = electric }) e
 
 pub differ-same : {v v′ : Walk} → v′ ≡ v → (pointers : List ℕ) (i : ℕ) → ColumnsDiffer (entries-from v pointers i) → ColumnsDiffer (entries-from v′ pointers i)
 differ-same e pointers i h = rw e h

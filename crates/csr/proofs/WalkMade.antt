@@ -17,6 +17,7 @@ use Rattle.plaquettes.proofs.TriangleTelling.{state-there}
 use Rattle.plaquettes.proofs.Targets.{there, row-long, row-is}
 use Rattle.plaquettes.proofs.Moves.{small-everywhere}
 use Rattle.moves.specs.Numbers.{number, lower, Numbered}
+use Rattle.moves.specs.Moves.{tables}
 use Rattle.moves.specs.Tables.{MovesWritten}
 use Rattle.moves.proofs.Numbers.{number-few}
 use Rattle.entries.specs.Rows.{csr-entries}
@@ -66,7 +67,7 @@ module _ (c : Complex) (list : List ℤ) (s : Sizes) (free : List ℕ) (basis : 
     pub word-small : (i : ℕ) → i < N → getD words i 0 < 2 ^ 20
     word-small i h = omega (arith, word-is i h, few i h)
 
-    pub walk-made : (sides keys : List ℕ) (terms : List Float) (count : ℕ) → count ≡ 2 * length (c .triangles) → MovesWritten c L p w free (record { sides = sides; keys = keys; terms = terms })
+    pub walk-made : (sides keys : List ℕ) (terms : List Float) (count : ℕ) → count ≡ 2 * length (c .triangles) → MovesWritten c L p w free (tables sides keys terms)
         → WalkOf c L p w free (walkOf sides keys terms count L words (s .states) list (s .edges) (p .electric))
     walk-made sides keys terms count count-is moves =
         record {

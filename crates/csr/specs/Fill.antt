@@ -15,7 +15,7 @@ use Rattle.rows.specs.Row.{Sorted}
 use Rattle.rows.specs.RowLists.{rows-to, AllRowsFit, SortedWritten}
 use Rattle.hilbert.specs.Search.{row}
 use Rattle.moves.specs.Numbers.{number, number-in}
-use Rattle.moves.specs.Moves.{Moves, collected, pointed, StateMoves}
+use Rattle.moves.specs.Moves.{Moves, tables, collected, pointed, StateMoves}
 use Rattle.moves.specs.Tables.{MovesWritten}
 
 -- the moves in their tables, the states of a list with their numbers, and the electric factor
@@ -31,7 +31,7 @@ pub record Walk : Type 0 where
 abbrev pub walkOf : List ℕ → List ℕ → List Float → ℕ → ℕ → List ℕ → ℕ → List ℤ → ℕ → Float → Walk
 walkOf sides keys terms count L words n list m electric =
     record {
-      moves = record { sides = sides; keys = keys; terms = terms };
+      moves = tables sides keys terms;
       count = count;
       truncation = L;
       numbers = number-in words;

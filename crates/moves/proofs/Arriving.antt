@@ -12,6 +12,7 @@ use Rattle.mathematics.specs.Counting.{below}
 use Rattle.mathematics.proofs.Flat.{flatMap-last}
 use Rattle.complex.specs.Complex.{Complex}
 use Rattle.complex.specs.Judge.{Accepted}
+use Rattle.triangles.specs.Indices.{AllSides}
 use Rattle.gauss_law.specs.Listing.{free-edges, states, limit}
 use Rattle.matrices.specs.declared.coupling.KSParams.{KSParams}
 use Rattle.matrices.specs.Terms.{row-plaquette-term}
@@ -21,14 +22,14 @@ use Rattle.plaquettes.proofs.TriangleTelling.{state-there}
 use Rattle.plaquettes.proofs.Moves.{stays-at, target-rises}
 use Rattle.plaquettes.proofs.Pairing.{stays-told}
 use Rattle.moves.specs.Numbers.{number}
-use Rattle.moves.specs.Moves.{Moves, goes, arrives, collected, pointed, moved-entry, entry-of, unit-of, zeros, rest-number, shift-number, triangle-of, move-at, change-in, change-of, MoveAt, Behind, Pointers}
+use Rattle.moves.specs.Moves.{Moves, goes, arrives, collected, pointed, entry-of, unit-of, rest-number, shift-number, triangle-of, move-at, change-in, change-of, MoveAt, Behind, Pointers}
 use Rattle.moves.proofs.Seeking.{sought-found}
-use Rattle.moves.proofs.Numbers.{number-rises, rest-few, change-few, forward-number, back-number}
+use Rattle.moves.proofs.Numbers.{number-rises, rest-few, shift-few, forward-number, back-number}
+use Rattle.moves.proofs.MoveNumbers.{move-low, key-change}
 use Rattle.moves.proofs.Collecting.{pointed-at}
-use Rattle.moves.proofs.Zeros.{zeros-long, zeros-all}
 
 module _ (c : Complex) (accepted : Accepted c) (L : ℕ) (p : KSParams) (w : ℕ → Float) (free : List ℕ) (listed : (j : ℕ) → j < length (free-edges c) → getD free j 0 ≡ getD (free-edges c) j 0) (few : (2 * L + 1) ^ length (free-edges c) ≤ limit)
-    (v : Moves) (moves : ℕ) (is : (k : ℕ) → k < moves → MoveAt c L p w free v k)
+    (v : Moves) (sides-are : AllSides c (v .sides)) (moves : ℕ) (is : (k : ℕ) → k < moves → MoveAt c L p w free v k)
     (numbers : ℕ → ℕ) (numbered : (i : ℕ) → i < length (states c L) → numbers i ≡ number L L free (length (free-edges c)) (getD (states c L) i []))
     (pointers : List ℕ) (i : ℕ) (h : i < length (states c L)) (behind : Behind c L v moves pointers i) where
   abbrev N : ℕ
@@ -50,33 +51,22 @@ module _ (c : Complex) (accepted : Accepted c) (L : ℕ) (p : KSParams) (w : ℕ
     -- a move is taken just where it stays
     pub goes-told : goes v L state k ≡ sides-within c L t (moved-state c L t u i)
     unfolding goes moved-state
-    goes-told = stays-told c accepted L t number-of state (state-there c accepted L i h .sized) _ (sym (is k small .sides-are)) u
+    goes-told = stays-told c accepted L t number-of state (state-there c accepted L i h .sized) _ (sides-are .are t number-of) u
 
     numbers-rise : (a b : ℕ) → a < b → b < N → numbers a < numbers b
     numbers-rise a b less below = rw (numbered a (omega arith), numbered b below) (number-rises c accepted L free listed a b less below)
 
-    abbrev z : List ℤ
-    z = zeros (length (c .edges))
-
-    rest-low : rest-number c L free ≤ limit
-    unfolding rest-number
-    rest-low = rest-few c accepted L free listed z (zeros-long (length (c .edges))) (zeros-all (length (c .edges))) few
-
-    shift-low : shift-number c L free t ≤ limit
-    unfolding shift-number
-    shift-low = change-few c accepted L free listed z (zeros-long (length (c .edges))) (zeros-all (length (c .edges))) few t number-of
-
     -- the numbers of a state and its target
     differ : sides-within c L t (moved-state c L t u i) ≡ true → numbers (target c L t u i) + limit ≡ numbers i + change-in (getD (v .keys) k 0)
-    unfolding unit-of change-of rest-number shift-number
+    unfolding unit-of change-of
     differ band =
-        rw (is k small .change-is, numbered i h, numbered (target c L t u i) (stays-at c accepted L t number-of u i h band .below)) (go (ltb (move-at v k) 256) refl band)
+        rw (ap change-in (is k small .key-is) ∙ key-change c L free (move-at v k) (move-low v k), numbered i h, numbered (target c L t u i) (stays-at c accepted L t number-of u i h band .below)) (go (ltb (move-at v k) 256) refl band)
       where
         go : (b : Bool) → ltb (move-at v k) 256 ≡ b → sides-within c L t (moved-state c L t (cond b (negsuc 0) (pos 1)) i) ≡ true
             → number L L free (length (free-edges c)) (getD (states c L) (target c L t (cond b (negsuc 0) (pos 1)) i) []) + limit
             ≡ number L L free (length (free-edges c)) (getD (states c L) i []) + cond b (limit + rest-number c L free - shift-number c L free t) (limit + shift-number c L free t - rest-number c L free)
-        go true e stay = omega (arith, shift-low, back-number c accepted L free listed z (zeros-long (length (c .edges))) (zeros-all (length (c .edges))) t number-of i h stay)
-        go false e stay = omega (arith, rest-low, forward-number c accepted L free listed z (zeros-long (length (c .edges))) (zeros-all (length (c .edges))) t number-of i h stay)
+        go true e stay = omega (arith, shift-few c accepted L free listed few t number-of, back-number c accepted L free listed t number-of i h stay)
+        go false e stay = omega (arith, rest-few c accepted L free listed few, forward-number c accepted L free listed t number-of i h stay)
 
     -- where it stays, the place that is sought is its target
     pub arrives-told : sides-within c L t (moved-state c L t u i) ≡ true → arrives v numbers N (numbers i) pointers k ≡ target c L t u i
@@ -84,11 +74,11 @@ module _ (c : Complex) (accepted : Accepted c) (L : ℕ) (p : KSParams) (w : ℕ
     arrives-told band =
         let there = stays-at c accepted L t number-of u i h band .below in
         let same = differ band in
-        sought-found numbers limit (numbers i + change-in (getD (v .keys) k 0)) (getD pointers k 0) (target c L t u i) N (behind k small i (omega arith) h) there same
+        sought-found numbers (numbers i + change-in (getD (v .keys) k 0)) (getD pointers k 0) (target c L t u i) N (behind k small i (omega arith) h) there same
         (λ j less. let e = numbers-rise j (target c L t u i) less there in omega (arith, same, e))
 
   one : (k : ℕ) → k < moves → cond {A = List (ℕ × Float)} (goes v L state k) ((arrives v numbers N (numbers i) pointers k, getD (v .terms) k nan) ∷ []) [] ≡ entry-of c L p w i (move-at v k)
-  unfolding entry-of moved-entry
+  unfolding entry-of
   one k small = rw (goes-told k small, is k small .term-is) (go (sides-within c L (triangle-of (move-at v k)) (moved-state c L (triangle-of (move-at v k)) (unit-of (move-at v k)) i)) refl)
     where
       go : (b : Bool) → sides-within c L (triangle-of (move-at v k)) (moved-state c L (triangle-of (move-at v k)) (unit-of (move-at v k)) i) ≡ b

@@ -12,7 +12,6 @@ use lib.IntN.{ℤ}
 use lib.Ieee.{Float, nan}
 use lib.ListN.{getD, length, set, take, length-set, List·getD-eq-default}
 use lib.Seq.{getD-set-same, getD-set-other}
-use Rattle.gauss_law.specs.Listing.{limit}
 use Rattle.rows.specs.Row.{kept}
 use Rattle.rows.specs.RowLists.{EntryPushed}
 use Rattle.moves.specs.Numbers.{sought}
@@ -88,7 +87,7 @@ module _ (v : Moves) (L : ℕ) (numbers : ℕ → ℕ) (n : ℕ) (s : List ℤ) 
       go p false = p
 
   pub arrives-kept : (k : ℕ) (now : List ℕ) → now ≡ pointed v L numbers n s a pointers k
-      → sought numbers limit (a + change-in (getD (v .keys) k 0)) (getD now k 0) (n - getD now k 0) ≡ arrives v numbers n a pointers k
+      → sought numbers (a + change-in (getD (v .keys) k 0)) (getD now k 0) (n - getD now k 0) ≡ arrives v numbers n a pointers k
   unfolding arrives
   arrives-kept k now e = rw (e, pointed-kept k k (omega arith))
 
@@ -101,7 +100,7 @@ module _ (v : Moves) (L : ℕ) (numbers : ℕ → ℕ) (n : ℕ) (s : List ℤ) 
     -- then a move more
     module _ (k m : ℕ) (now : List ℕ) (old : List (ℕ × Float)) (r : ℕ) (after : List ℕ) (new : List (ℕ × Float)) (taken : Bool) (is : taken ≡ goes v L s k)
         (pointers-are : now ≡ pointed v L numbers n s a pointers k)
-        (pushed : MovePushed taken (sought numbers limit (a + change-in (getD (v .keys) k 0)) (getD now k 0) (n - getD now k 0)) (getD (v .terms) k nan) n k m now old r after new) where
+        (pushed : MovePushed taken (sought numbers (a + change-in (getD (v .keys) k 0)) (getD now k 0) (n - getD now k 0)) (getD (v .terms) k nan) n k m now old r after new) where
       pub move-collected : take m old ≡ collected v L numbers n s a pointers i x k → take r new ≡ collected v L numbers n s a pointers i x (k + 1)
       unfolding collected
       move-collected so-far = rw (add-one k) (pushed .entries ∙ rw (so-far, is, arrives-kept k now pointers-are))

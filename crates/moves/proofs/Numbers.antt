@@ -4,7 +4,7 @@ use mathlib.Core.List.{List, []}
 use mathlib.Core.Bool.{Bool, true, false, cond, false≢true}
 use mathlib.Core.Path.{_≡_, refl, sym, ap, _∙_}
 use native.Mathlib.Omega.{arith}
-use native.Mathlib.Nat.{mul-le-mul-left, pow-zero, pow-suc, mul-le-mul-right}
+use native.Mathlib.Nat.{pow-zero, pow-suc, mul-le-mul-right}
 use lib.Dec.{eqb}
 use lib.IntN.{ℤ, pos, negsuc, natAbs, negℤ, _+ℤ_, +ℤ-idl}
 use lib.Signed.{ltZ}
@@ -25,6 +25,8 @@ use Rattle.plaquettes.specs.Triangle.{moved-state, sides-within, target}
 use Rattle.plaquettes.proofs.TriangleTelling.{state-there}
 use Rattle.plaquettes.proofs.Moves.{stays-at, target-stays, target-back}
 use Rattle.moves.specs.Numbers.{numeral, digit, number}
+use Rattle.moves.specs.Moves.{zeros, rest-number, shift-number}
+use Rattle.moves.proofs.Zeros.{zeros-long, zeros-all}
 
 -- ---- numbers by their digits
 module _ (base : ℕ) (x : ℕ → ℕ) where
@@ -45,17 +47,11 @@ module _ (base : ℕ) (x : ℕ → ℕ) where
       let last : (x n + 1) * base ^ n ≤ base * base ^ n = mul-le-mul-right (base ^ n) (omega (arith, h n (omega arith))) in
       omega (arith, pow-suc base n, numeral-more n, numeral-below n (λ j k. h j (omega arith)))
 
-  numeral-few : (n : ℕ) → 1 ≤ base → ((j : ℕ) → j < n → x j ≤ 2) → numeral base x n 0 ≤ 2 * n * base ^ n
-  unfolding numeral
-  numeral-few zero some h = omega arith
-  numeral-few (suc n) some h =
-      let last : x n * base ^ n ≤ 2 * base ^ n = mul-le-mul-right (base ^ n) (h n (omega arith)) in
-      let grows : 2 * suc n * base ^ n * 1 ≤ 2 * suc n * base ^ n * base = mul-le-mul-left (2 * suc n * base ^ n) some in
-      rw (numeral-more n, pow-suc base n) (omega (arith, numeral-few n some (λ j k. h j (omega arith))))
-
-ones : (n : ℕ) → 1 ^ n ≡ 1
-ones zero = pow-zero 1
-ones (suc n) = pow-suc 1 n ∙ omega (arith, ones n)
+-- with base 1 digits are added
+numeral-ones : (x : ℕ → ℕ) (n a : ℕ) → ((j : ℕ) → x j ≤ 2) → numeral 1 x n a ≤ a + 2 * n
+unfolding numeral
+numeral-ones x zero a h = omega arith
+numeral-ones x (suc n) a h = omega (arith, h n, numeral-ones x n (a * 1 + x n) h)
 
 -- numbers add as their digits do
 numeral-sum : (base : ℕ) (x y x′ y′ : ℕ → ℕ) (n : ℕ) → ((j : ℕ) → j < n → x j + y j ≡ x′ j + y′ j)
@@ -158,57 +154,60 @@ module _ (c : Complex) (accepted : Accepted c) (L : ℕ) (free : List ℕ) (list
       short = omega (arith, free-count c accepted, accepted .few-edges, accepted .some-vertex)
 
       go : (L : ℕ) → (2 * L + 1) ^ F ≤ limit → numeral (2 * L + 1) x F 0 ≤ limit
-      go zero few =
-          let one = ones F in
-          let most : 2 * F * 1 ^ F ≡ 2 * F = rw one (omega arith) in
-          omega (arith, short, most, numeral-few 1 x F (omega arith) (λ j k. h j))
+      go zero few = omega (arith, short, numeral-ones x F 0 h)
       go (suc L) few = omega (arith, few, numeral-below (2 * suc L + 1) x F (λ j k. omega (arith, h j)))
 
-  module _ (z : List ℤ) (sized : length z ≡ length (c .edges)) (zeros : (e : ℕ) → getD z e (pos 0) ≡ pos 0) where
-    pub rest-few : (2 * L + 1) ^ F ≤ limit → number L 1 free F z ≤ limit
-    unfolding number digit
-    rest-few = small-few (digit 1 free z) (λ j. rw (zeros (getD free j 0)) (omega arith))
+  -- ---- no shift, and the shift of a triangle
+  abbrev z : List ℤ
+  z = zeros (length (c .edges))
 
-    module _ (t : ℕ) (triangle : t < length (c .triangles)) where
-      -- what the move adds on free edge j
-      abbrev change : ℕ → ℤ
-      change j = added c t (pos 1) (getD free j 0)
+  none-there : (e : ℕ) → getD z e (pos 0) ≡ pos 0
+  none-there = zeros-all (length (c .edges))
 
-      change-digit : (j : ℕ) → digit 1 free (triangle-move c t (pos 1) z) j ≡ natAbs (change j +ℤ pos 1)
-      unfolding digit
-      change-digit j = rw (triangle-value c accepted t triangle (pos 1) z sized (getD free j 0), zeros (getD free j 0), +ℤ-idl (change j))
+  pub rest-few : (2 * L + 1) ^ F ≤ limit → rest-number c L free ≤ limit
+  unfolding rest-number number digit
+  rest-few = small-few (digit 1 free z) (λ j. rw (none-there (getD free j 0)) (omega arith))
 
-      change-small : (j : ℕ) → digit 1 free (triangle-move c t (pos 1) z) j ≤ 2
-      change-small j = let one = added-small c t (getD free j 0) in omega (arith, change-digit j, digit-parts 1 (change j) one, parts-size (change j))
+  module _ (t : ℕ) (triangle : t < length (c .triangles)) where
+    -- what the move adds on free edge j
+    abbrev change : ℕ → ℤ
+    change j = added c t (pos 1) (getD free j 0)
 
-      forward-digit : (i : ℕ) → i < length (states c L) → sides-within c L t (moved-state c L t (pos 1) i) ≡ true → (j : ℕ) → j < F
-          → digit L free (getD (states c L) (target c L t (pos 1) i) []) j + digit 1 free z j
-          ≡ digit L free (getD (states c L) i []) j + digit 1 free (triangle-move c t (pos 1) z) j
-      unfolding digit moved-state
-      forward-digit i h stays j k =
-          let e = getD free j 0 in
-          let s = getD (states c L) i [] in
-          let x = getD s e (pos 0) in
-          let there = stays-at c accepted L t triangle (pos 1) i h stays in
-          let value = triangle-value c accepted t triangle (pos 1) s (state-there c accepted L i h .sized) e in
-          let moved : getD (getD (states c L) (target c L t (pos 1) i) []) e (pos 0) ≡ x +ℤ change j = ap (λ y. getD y e (pos 0)) (there .state) ∙ value in
-          rw (change-digit j, moved, zeros e)
-          (digit-moved L x (change j) (state-small i h j k) (rw moved at (state-small (target c L t (pos 1) i) (there .below) j k)) (added-small c t e))
+    change-digit : (j : ℕ) → digit 1 free (triangle-move c t (pos 1) z) j ≡ natAbs (change j +ℤ pos 1)
+    unfolding digit
+    change-digit j = rw (triangle-value c accepted t triangle (pos 1) z (zeros-long (length (c .edges))) (getD free j 0), none-there (getD free j 0), +ℤ-idl (change j))
 
-      pub forward-number : (i : ℕ) → i < length (states c L) → sides-within c L t (moved-state c L t (pos 1) i) ≡ true
-          → numbered (target c L t (pos 1) i) + number L 1 free F z ≡ numbered i + number L 1 free F (triangle-move c t (pos 1) z)
-      unfolding number
-      forward-number i h stays = numeral-sum (2 * L + 1) _ (digit 1 free z) _ (digit 1 free (triangle-move c t (pos 1) z)) F (forward-digit i h stays)
+    change-small : (j : ℕ) → digit 1 free (triangle-move c t (pos 1) z) j ≤ 2
+    change-small j = let one = added-small c t (getD free j 0) in omega (arith, change-digit j, digit-parts 1 (change j) one, parts-size (change j))
 
-      -- the move by 1 leads back from the target of the move by -1
-      pub back-number : (i : ℕ) → i < length (states c L) → sides-within c L t (moved-state c L t (negsuc 0) i) ≡ true
-          → numbered (target c L t (negsuc 0) i) + number L 1 free F (triangle-move c t (pos 1) z) ≡ numbered i + number L 1 free F z
-      back-number i h stays =
-          let j = target c L t (negsuc 0) i in
-          let below : j < length (states c L) = stays-at c accepted L t triangle (negsuc 0) i h stays .below in
-          let back : target c L t (pos 1) j ≡ i = target-back c accepted L t triangle (negsuc 0) i j h below refl in
-          sym (rw back at (forward-number j below (target-stays c L t (pos 1) j (rw back h))))
+    forward-digit : (i : ℕ) → i < length (states c L) → sides-within c L t (moved-state c L t (pos 1) i) ≡ true → (j : ℕ) → j < F
+        → digit L free (getD (states c L) (target c L t (pos 1) i) []) j + digit 1 free z j
+        ≡ digit L free (getD (states c L) i []) j + digit 1 free (triangle-move c t (pos 1) z) j
+    unfolding digit moved-state
+    forward-digit i h stays j k =
+        let e = getD free j 0 in
+        let s = getD (states c L) i [] in
+        let x = getD s e (pos 0) in
+        let there = stays-at c accepted L t triangle (pos 1) i h stays in
+        let value = triangle-value c accepted t triangle (pos 1) s (state-there c accepted L i h .sized) e in
+        let moved : getD (getD (states c L) (target c L t (pos 1) i) []) e (pos 0) ≡ x +ℤ change j = ap (λ y. getD y e (pos 0)) (there .state) ∙ value in
+        rw (change-digit j, moved, none-there e)
+        (digit-moved L x (change j) (state-small i h j k) (rw moved at (state-small (target c L t (pos 1) i) (there .below) j k)) (added-small c t e))
 
-    pub change-few : (2 * L + 1) ^ F ≤ limit → (t : ℕ) → t < length (c .triangles) → number L 1 free F (triangle-move c t (pos 1) z) ≤ limit
-    unfolding number
-    change-few few t triangle = small-few (digit 1 free (triangle-move c t (pos 1) z)) (change-small t triangle) few
+    pub forward-number : (i : ℕ) → i < length (states c L) → sides-within c L t (moved-state c L t (pos 1) i) ≡ true
+        → numbered (target c L t (pos 1) i) + rest-number c L free ≡ numbered i + shift-number c L free t
+    unfolding number rest-number shift-number
+    forward-number i h stays = numeral-sum (2 * L + 1) _ (digit 1 free z) _ (digit 1 free (triangle-move c t (pos 1) z)) F (forward-digit i h stays)
+
+    -- the move by 1 leads back from the target of the move by -1
+    pub back-number : (i : ℕ) → i < length (states c L) → sides-within c L t (moved-state c L t (negsuc 0) i) ≡ true
+        → numbered (target c L t (negsuc 0) i) + shift-number c L free t ≡ numbered i + rest-number c L free
+    back-number i h stays =
+        let j = target c L t (negsuc 0) i in
+        let below : j < length (states c L) = stays-at c accepted L t triangle (negsuc 0) i h stays .below in
+        let back : target c L t (pos 1) j ≡ i = target-back c accepted L t triangle (negsuc 0) i j h below refl in
+        sym (rw back at (forward-number j below (target-stays c L t (pos 1) j (rw back h))))
+
+  pub shift-few : (2 * L + 1) ^ F ≤ limit → (t : ℕ) → t < length (c .triangles) → shift-number c L free t ≤ limit
+  unfolding shift-number number
+  shift-few few t triangle = small-few (digit 1 free (triangle-move c t (pos 1) z)) (change-small t triangle) few

@@ -8,7 +8,6 @@ use lib.IntN.{ℤ, pos, negsuc}
 use lib.Ieee.{Float, nan}
 use lib.ListN.{getD, length, set, take, replicate}
 use Rattle.complex.specs.Complex.{Complex, entries}
-use Rattle.complex.specs.Sides.{sides}
 use Rattle.gauss_law.specs.Listing.{free-edges, states, limit}
 use Rattle.gauss_law.specs.Shifts.{triangle-move}
 use Rattle.matrices.specs.declared.coupling.KSParams.{KSParams}
@@ -24,6 +23,9 @@ pub record Moves : Type 0 where
   pub keys : List ℕ
   pub terms : List Float
 
+abbrev pub tables : List ℕ → List ℕ → List Float → Moves
+tables sides keys terms = record { sides = sides; keys = keys; terms = terms }
+
 -- A move has a number: that of its triangle for the move by -1, and 256 more for the move by 1.
 unfoldable pub triangle-of : ℕ → ℕ
 triangle-of q = q % 256
@@ -31,8 +33,8 @@ triangle-of q = q % 256
 unfoldable pub unit-of : ℕ → ℤ
 unit-of q = cond (ltb q 256) (negsuc 0) (pos 1)
 
--- Its key has this number in the lowest nine bits. Above them stands what the move adds to the number of a state, raised by the limit. So the
--- keys rise with what the moves add, and no two moves have one key.
+-- A key has a move's number in its lowest nine bits. Above them stands what the move adds to the number of a state, with 2^20 (`limit`) added, so
+-- that it is not negative. So keys rise with what the moves add, and no two moves have one key.
 unfoldable pub move-in : ℕ → ℕ
 move-in key = key % 512
 
@@ -49,7 +51,7 @@ goes v L s k = stays L s (entries (v .sides) (3 * triangle-of (move-at v k)) 3) 
 
 -- The n states have numbers that rise. Where the move at place k takes the state with number a: sought from the pointer of the move on.
 unfoldable pub arrives : Moves → (ℕ → ℕ) → ℕ → ℕ → List ℕ → ℕ → ℕ
-arrives v numbers n a pointers k = sought numbers limit (a + change-in (getD (v .keys) k 0)) (getD pointers k 0) (n - getD pointers k 0)
+arrives v numbers n a pointers k = sought numbers (a + change-in (getD (v .keys) k 0)) (getD pointers k 0) (n - getD pointers k 0)
 
 -- the entries of row i: x where it is kept, then for each of the moves that stay the place it leads to and its value
 unfoldable pub collected : Moves → ℕ → (ℕ → ℕ) → ℕ → List ℤ → ℕ → List ℕ → ℕ → Float → ℕ → List (ℕ × Float)
@@ -75,7 +77,8 @@ rest-number c L free = number L 1 free (length (free-edges c)) (zeros (length (c
 unfoldable pub shift-number : Complex → ℕ → List ℕ → ℕ → ℕ
 shift-number c L free t = number L 1 free (length (free-edges c)) (triangle-move c t (pos 1) (zeros (length (c .edges))))
 
--- what move q adds to the number of a state, raised by the limit: the shift of its triangle less no shift, or no shift less the shift
+-- what move q adds to the number of a state, with 2^20 added: for the move by -1 the number of no shift less that of its triangle's shift, for the
+-- move by 1 the reverse
 unfoldable pub change-of : Complex → ℕ → List ℕ → ℕ → ℕ
 change-of c L free q =
     cond (ltb q 256) (limit + rest-number c L free - shift-number c L free (triangle-of q)) (limit + shift-number c L free (triangle-of q) - rest-number c L free)
@@ -83,20 +86,16 @@ change-of c L free q =
 unfoldable pub key-of : Complex → ℕ → List ℕ → ℕ → ℕ
 key-of c L free q = 512 * change-of c L free q + q
 
--- what stands at place k is a move of the complex
+-- the key and the value at place k are those of a move of the complex
 pub record MoveAt (c : Complex) (L : ℕ) (p : KSParams) (w : ℕ → Float) (free : List ℕ) (v : Moves) (k : ℕ) : Type 0 where
   pub inside : triangle-of (move-at v k) < length (c .triangles)
-  pub sides-are : entries (v .sides) (3 * triangle-of (move-at v k)) 3 ≡ sides c (triangle-of (move-at v k))
-  pub change-is : change-in (getD (v .keys) k 0) ≡ change-of c L free (move-at v k)
+  pub key-is : getD (v .keys) k 0 ≡ key-of c L free (move-at v k)
   pub term-is : getD (v .terms) k nan ≡ row-plaquette-term p (w (triangle-of (move-at v k)))
 
--- the target of one move with its value, and nothing where an edge leaves -L to L
-unfoldable pub moved-entry : Complex → ℕ → ℕ → ℤ → Float → ℕ → List (ℕ × Float)
-moved-entry c L t u x i = cond (sides-within c L t (moved-state c L t u i)) ((target c L t u i, x) ∷ []) []
-
--- that of move q
+-- what move q gives row i: its target and its value, and nothing where an edge leaves -L to L
 unfoldable pub entry-of : Complex → ℕ → KSParams → (ℕ → Float) → ℕ → ℕ → List (ℕ × Float)
-entry-of c L p w i q = moved-entry c L (triangle-of q) (unit-of q) (row-plaquette-term p (w (triangle-of q))) i
+entry-of c L p w i q =
+    cond (sides-within c L (triangle-of q) (moved-state c L (triangle-of q) (unit-of q) i)) ((target c L (triangle-of q) (unit-of q) i, row-plaquette-term p (w (triangle-of q))) ∷ []) []
 
 -- no target of state i or of a later one is before the pointer of its move
 abbrev pub Behind : Complex → ℕ → Moves → ℕ → List ℕ → ℕ → Type 0
@@ -105,10 +104,9 @@ Behind c L v moves pointers i =
 
 -- ---- what the code asks
 -- a state whose three values each move can change
-pub record StateMoves (v : Moves) (t L : ℕ) (s : List ℤ) : Type 0 where
+pub record StateMoves (v : Moves) (moves L : ℕ) (s : List ℤ) : Type 0 where
   pub truncation : L ≤ 1000
-  pub edges-few : length s ≤ 63
-  pub movable : (k : ℕ) → k < t → Movable s (entries (v .sides) (3 * triangle-of (move-at v k)) 3)
+  pub movable : (k : ℕ) → k < moves → Movable s (entries (v .sides) (3 * triangle-of (move-at v k)) 3)
 
 -- a pointer for each move, none of them past n places
 pub record Pointers (n : ℕ) (pointers : List ℕ) : Type 0 where

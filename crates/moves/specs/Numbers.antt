@@ -5,6 +5,7 @@ use mathlib.Core.Bool.{cond}
 use lib.Dec.{ltb}
 use lib.IntN.{ℤ, pos, natAbs, _+ℤ_}
 use lib.ListN.{getD, length}
+use Rattle.gauss_law.specs.Listing.{limit}
 use Rattle.walker.specs.Steps.{FreeFit}
 
 -- n digits behind a, the last of them first
@@ -20,10 +21,10 @@ digit low free s j = natAbs (getD s (getD free j 0) (pos 0) +ℤ pos low)
 unfoldable pub number : ℕ → ℕ → List ℕ → ℕ → List ℤ → ℕ
 number L low free n s = numeral (2 * L + 1) (digit low free s) n 0
 
--- the first place from p on whose number with low added is not below high, of k places
-unfoldable pub sought : (ℕ → ℕ) → ℕ → ℕ → ℕ → ℕ → ℕ
-sought numbers low high p zero = p
-sought numbers low high p (suc k) = cond (ltb (numbers p + low) high) (sought numbers low high (p + 1) k) p
+-- the first of k places, from p on, whose number with 2^20 added is not below high
+unfoldable pub sought : (ℕ → ℕ) → ℕ → ℕ → ℕ → ℕ
+sought numbers high p zero = p
+sought numbers high p (suc k) = cond (ltb (numbers p + limit) high) (sought numbers high (p + 1) k) p
 
 -- the lower 20 bits of a word, and those of the word at a place
 unfoldable pub lower : ℕ → ℕ

@@ -12,9 +12,8 @@ ghost use lib.ListN.{getD, length, take};
 ghost use Rattle.complex.specs.Complex.{entries};
 ghost use Rattle.rows.specs.Entries.{pairs};
 ghost use Rattle.moves.specs.Numbers.{sought, number-in};
-ghost use Rattle.gauss_law.specs.Listing.{limit};
 ghost use Rattle.plaquettes.specs.Pairs.{stays, Movable};
-ghost use Rattle.moves.specs.Moves.{triangle-of, unit-of, move-in, change-in, collected, pointed, StateMoves, Pointers, MovePushed};
+ghost use Rattle.moves.specs.Moves.{tables, triangle-of, unit-of, move-in, change-in, collected, pointed, StateMoves, Pointers, MovePushed};
 
 fn opposite(unit: i32) -> i32
     requires { ⌜ natAbs unit ≤ 1 ⌝ }
@@ -23,7 +22,7 @@ fn opposite(unit: i32) -> i32
     0 - unit
 }
 
-// 1 or -1, by the number of a move.
+// -1 for a number of a move below 256, else 1.
 fn unit_of(q: usize) -> i32
     ensures { λ r. ⌜ (r ≡ unit-of q) × (natAbs r ≤ 1) ⌝ }
 {
@@ -40,14 +39,15 @@ fn goes(state: &[i32], all: &[u8; 768], key: u32, lambda: usize) -> bool
     stays(state, sides_at(all, q % 256), by, opposite(by), lambda)
 }
 
-// What the move of a key adds to the number of a state, raised by the limit.
+// What the move of a key adds to the number of a state, with 2^20 added.
 fn change_in(key: u32) -> usize
     ensures { λ r. ⌜ (r ≡ change-in key) × (r < 2 ^ 23) ⌝ }
 {
     (key / 512) as usize
 }
 
-// The place that a move leads to goes behind the first m entries with its value, where the move is taken, and its pointer behind that place.
+// The place that a move leads to goes behind the first m entries with its value, where the move is taken, and its pointer behind that place. It is
+// the place of the number high, which has 2^20 added.
 fn push_move(
     taken: bool,
     words: &[u32],
@@ -61,12 +61,12 @@ fn push_move(
     m: usize,
 ) -> usize
     requires { ⌜ (n ≤ 2 ^ 20) × (n ≤ length (now words)) × (k < length (now pointers)) × (getD (now pointers) k 0 ≤ n) × (m < length (now «row_columns»)) × (length (now «row_columns») ≡ length (now «row_values»)) ⌝ }
-    ensures { λ r. ⌜ MovePushed taken (sought (number-in (now (words .entry))) limit high (getD (now (pointers .entry)) k 0) (n - getD (now (pointers .entry)) k 0)) value n k m (now (pointers .entry)) (pairs (now («row_columns» .entry)) (now («row_values» .entry))) r (now (pointers .exit)) (pairs (now («row_columns» .exit)) (now («row_values» .exit))) ⌝ }
+    ensures { λ r. ⌜ MovePushed taken (sought (number-in (now (words .entry))) high (getD (now (pointers .entry)) k 0) (n - getD (now (pointers .entry)) k 0)) value n k m (now (pointers .entry)) (pairs (now («row_columns» .entry)) (now («row_values» .entry))) r (now (pointers .exit)) (pairs (now («row_columns» .exit)) (now («row_values» .exit))) ⌝ }
 {
     if !taken {
         return m;
     }
-    let place = seek(words, n, pointers[k], 1048576, high);
+    let place = seek(words, n, pointers[k], high);
     pointers[k] = smaller(place + 1, n);
     push_entry(row_columns, row_values, m, place as u32, value, true)
 }
@@ -88,8 +88,8 @@ pub fn collect_row(
     row_columns: &mut [u32],
     row_values: &mut [f64],
 ) -> usize
-    requires { ⌜ («n_moves» ≤ 512) × StateMoves (record { sides = now all; keys = now keys; terms = now terms }) «n_moves» lambda (now state) × Pointers n (now pointers) × (n ≤ 2 ^ 20) × (n ≤ length (now words)) × (i < 2 ^ 20) × (number < 2 ^ 20) × («n_moves» < length (now «row_columns»)) × (length (now «row_columns») ≡ length (now «row_values»)) ⌝ }
-    ensures { λ r. ⌜ (take r (pairs (now («row_columns» .exit)) (now («row_values» .exit))) ≡ collected (record { sides = now (all .entry); keys = now (keys .entry); terms = now (terms .entry) }) lambda (number-in (now (words .entry))) n (now (state .entry)) number (now (pointers .entry)) i diagonal «n_moves») × (r ≤ «n_moves» + 1) × (now (pointers .exit) ≡ pointed (record { sides = now (all .entry); keys = now (keys .entry); terms = now (terms .entry) }) lambda (number-in (now (words .entry))) n (now (state .entry)) number (now (pointers .entry)) «n_moves») ⌝ }
+    requires { ⌜ («n_moves» ≤ 512) × StateMoves (tables (now all) (now keys) (now terms)) «n_moves» lambda (now state) × Pointers n (now pointers) × (n ≤ 2 ^ 20) × (n ≤ length (now words)) × (i < 2 ^ 20) × (number < 2 ^ 20) × («n_moves» < length (now «row_columns»)) × (length (now «row_columns») ≡ length (now «row_values»)) ⌝ }
+    ensures { λ r. ⌜ (take r (pairs (now («row_columns» .exit)) (now («row_values» .exit))) ≡ collected (tables (now (all .entry)) (now (keys .entry)) (now (terms .entry))) lambda (number-in (now (words .entry))) n (now (state .entry)) number (now (pointers .entry)) i diagonal «n_moves») × (r ≤ «n_moves» + 1) × (now (pointers .exit) ≡ pointed (tables (now (all .entry)) (now (keys .entry)) (now (terms .entry))) lambda (number-in (now (words .entry))) n (now (state .entry)) number (now (pointers .entry)) «n_moves») ⌝ }
 {
     let kept = is_kept(diagonal);
     let mut m = push_entry(row_columns, row_values, 0, i as u32, diagonal, kept);

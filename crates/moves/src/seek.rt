@@ -11,13 +11,13 @@ pub fn lower(word: u32) -> usize
     (word % 1048576) as usize
 }
 
-// The first place from one on whose number with low added is not below high, or n.
-pub fn seek(words: &[u32], n: usize, from: usize, low: usize, high: usize) -> usize
-    requires { ⌜ (from ≤ n) × (n ≤ length (now words)) × (low ≤ 2 ^ 30) ⌝ }
-    ensures { λ r. ⌜ (r ≡ sought (number-in (now (words .entry))) low high from (n - from)) × (r ≤ n) ⌝ }
+// The first place from one on whose number, with 2^20 added, is not below high, or n.
+pub fn seek(words: &[u32], n: usize, from: usize, high: usize) -> usize
+    requires { ⌜ (from ≤ n) × (n ≤ length (now words)) ⌝ }
+    ensures { λ r. ⌜ (r ≡ sought (number-in (now (words .entry))) high from (n - from)) × (r ≤ n) ⌝ }
 {
     let mut place = from;
-    while place < n && lower(words[place]) + low < high {
+    while place < n && lower(words[place]) + 1048576 < high {
         place += 1;
     }
     place

@@ -1,25 +1,25 @@
 -- No two moves take a state to the same state, so as many states are joined to it as moves stay within -L to L.
-use Prim.Native.Nat.{ℕ, zero, suc, _+_, _*_, _<_, _≤_}
-use mathlib.Core.List.{List, [], _∷_, _++_}
+use Prim.Native.Nat.{ℕ, zero, suc, _+_, _*_, _/_, _%_, _<_, _≤_}
+use mathlib.Core.List.{List, [], _∷_, _++_, append-assoc, flatMap}
 use mathlib.Core.Bool.{Bool, true, false, cond}
 use mathlib.Core.Path.{_≡_, refl, sym, ap, ap₂, _∙_}
 use mathlib.Core.Logic.{_≢_, _⊎_, inl, inr}
 use native.Mathlib.Omega.{arith}
-use native.Mathlib.Decide.{ℕ-discrete}
-use borrow.Author.Tests.{eqb-true, eq-eqb}
+use borrow.Author.Tests.{eqb-true, eq-eqb, ne-eqb}
 use lib.Dec.{eqb}
 use lib.IntN.{ℤ, pos, negsuc, _+ℤ_}
 use lib.ListN.{getD, length, length-append}
 use Rattle.mathematics.specs.Tests.{some}
-use Rattle.mathematics.specs.Lists.{listed}
+use Rattle.mathematics.specs.Lists.{listed, Once}
 use Rattle.mathematics.specs.Counting.{below}
 use Rattle.mathematics.specs.Entries.{Each, none, also}
 use Rattle.mathematics.proofs.Integers.{positive, negative, integral, parts-sum, to-parts}
 use Rattle.mathematics.proofs.Tests.{same-tests}
 use Rattle.mathematics.proofs.Lists.{or-cases, or-right}
 use Rattle.mathematics.proofs.Counting.{some-at, at-some}
+use Rattle.mathematics.proofs.Flat.{flatMap-last, each-joined, member-joined, ordered-joined}
 use Rattle.mathematics.proofs.Below.{keep-count, listed-member, member-listed}
-use Rattle.mathematics.proofs.Ordered.{Member, front, Ordered, empty, before, each-to, each-append, each-member, member-left, member-right, ordered-append}
+use Rattle.mathematics.proofs.Ordered.{Member, front, Ordered, empty, before, each-to, each-member, ordered-at}
 use Rattle.complex.specs.Complex.{Complex}
 use Rattle.complex.specs.Judge.{Accepted}
 use Rattle.complex.specs.Sides.{side, EdgeOf}
@@ -48,6 +48,41 @@ step-moves (inr e) z = back-moves (sym e ∙ z)
 pub apart : pos 1 ≢ negsuc 0
 unfolding positive negative
 apart e = omega (arith, to-parts (pos 1) (negsuc 0) e)
+
+-- m moves, the one at place k that of triangle t k by u k: all moves of n triangles, each once
+pub record AllMoves (n m : ℕ) (t : ℕ → ℕ) (u : ℕ → ℤ) : Type 0 where
+  pub inside : (k : ℕ) → k < m → t k < n
+  pub step : (k : ℕ) → k < m → OneStep (u k)
+  pub once : (k j : ℕ) → k < j → j < m → t k ≡ t j → u k ≡ u j → ⊥
+  pub every : (r : ℕ) → r < n → (s : ℤ) → OneStep s → (k : ℕ) × (k < m) × (t k ≡ r) × (u k ≡ s)
+
+-- triangle by triangle, each by 1 and by -1
+pair-step : ℕ → ℤ
+pair-step k = cond (eqb (k % 2) 0) (pos 1) (negsuc 0)
+
+all-pairs : (n : ℕ) → AllMoves n (2 * n) (λ k. k / 2) pair-step
+unfolding pair-step
+all-pairs n =
+    record {
+      inside = λ k b. omega arith;
+      step = λ k b. either (eqb (k % 2) 0);
+      once = λ k j less b same. differ k j less same (k % 2) refl (omega arith) (j % 2) refl (omega arith);
+      every = every;
+    }
+  where
+    either : (b : Bool) → OneStep (cond b (pos 1) (negsuc 0))
+    either true = inl refl
+    either false = inr refl
+
+    differ : (k j : ℕ) → k < j → k / 2 ≡ j / 2 → (a : ℕ) → k % 2 ≡ a → a < 2 → (b : ℕ) → j % 2 ≡ b → b < 2 → cond (eqb a 0) (pos 1) (negsuc 0) ≡ cond (eqb b 0) (pos 1) (negsuc 0) → ⊥
+    differ k j less same zero e low zero f low′ q = omega arith
+    differ k j less same zero e low (suc b) f low′ q = let not-zero = ne-eqb (suc b) 0 (λ z. omega arith) in apart (rw not-zero at q)
+    differ k j less same (suc a) e low zero f low′ q = let not-zero = ne-eqb (suc a) 0 (λ z. omega arith) in apart (sym (rw not-zero at q))
+    differ k j less same (suc a) e low (suc b) f low′ q = omega arith
+
+    every : (r : ℕ) → r < n → (s : ℤ) → OneStep s → (k : ℕ) × (k < 2 * n) × (k / 2 ≡ r) × (cond (eqb (k % 2) 0) (pos 1) (negsuc 0) ≡ s)
+    every r b s (inl e) = let even : 2 * r % 2 ≡ 0 = omega arith in (2 * r, omega arith, omega arith, rw even (sym e))
+    every r b s (inr e) = let odd : (2 * r + 1) % 2 ≡ 1 = omega arith in (2 * r + 1, omega arith, omega arith, rw odd (sym e))
 
 module _ (c : Complex) (L : ℕ) (s : List ℤ) where
   -- two for each triangle at most
@@ -125,91 +160,119 @@ module _ (c : Complex) (accepted : Accepted c) (L : ℕ) where
       go true e = let r = joins-goes t number i i h h e in absurd (target-elsewhere c accepted L t number (r .0) (step-moves (r .1)) i h (r .2))
       go false e = refl
 
-  -- ---- the targets of one state
+  -- ---- the targets of one state, by all moves in whatever order
+  module _ (i : ℕ) (h : i < length (states c L)) (m : ℕ) (t : ℕ → ℕ) (u : ℕ → ℤ) (all : AllMoves (length (c .triangles)) m t u) where
+    abbrev N : ℕ
+    N = length (states c L)
+
+    abbrev to : ℕ → List ℕ
+    to k = arrival c L (t k) (u k) i
+
+    abbrev Goes : ℕ → ℕ → Type 0
+    Goes k x = (target c L (t k) (u k) i ≡ x) × (x < N)
+
+    arrived : (k : ℕ) → k < m → Each (Goes k) (to k)
+    unfolding arrival
+    arrived k b = go (sides-within c L (t k) (moved-state c L (t k) (u k) i)) refl
+      where
+        go : (a : Bool) → sides-within c L (t k) (moved-state c L (t k) (u k) i) ≡ a → Each (Goes k) (cond a (target c L (t k) (u k) i ∷ []) [])
+        go true e = also (refl, stays-at c accepted L (t k) (all .inside k b) (u k) i h e .below) none
+        go false e = none
+
+    from : Each (λ x. (k : ℕ) × (k < m) × Goes k x) (flatMap to (below m))
+    from = each-joined to m arrived
+
+    pub targets-below : Each (λ x. x < N) (flatMap to (below m))
+    targets-below = each-to (λ x a. a .2 .1) from
+
+    -- no state is a target twice, and none is its own
+    arrival-once : (k : ℕ) → Ordered (λ x y. x ≢ y) (to k)
+    unfolding arrival
+    arrival-once k = go (sides-within c L (t k) (moved-state c L (t k) (u k) i))
+      where
+        go : (a : Bool) → Ordered (λ x y. x ≢ y) (cond a (target c L (t k) (u k) i ∷ []) [])
+        go true = before none empty
+        go false = empty
+
+    other-target : (k j : ℕ) → k < j → j < m → (x y : ℕ) → Goes k x → Goes j y → x ≢ y
+    other-target k j less b x y g g′ e =
+        let first : k < m = omega arith in
+        let one = one-move (t k) (t j) (all .inside k first) (all .inside j b) (u k) (u j) i x h (g .1) (g .0) (g′ .0 ∙ sym e) (step-moves (all .step k first)) in
+        all .once k j less b (one .0) (one .1)
+
+    targets-once : Ordered (λ x y. x ≢ y) (flatMap to (below m))
+    targets-once =
+        ordered-joined to m (λ k b. arrival-once k)
+        (λ k j less b. each-to (λ x g. each-to (λ y g′. other-target k j less b x y g g′) (arrived j b)) (arrived k (omega arith)))
+
+    pub targets-own : Once 0 (i ∷ flatMap to (below m))
+    targets-own =
+        ordered-at 0
+        (before
+        (each-to (λ x a e. target-elsewhere c accepted L (t (a .0)) (all .inside (a .0) (a .1)) (u (a .0)) (step-moves (all .step (a .0) (a .1))) i h (a .2 .0 ∙ sym e)) from)
+        targets-once)
+
+    -- the targets are just the states that some triangle joins to i
+    arrives : (k : ℕ) → target c L (t k) (u k) i < N → Member (target c L (t k) (u k) i) (to k)
+    unfolding arrival
+    arrives k b = rw (target-stays c L (t k) (u k) i b) (front refl)
+
+    pub targets-joined : (j : ℕ) → j < N → some (λ r. joins c L r i j) (length (c .triangles)) ≡ listed eqb j (flatMap to (below m))
+    targets-joined j b = same-tests _ _ into back
+      where
+        into : some (λ r. joins c L r i j) (length (c .triangles)) ≡ true → listed eqb j (flatMap to (below m)) ≡ true
+        into e =
+            let r = some-at (λ r. joins c L r i j) (length (c .triangles)) e in
+            let g = joins-goes (r .0) (r .1) i j h b (r .2) in
+            let s = all .every (r .0) (r .1) (g .0) (g .1) in
+            let leads : target c L (t (s .0)) (u (s .0)) i ≡ j = rw (s .2, s .3) (g .2) in
+            member-listed (rw leads at (member-joined to m (s .0) (s .1) (arrives (s .0) (rw leads b))))
+
+        back : listed eqb j (flatMap to (below m)) ≡ true → some (λ r. joins c L r i j) (length (c .triangles)) ≡ true
+        back e =
+            let a = each-member from (listed-member j (flatMap to (below m)) e) in
+            at-some (λ r. joins c L r i j) (length (c .triangles)) (t (a .0)) (all .inside (a .0) (a .1)) (goes-joins (t (a .0)) (all .inside (a .0) (a .1)) i j h b (u (a .0)) (all .step (a .0) (a .1)) (a .2 .0))
+
+  -- ---- the targets triangle by triangle, each forward and then back
   module _ (i : ℕ) (h : i < length (states c L)) where
     abbrev T : ℕ
     T = length (c .triangles)
 
-    abbrev Goes : ℕ → ℤ → ℕ → Type 0
-    Goes t u x = (target c L t u i ≡ x) × (x < length (states c L))
-
-    -- x is the target of a move of one of the first m triangles
-    abbrev Arrived : ℕ → ℕ → Type 0
-    Arrived m x = (t : ℕ) × (u : ℤ) × (t < m) × OneStep u × Goes t u x
-
-    arrived : (t : ℕ) → t < T → (u : ℤ) → Each (Goes t u) (arrival c L t u i)
-    unfolding arrival
-    arrived t number u = go (sides-within c L t (moved-state c L t u i)) refl
+    by-moves : (n : ℕ) → arrivals c L i n ≡ flatMap (λ k. arrival c L (k / 2) (pair-step k) i) (below (2 * n))
+    unfolding arrivals below flatMap pair-step
+    by-moves zero = refl
+    by-moves (suc n) =
+        let e : 2 * suc n ≡ suc (suc (2 * n)) = omega arith in
+        let last = arrival c L n (negsuc 0) i in
+        let to : ℕ → List ℕ = λ k. arrival c L (k / 2) (pair-step k) i in
+        sym (ap (λ k. flatMap to (below k)) e ∙ flatMap-last to (below (suc (2 * n))) (suc (2 * n))
+        ∙ ap₂ (λ a b. a ++ b) (flatMap-last to (below (2 * n)) (2 * n)) (back-there n)
+        ∙ append-assoc (flatMap to (below (2 * n))) (to (2 * n)) last
+        ∙ ap₂ (λ a b. a ++ (b ++ last)) (sym (by-moves n)) (forward-there n))
       where
-        go : (b : Bool) → sides-within c L t (moved-state c L t u i) ≡ b → Each (Goes t u) (cond b (target c L t u i ∷ []) [])
-        go true e = also (refl, stays-at c accepted L t number u i h e .below) none
-        go false e = none
+        forward-there : (n : ℕ) → arrival c L (2 * n / 2) (pair-step (2 * n)) i ≡ arrival c L n (pos 1) i
+        forward-there n =
+            let half : 2 * n / 2 ≡ n = omega arith in
+            let even : 2 * n % 2 ≡ 0 = omega arith in
+            rw (half, even)
 
-    all-arrived : (m : ℕ) → m ≤ T → Each (Arrived m) (arrivals c L i m)
-    unfolding arrivals
-    all-arrived zero b = none
-    all-arrived (suc t) b =
-        each-append (each-to (λ x a. (a .0, a .1, omega (arith, a .2), a .3, a .4)) (all-arrived t (omega arith)))
-        (each-append
-        (each-to (λ x g. (t, pos 1, omega arith, inl refl, g)) (arrived t b (pos 1)))
-        (each-to (λ x g. (t, negsuc 0, omega arith, inr refl, g)) (arrived t b (negsuc 0))))
+        back-there : (n : ℕ) → arrival c L (suc (2 * n) / 2) (pair-step (suc (2 * n))) i ≡ arrival c L n (negsuc 0) i
+        back-there n =
+            let half : suc (2 * n) / 2 ≡ n = omega arith in
+            let odd : suc (2 * n) % 2 ≡ 1 = omega arith in
+            rw (half, odd)
 
     pub arrivals-below : Each (λ x. x < length (states c L)) (arrivals c L i T)
-    arrivals-below = each-to (λ x a. a .4 .1) (all-arrived T (omega arith))
+    arrivals-below = rw (by-moves T) (targets-below i h (2 * T) (λ k. k / 2) pair-step (all-pairs T))
 
-    -- no state is a target twice
-    only-move : (t t′ : ℕ) → t < T → t′ < T → (u u′ : ℤ) → OneStep u → (x y : ℕ) → Goes t u x → Goes t′ u′ y → x ≡ y → (t ≡ t′) × (u ≡ u′)
-    only-move t t′ number number′ u u′ one x y g g′ e = one-move t t′ number number′ u u′ i x h (g .1) (g .0) (g′ .0 ∙ sym e) (step-moves one)
+    arrivals-once : Ordered (λ x y. x ≢ y) (arrivals c L i T)
+    arrivals-once = rw (by-moves T) (targets-once i h (2 * T) (λ k. k / 2) pair-step (all-pairs T))
 
-    arrival-once : (t : ℕ) (u : ℤ) → Ordered (λ x y. x ≢ y) (arrival c L t u i)
-    unfolding arrival
-    arrival-once t u = go (sides-within c L t (moved-state c L t u i))
-      where
-        go : (b : Bool) → Ordered (λ x y. x ≢ y) (cond b (target c L t u i ∷ []) [])
-        go true = before none empty
-        go false = empty
+    pub arrivals-own : Once 0 (i ∷ arrivals c L i T)
+    arrivals-own = rw (by-moves T) (targets-own i h (2 * T) (λ k. k / 2) pair-step (all-pairs T))
 
-    arrivals-apart : (m : ℕ) → m ≤ T → Ordered (λ x y. x ≢ y) (arrivals c L i m)
-    unfolding arrivals
-    arrivals-apart zero b = empty
-    arrivals-apart (suc t) b =
-        ordered-append (arrivals-apart t (omega arith))
-        (ordered-append (arrival-once t (pos 1)) (arrival-once t (negsuc 0))
-        (each-to (λ x g. each-to (λ y g′ e. apart (only-move t t b b (pos 1) (negsuc 0) (inl refl) x y g g′ e .1)) (arrived t b (negsuc 0))) (arrived t b (pos 1))))
-        (each-to (λ x a. each-append (each-to (λ y g′. later x y a (pos 1) g′) (arrived t b (pos 1))) (each-to (λ y g′. later x y a (negsuc 0) g′) (arrived t b (negsuc 0)))) (all-arrived t (omega arith)))
-      where
-        later : (x y : ℕ) → Arrived t x → (u′ : ℤ) → Goes t u′ y → x ≢ y
-        later x y a u′ g′ e =
-            let less = a .2 in
-            let same : a .0 ≡ t = only-move (a .0) t (omega arith) b (a .1) u′ (a .3) x y (a .4) g′ e .0 in
-            omega arith
-
-    pub arrivals-once : Ordered (λ x y. x ≢ y) (arrivals c L i T)
-    arrivals-once = arrivals-apart T (omega arith)
-
-    -- every target is there
-    arrives : (t : ℕ) (u : ℤ) → target c L t u i < length (states c L) → Member (target c L t u i) (arrival c L t u i)
-    unfolding arrival
-    arrives t u k = rw (target-stays c L t u i k) (front refl)
-
-    all-arrive : (m t : ℕ) → t < m → (u : ℤ) → OneStep u → target c L t u i < length (states c L) → Member (target c L t u i) (arrivals c L i m)
-    unfolding arrivals
-    all-arrive zero t l u one k = absurd (omega arith)
-    all-arrive (suc m) t l u one k = go (ℕ-discrete t m) one (λ l. all-arrive m t l u one k)
-      where
-        go : Dec (t ≡ m) → OneStep u → (t < m → Member (target c L t u i) (arrivals c L i m))
-            → Member (target c L t u i) (arrivals c L i m ++ (arrival c L m (pos 1) i ++ arrival c L m (negsuc 0) i))
-        go (yes e) (inl f) ih = rw (e, f) (member-right (arrivals c L i m) (member-left (arrival c L m (negsuc 0) i) (arrives m (pos 1) (rw (e, f) at k))))
-        go (yes e) (inr f) ih = rw (e, f) (member-right (arrivals c L i m) (member-right (arrival c L m (pos 1) i) (arrives m (negsuc 0) (rw (e, f) at k))))
-        go (no e) f ih = member-left (arrival c L m (pos 1) i ++ arrival c L m (negsuc 0) i) (ih (omega arith))
-
-    -- the targets are just the states that some triangle joins to i
     pub arrivals-joined : (j : ℕ) → j < length (states c L) → some (λ t. joins c L t i j) T ≡ listed eqb j (arrivals c L i T)
-    arrivals-joined j k =
-        same-tests _ _
-        (λ e. let r = some-at (λ t. joins c L t i j) T e in let g = joins-goes (r .0) (r .1) i j h k (r .2) in member-listed (rw (g .2) at (all-arrive T (r .0) (r .1) (g .0) (g .1) (rw (g .2) k))))
-        (λ e. let a = each-member (all-arrived T (omega arith)) (listed-member j (arrivals c L i T) e) in
-        at-some (λ t. joins c L t i j) T (a .0) (a .2) (goes-joins (a .0) (a .2) i j h k (a .1) (a .3) (a .4 .0)))
+    arrivals-joined j b = rw (by-moves T) (targets-joined i h (2 * T) (λ k. k / 2) pair-step (all-pairs T) j b)
 
     -- ---- how many
     arrivals-staying : (m : ℕ) → length (arrivals c L i m) ≡ staying c L (getD (states c L) i []) m

@@ -5,7 +5,7 @@ use lib.ListN.{length, take}
 use Rattle.rows.specs.Entries.{pairs}
 use Rattle.rows.proofs.SortedRows.{pushed-few}
 use Rattle.moves.specs.Numbers.{number-in}
-use Rattle.moves.specs.Moves.{Moves, goes, collected, pointed, Pointers}
+use Rattle.moves.specs.Moves.{Moves, tables, goes, collected, pointed, Pointers}
 use Rattle.moves.proofs.Collecting.{pointers-same, pointed-pointers, diagonal-collected, move-collected, move-pointed}
 use borrow.Author.Needs.{needs}
 use Rattle.moves.proofs.row.collect_row.Statement.{statement}
@@ -14,8 +14,8 @@ use Rattle.moves.proofs.row.collect_row.Tie as tie
 abbrev Inv-loop : tie.InvT-loop
 Inv-loop state i diagonal lambda all keys terms n-moves words n number pointers₀ row-columns₀ row-values₀ kept m₀ k₀ pointers row-columns row-values m k =
     (k ≤ n-moves) × (length row-columns ≡ length row-columns₀) × (length row-values ≡ length row-values₀)
-    × (take m (pairs row-columns row-values) ≡ collected (record { sides = all; keys = keys; terms = terms }) lambda (number-in words) n state number pointers₀ i diagonal k)
-    × (m ≤ k + 1) × (pointers ≡ pointed (record { sides = all; keys = keys; terms = terms }) lambda (number-in words) n state number pointers₀ k)
+    × (take m (pairs row-columns row-values) ≡ collected (tables all keys terms) lambda (number-in words) n state number pointers₀ i diagonal k)
+    × (m ≤ k + 1) × (pointers ≡ pointed (tables all keys terms) lambda (number-in words) n state number pointers₀ k)
 
 abbrev μ-loop : tie.MeasureT-loop
 μ-loop state i diagonal lambda all keys terms n-moves words n number pointers₀ row-columns₀ row-values₀ kept m₀ k₀ pointers row-columns row-values m k = n-moves - k
@@ -27,7 +27,7 @@ abbrev start : Loop → tie.Start Inv-loop μ-loop
 start c = c .before .before .before .before .before .before .before .before .before .before .before .before .before
 
 abbrev tables-of : Loop → Moves
-tables-of c = let a = start c .args in record { sides = a .all .now; keys = a .keys .now; terms = a .terms .now }
+tables-of c = let a = start c .args in tables (a .all .now) (a .keys .now) (a .terms .now)
 
 -- whether the move is taken
 taken-is : (c : tie.After-goes Inv-loop μ-loop) → c .goes .result ≡ goes (tables-of (c .before .before .before)) (start (c .before .before .before) .args .lambda) (start (c .before .before .before) .args .state .now) (c .before .before .before .loop .k)
