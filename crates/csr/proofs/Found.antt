@@ -22,13 +22,9 @@ use Rattle.plaquettes.specs.Joined.{joins, arrival}
 use Rattle.plaquettes.proofs.Moves.{stays-at}
 use Rattle.plaquettes.proofs.Joined.{goes-joins, one-triangle, AllMoves, targets-below, targets-own, targets-joined}
 use Rattle.entries.specs.Rows.{diagonal, csr-row}
-use Rattle.moves.specs.Moves.{Moves, triangle-of, unit-of, move-at, entry-of}
+use Rattle.moves.specs.Moves.{Moves, triangle-at, unit-at, move-at, entry-of, moved-entries}
 use Rattle.moves.specs.Tables.{MovesWritten}
 use Rattle.moves.proofs.MoveNumbers.{unit-step, all-moves}
-
--- the entries of all moves, as they stand in the tables
-abbrev pub found : Complex → ℕ → KSParams → (ℕ → Float) → Moves → ℕ → List (ℕ × Float)
-found c L p w v i = flatMap (λ k. entry-of c L p w i (move-at v k)) (below (2 * length (c .triangles)))
 
 module _ (c : Complex) (accepted : Accepted c) (L : ℕ) (p : KSParams) (w : ℕ → Float) (free : List ℕ) (v : Moves) (written : MovesWritten c L p w free v) (i : ℕ) (h : i < length (states c L)) where
   abbrev T : ℕ
@@ -39,10 +35,10 @@ module _ (c : Complex) (accepted : Accepted c) (L : ℕ) (p : KSParams) (w : ℕ
 
   -- the triangle and the unit of the move at place k
   abbrev t : ℕ → ℕ
-  t k = triangle-of (move-at v k)
+  t = triangle-at v
 
   abbrev u : ℕ → ℤ
-  u k = unit-of (move-at v k)
+  u = unit-at v
 
   all : AllMoves T (2 * T) t u
   all = all-moves written (accepted .few-triangles)
@@ -59,7 +55,7 @@ module _ (c : Complex) (accepted : Accepted c) (L : ℕ) (p : KSParams) (w : ℕ
       go true = refl
       go false = refl
 
-  columns : map (λ e. e .0) (found c L p w v i) ≡ targets
+  columns : map (λ e. e .0) (moved-entries c L p w v i (2 * T)) ≡ targets
   columns =
       map-flatMap (λ (e : ℕ × Float). e .0) (λ k. entry-of c L p w i (move-at v k)) (below (2 * T))
       ∙ flatMap-same (λ k. map (λ (e : ℕ × Float). e .0) (entry-of c L p w i (move-at v k))) (λ k. arrival c L (t k) (u k) i) (below (2 * T)) column
@@ -78,14 +74,14 @@ module _ (c : Complex) (accepted : Accepted c) (L : ℕ) (p : KSParams) (w : ℕ
           also (t k, number, goes-joins c accepted L (t k) number i (target c L (t k) (u k) i) h (stays-at c accepted L (t k) number (u k) i h e .below) (u k) (unit-step (move-at v k)) refl, refl) none
       go false e = none
 
-  right : Each Right (found c L p w v i)
+  right : Each Right (moved-entries c L p w v i (2 * T))
   right = each-to (λ e a. a .2) (each-joined (λ k. entry-of c L p w i (move-at v k)) {P = λ k. Right} (2 * T) entry-right)
 
   -- ---- behind the diagonal their columns differ, and sorted they are row i
-  pub found-row : ColumnsDiffer (diagonal-first i (diagonal p (getD (states c L) i [])) (found c L p w v i)) × Sorted (diagonal-first i (diagonal p (getD (states c L) i [])) (found c L p w v i)) (csr-row c L p w i)
+  pub found-row : ColumnsDiffer (diagonal-first i (diagonal p (getD (states c L) i [])) (moved-entries c L p w v i (2 * T))) × Sorted (diagonal-first i (diagonal p (getD (states c L) i [])) (moved-entries c L p w v i (2 * T))) (csr-row c L p w i)
   unfolding csr-row
   found-row =
       entries-row (diagonal p (getD (states c L) i [])) (λ t j. joins c L t i j) (λ t. row-plaquette-term p (w t)) T N i h
       targets (targets-own c accepted L i h (2 * T) t u all) (targets-below c accepted L i h (2 * T) t u all) (targets-joined c accepted L i h (2 * T) t u all)
       (λ t u j number number′ k one other. one-triangle c accepted L t u number number′ i j h k one other)
-      (found c L p w v i) columns right
+      (moved-entries c L p w v i (2 * T)) columns right

@@ -1,6 +1,6 @@
 -- The walk over the states finds the entries of each row, and so its rows are the rows.
 use Prim.Native.Nat.{ℕ, zero, suc, _+_, _*_, _<_, _≤_}
-use mathlib.Core.List.{List, [], _∷_, flatMap}
+use mathlib.Core.List.{List, [], _∷_}
 use mathlib.Core.Path.{_≡_, sym, ap, ap₂, _∙_}
 use native.Mathlib.Omega.{arith}
 use lib.IntN.{ℤ}
@@ -15,19 +15,16 @@ use Rattle.matrices.specs.Squares.{squares, energy}
 use Rattle.rows.specs.Row.{diagonal-first, ColumnsDiffer}
 use Rattle.rows.specs.RowLists.{SortedRows}
 use Rattle.plaquettes.proofs.TriangleTelling.{state-there}
-use Rattle.moves.specs.Moves.{collected, pointed, triangle-of, move-at, entry-of, MoveAt, Behind, Pointers, StateMoves}
+use Rattle.moves.specs.Moves.{collected, pointed, triangle-at, moved-entries, MoveAt, Behind, Pointers, StateMoves}
 use Rattle.moves.proofs.Arriving.{behind-next, collected-told}
 use Rattle.entries.specs.Rows.{diagonal, csr-row}
 use Rattle.csr.specs.Fill.{Walk, entries-from, pointers-after, pointers-at, walk-entries, Walking, WalkOf}
-use Rattle.csr.proofs.Found.{found, found-row}
+use Rattle.csr.proofs.Found.{found-row}
 use Rattle.csr.proofs.Filling.{walk-pointers}
 
 module _ {c : Complex} {L : ℕ} {p : KSParams} {w : ℕ → Float} {free : List ℕ} {v : Walk} (is : WalkOf c L p w free v) where
   abbrev N : ℕ
   N = length (states c L)
-
-  abbrev T : ℕ
-  T = length (c .triangles)
 
   move-there : (k : ℕ) → k < v .count → MoveAt c L p w free (v .moves) k
   move-there k h = is .moves-are .each k (rw (← (is .count)) h)
@@ -43,12 +40,12 @@ module _ {c : Complex} {L : ℕ} {p : KSParams} {w : ℕ → Float} {free : List
         (behind-next c (is .accepted) L p w free (is .listed) (is .candidates) (v .moves) (is .moves-are .sides-are) (v .count) move-there (v .numbers) (is .numbers-are) pointers i h behind (rw n-is at right) moves-few)
 
     -- and the entries of row i are found
-    found-here : (x : Float) → x ≡ energy (p .electric) (squares (getD (states c L) i [])) → collected (v .moves) truncation (v .numbers) n s (v .numbers i) pointers i x (v .count) ≡ diagonal-first i (diagonal p (getD (states c L) i [])) (found c L p w (v .moves) i)
+    found-here : (x : Float) → x ≡ energy (p .electric) (squares (getD (states c L) i [])) → collected (v .moves) truncation (v .numbers) n s (v .numbers i) pointers i x (v .count) ≡ diagonal-first i (diagonal p (getD (states c L) i [])) (moved-entries c L p w (v .moves) i (2 * length (c .triangles)))
     unfolding diagonal
     found-here x x-is =
         rw (truncation-is, n-is, s-is, x-is)
         (collected-told c (is .accepted) L p w free (is .listed) (is .candidates) (v .moves) (is .moves-are .sides-are) (v .count) move-there (v .numbers) (is .numbers-are) pointers i h behind (energy (p .electric) (squares (getD (states c L) i []))) (v .count) (omega arith)
-        ∙ ap (λ n. diagonal-first i (diagonal p (getD (states c L) i [])) (flatMap (λ k. entry-of c L p w i (move-at (v .moves) k)) (below n))) (is .count))
+        ∙ ap (λ n. diagonal-first i (diagonal p (getD (states c L) i [])) (moved-entries c L p w (v .moves) i n)) (is .count))
 
   -- the pointers before row i are behind the targets from there on
   behind-at : (i : ℕ) → i ≤ N → Behind c L (v .moves) (v .count) (pointers-at v i) i
@@ -58,7 +55,7 @@ module _ {c : Complex} {L : ℕ} {p : KSParams} {w : ℕ → Float} {free : List
       let next = behind-after i h (pointers-at v i) (behind-at i (omega arith)) (v .truncation) (v .states) (v .state i) (is .truncation) (is .count-states) (is .state-is i h) (walk-pointers v i) in
       λ k small j low below. next k small j (omega arith) below
 
-  entries-told : (i : ℕ) → i < N → walk-entries v i ≡ diagonal-first i (diagonal p (getD (states c L) i [])) (found c L p w (v .moves) i)
+  entries-told : (i : ℕ) → i < N → walk-entries v i ≡ diagonal-first i (diagonal p (getD (states c L) i [])) (moved-entries c L p w (v .moves) i (2 * length (c .triangles)))
   unfolding walk-entries entries-from
   entries-told i h =
       found-here i h (pointers-at v i) (behind-at i (omega arith)) (v .truncation) (v .states) (v .state i) (is .truncation) (is .count-states) (is .state-is i h) (energy (v .electric) (squares (v .state i)))
@@ -87,7 +84,7 @@ module _ {c : Complex} {L : ℕ} {p : KSParams} {w : ℕ → Float} {free : List
             truncation = is .small;
             movable = λ k small.
                 let move = move-there k small in
-                let ends = triangle-sides c (is .accepted) (triangle-of (move-at (v .moves) k)) (move .inside) in
-                let edges : entries (v .moves .sides) (3 * triangle-of (move-at (v .moves) k)) 3 ≡ ends .i ∷ ends .j ∷ ends .k ∷ [] = sym (is .moves-are .sides-are .are _ (move .inside)) ∙ ends .numbers in
+                let ends = triangle-sides c (is .accepted) (triangle-at (v .moves) k) (move .inside) in
+                let edges : entries (v .moves .sides) (3 * triangle-at (v .moves) k) 3 ≡ ends .i ∷ ends .j ∷ ends .k ∷ [] = sym (is .moves-are .sides-are .are _ (move .inside)) ∙ ends .numbers in
                 rw edges (record { small = λ e b. let t = state .within e (rw (← (state .sized)) b) in omega (arith, t, is .small); first-below = rw (state .sized) (ends .i-below); second-below = rw (state .sized) (ends .j-below); third-below = rw (state .sized) (ends .k-below) });
           })

@@ -22,7 +22,7 @@ use Rattle.plaquettes.proofs.TriangleTelling.{state-there}
 use Rattle.plaquettes.proofs.Moves.{stays-at, target-rises}
 use Rattle.plaquettes.proofs.Pairing.{stays-told}
 use Rattle.moves.specs.Numbers.{number}
-use Rattle.moves.specs.Moves.{Moves, goes, arrives, collected, pointed, entry-of, unit-of, rest-number, shift-number, triangle-of, move-at, change-in, change-of, MoveAt, Behind, Pointers}
+use Rattle.moves.specs.Moves.{Moves, triangle-at, unit-at, moved-entries, goes, arrives, collected, pointed, entry-of, unit-of, rest-number, shift-number, move-at, change-in, change-of, MoveAt, Behind, Pointers}
 use Rattle.moves.proofs.Seeking.{sought-found}
 use Rattle.moves.proofs.Numbers.{number-rises, rest-few, shift-few, forward-number, back-number}
 use Rattle.moves.proofs.MoveNumbers.{move-low, key-change}
@@ -40,10 +40,10 @@ module _ (c : Complex) (accepted : Accepted c) (L : ℕ) (p : KSParams) (w : ℕ
 
   module _ (k : ℕ) (small : k < moves) where
     abbrev t : ℕ
-    t = triangle-of (move-at v k)
+    t = triangle-at v k
 
     abbrev u : ℤ
-    u = unit-of (move-at v k)
+    u = unit-at v k
 
     number-of : t < length (c .triangles)
     number-of = is k small .inside
@@ -79,11 +79,11 @@ module _ (c : Complex) (accepted : Accepted c) (L : ℕ) (p : KSParams) (w : ℕ
 
   one : (k : ℕ) → k < moves → cond {A = List (ℕ × Float)} (goes v L state k) ((arrives v numbers N (numbers i) pointers k, getD (v .terms) k nan) ∷ []) [] ≡ entry-of c L p w i (move-at v k)
   unfolding entry-of
-  one k small = rw (goes-told k small, is k small .term-is) (go (sides-within c L (triangle-of (move-at v k)) (moved-state c L (triangle-of (move-at v k)) (unit-of (move-at v k)) i)) refl)
+  one k small = rw (goes-told k small, is k small .term-is) (go (sides-within c L (triangle-at v k) (moved-state c L (triangle-at v k) (unit-at v k) i)) refl)
     where
-      go : (b : Bool) → sides-within c L (triangle-of (move-at v k)) (moved-state c L (triangle-of (move-at v k)) (unit-of (move-at v k)) i) ≡ b
-          → cond {A = List (ℕ × Float)} b ((arrives v numbers N (numbers i) pointers k, row-plaquette-term p (w (triangle-of (move-at v k)))) ∷ []) [] ≡ cond {A = List (ℕ × Float)} b ((target c L (triangle-of (move-at v k)) (unit-of (move-at v k)) i, row-plaquette-term p (w (triangle-of (move-at v k)))) ∷ []) []
-      go true e = ap (λ j. (j, row-plaquette-term p (w (triangle-of (move-at v k)))) ∷ []) (arrives-told k small e)
+      go : (b : Bool) → sides-within c L (triangle-at v k) (moved-state c L (triangle-at v k) (unit-at v k) i) ≡ b
+          → cond {A = List (ℕ × Float)} b ((arrives v numbers N (numbers i) pointers k, row-plaquette-term p (w (triangle-at v k))) ∷ []) [] ≡ cond {A = List (ℕ × Float)} b ((target c L (triangle-at v k) (unit-at v k) i, row-plaquette-term p (w (triangle-at v k))) ∷ []) []
+      go true e = ap (λ j. (j, row-plaquette-term p (w (triangle-at v k))) ∷ []) (arrives-told k small e)
       go false e = refl
 
   -- the pointers stay behind the targets of the next state
@@ -91,19 +91,19 @@ module _ (c : Complex) (accepted : Accepted c) (L : ℕ) (p : KSParams) (w : ℕ
   behind-next right few k small j later below =
       rw (pointed-at v L numbers N state (numbers i) pointers moves k small (omega (arith, right .long))) (go (goes v L state k) refl)
     where
-      go : (b : Bool) → goes v L state k ≡ b → cond b (min (arrives v numbers N (numbers i) pointers k + 1) N) (getD pointers k 0) ≤ target c L (triangle-of (move-at v k)) (unit-of (move-at v k)) j
+      go : (b : Bool) → goes v L state k ≡ b → cond b (min (arrives v numbers N (numbers i) pointers k + 1) N) (getD pointers k 0) ≤ target c L (triangle-at v k) (unit-at v k) j
       go true e =
           let band = sym (goes-told k small) ∙ e in
-          let there = stays-at c accepted L (triangle-of (move-at v k)) (is k small .inside) (unit-of (move-at v k)) i h band .below in
-          let rise = target-rises c accepted L (triangle-of (move-at v k)) (is k small .inside) (unit-of (move-at v k)) i j (omega arith) below there in
+          let there = stays-at c accepted L (triangle-at v k) (is k small .inside) (unit-at v k) i h band .below in
+          let rise = target-rises c accepted L (triangle-at v k) (is k small .inside) (unit-at v k) i j (omega arith) below there in
           omega (arith, arrives-told k small band, rise)
       go false e = behind k small j (omega arith) below
 
   -- what is collected: x where it is kept, then the entries of the moves in the order of the tables
-  pub collected-told : (x : Float) (m : ℕ) → m ≤ moves → collected v L numbers N state (numbers i) pointers i x m ≡ cond (kept x) ((i, x) ∷ []) [] ++ flatMap (λ k. entry-of c L p w i (move-at v k)) (below m)
+  pub collected-told : (x : Float) (m : ℕ) → m ≤ moves → collected v L numbers N state (numbers i) pointers i x m ≡ cond (kept x) ((i, x) ∷ []) [] ++ moved-entries c L p w v i m
   unfolding collected below flatMap
   collected-told x zero few = sym (append-nil (cond (kept x) ((i, x) ∷ []) []))
   collected-told x (suc k) few =
       ap₂ (λ a b. a ++ b) (collected-told x k (omega arith)) (one k few)
-      ∙ append-assoc (cond (kept x) ((i, x) ∷ []) []) (flatMap (λ k. entry-of c L p w i (move-at v k)) (below k)) (entry-of c L p w i (move-at v k))
+      ∙ append-assoc (cond (kept x) ((i, x) ∷ []) []) (moved-entries c L p w v i k) (entry-of c L p w i (move-at v k))
       ∙ ap (λ l. cond (kept x) ((i, x) ∷ []) [] ++ l) (sym (flatMap-last (λ k. entry-of c L p w i (move-at v k)) (below k) k))

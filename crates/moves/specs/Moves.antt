@@ -1,12 +1,13 @@
 -- The moves of all triangles in tables, and what they make of a row.
 use Prim.Native.Nat.{ℕ, zero, suc, _+_, _*_, _-_, _/_, _%_, _<_, _≤_, min}
-use mathlib.Core.List.{List, [], _∷_, _++_}
+use mathlib.Core.List.{List, [], _∷_, _++_, flatMap}
 use mathlib.Core.Bool.{Bool, cond}
 use mathlib.Core.Path.{_≡_}
 use lib.Dec.{ltb}
 use lib.IntN.{ℤ, pos, negsuc}
 use lib.Ieee.{Float, nan}
 use lib.ListN.{getD, length, set, take, replicate}
+use Rattle.mathematics.specs.Counting.{below}
 use Rattle.complex.specs.Complex.{Complex, entries}
 use Rattle.gauss_law.specs.Listing.{free-edges, states, limit}
 use Rattle.gauss_law.specs.Shifts.{triangle-move}
@@ -41,13 +42,23 @@ move-in key = key % 512
 unfoldable pub change-in : ℕ → ℕ
 change-in key = key / 512
 
--- the number of the move at place k
+-- that of move q, which adds `to` less `from`
+abbrev pub key : ℕ → ℕ → ℕ → ℕ
+key from to q = 512 * (limit + to - from) + q
+
+-- the number of the move at place k, its triangle and its unit
 abbrev pub move-at : Moves → ℕ → ℕ
 move-at v k = move-in (getD (v .keys) k 0)
 
+abbrev pub triangle-at : Moves → ℕ → ℕ
+triangle-at v k = triangle-of (move-at v k)
+
+abbrev pub unit-at : Moves → ℕ → ℤ
+unit-at v k = unit-of (move-at v k)
+
 -- the move at place k keeps the three values of a state within -L to L
 unfoldable pub goes : Moves → ℕ → List ℤ → ℕ → Bool
-goes v L s k = stays L s (entries (v .sides) (3 * triangle-of (move-at v k)) 3) (unit-of (move-at v k))
+goes v L s k = stays L s (entries (v .sides) (3 * triangle-at v k) 3) (unit-at v k)
 
 -- The n states have numbers that rise. Where the move at place k takes the state with number a: sought from the pointer of the move on.
 unfoldable pub arrives : Moves → (ℕ → ℕ) → ℕ → ℕ → List ℕ → ℕ → ℕ
@@ -88,25 +99,29 @@ key-of c L free q = 512 * change-of c L free q + q
 
 -- the key and the value at place k are those of a move of the complex
 pub record MoveAt (c : Complex) (L : ℕ) (p : KSParams) (w : ℕ → Float) (free : List ℕ) (v : Moves) (k : ℕ) : Type 0 where
-  pub inside : triangle-of (move-at v k) < length (c .triangles)
+  pub inside : triangle-at v k < length (c .triangles)
   pub key-is : getD (v .keys) k 0 ≡ key-of c L free (move-at v k)
-  pub term-is : getD (v .terms) k nan ≡ row-plaquette-term p (w (triangle-of (move-at v k)))
+  pub term-is : getD (v .terms) k nan ≡ row-plaquette-term p (w (triangle-at v k))
 
 -- what move q gives row i: its target and its value, and nothing where an edge leaves -L to L
 unfoldable pub entry-of : Complex → ℕ → KSParams → (ℕ → Float) → ℕ → ℕ → List (ℕ × Float)
 entry-of c L p w i q =
     cond (sides-within c L (triangle-of q) (moved-state c L (triangle-of q) (unit-of q) i)) ((target c L (triangle-of q) (unit-of q) i, row-plaquette-term p (w (triangle-of q))) ∷ []) []
 
+-- what the first m moves in the tables give it
+abbrev pub moved-entries : Complex → ℕ → KSParams → (ℕ → Float) → Moves → ℕ → ℕ → List (ℕ × Float)
+moved-entries c L p w v i m = flatMap (λ k. entry-of c L p w i (move-at v k)) (below m)
+
 -- no target of state i or of a later one is before the pointer of its move
 abbrev pub Behind : Complex → ℕ → Moves → ℕ → List ℕ → ℕ → Type 0
-Behind c L v moves pointers i =
-    (k : ℕ) → k < moves → (j : ℕ) → i ≤ j → j < length (states c L) → getD pointers k 0 ≤ target c L (triangle-of (move-at v k)) (unit-of (move-at v k)) j
+Behind c L v count pointers i =
+    (k : ℕ) → k < count → (j : ℕ) → i ≤ j → j < length (states c L) → getD pointers k 0 ≤ target c L (triangle-at v k) (unit-at v k) j
 
 -- ---- what the code asks
 -- a state whose three values each move can change
-pub record StateMoves (v : Moves) (moves L : ℕ) (s : List ℤ) : Type 0 where
+pub record StateMoves (v : Moves) (count L : ℕ) (s : List ℤ) : Type 0 where
   pub truncation : L ≤ 1000
-  pub movable : (k : ℕ) → k < moves → Movable s (entries (v .sides) (3 * triangle-of (move-at v k)) 3)
+  pub movable : (k : ℕ) → k < count → Movable s (entries (v .sides) (3 * triangle-at v k) 3)
 
 -- a pointer for each move, none of them past n places
 pub record Pointers (n : ℕ) (pointers : List ℕ) : Type 0 where

@@ -21,10 +21,10 @@ digit low free s j = natAbs (getD s (getD free j 0) (pos 0) +ℤ pos low)
 unfoldable pub number : ℕ → ℕ → List ℕ → ℕ → List ℤ → ℕ
 number L low free n s = numeral (2 * L + 1) (digit low free s) n 0
 
--- the first of k places, from p on, whose number with 2^20 added is not below high
+-- the first of k places, from p on, whose number with 2^20 added is not below the wanted one, else the place behind them
 unfoldable pub sought : (ℕ → ℕ) → ℕ → ℕ → ℕ → ℕ
-sought numbers high p zero = p
-sought numbers high p (suc k) = cond (ltb (numbers p + limit) high) (sought numbers high (p + 1) k) p
+sought numbers wanted p zero = p
+sought numbers wanted p (suc k) = cond (ltb (numbers p + limit) wanted) (sought numbers wanted (p + 1) k) p
 
 -- the lower 20 bits of a word, and those of the word at a place
 unfoldable pub lower : ℕ → ℕ

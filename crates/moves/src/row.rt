@@ -22,7 +22,7 @@ fn opposite(unit: i32) -> i32
     0 - unit
 }
 
-// -1 for a number of a move below 256, else 1.
+// The unit of move q: -1 where q is below 256, else 1.
 fn unit_of(q: usize) -> i32
     ensures { λ r. ⌜ (r ≡ unit-of q) × (natAbs r ≤ 1) ⌝ }
 {
@@ -46,13 +46,13 @@ fn change_in(key: u32) -> usize
     (key / 512) as usize
 }
 
-// The place that a move leads to goes behind the first m entries with its value, where the move is taken, and its pointer behind that place. It is
-// the place of the number high, which has 2^20 added.
+// The place that a move leads to goes behind the first m entries with its value, where the move is taken, and its pointer behind that place.
+// `wanted` is the number of that place, with 2^20 added.
 fn push_move(
     taken: bool,
     words: &[u32],
     n: usize,
-    high: usize,
+    wanted: usize,
     k: usize,
     value: f64,
     pointers: &mut [usize],
@@ -61,12 +61,12 @@ fn push_move(
     m: usize,
 ) -> usize
     requires { ⌜ (n ≤ 2 ^ 20) × (n ≤ length (now words)) × (k < length (now pointers)) × (getD (now pointers) k 0 ≤ n) × (m < length (now «row_columns»)) × (length (now «row_columns») ≡ length (now «row_values»)) ⌝ }
-    ensures { λ r. ⌜ MovePushed taken (sought (number-in (now (words .entry))) high (getD (now (pointers .entry)) k 0) (n - getD (now (pointers .entry)) k 0)) value n k m (now (pointers .entry)) (pairs (now («row_columns» .entry)) (now («row_values» .entry))) r (now (pointers .exit)) (pairs (now («row_columns» .exit)) (now («row_values» .exit))) ⌝ }
+    ensures { λ r. ⌜ MovePushed taken (sought (number-in (now (words .entry))) wanted (getD (now (pointers .entry)) k 0) (n - getD (now (pointers .entry)) k 0)) value n k m (now (pointers .entry)) (pairs (now («row_columns» .entry)) (now («row_values» .entry))) r (now (pointers .exit)) (pairs (now («row_columns» .exit)) (now («row_values» .exit))) ⌝ }
 {
     if !taken {
         return m;
     }
-    let place = seek(words, n, pointers[k], high);
+    let place = seek(words, n, pointers[k], wanted);
     pointers[k] = smaller(place + 1, n);
     push_entry(row_columns, row_values, m, place as u32, value, true)
 }

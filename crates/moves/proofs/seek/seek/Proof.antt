@@ -9,10 +9,10 @@ use Rattle.moves.proofs.seek.seek.Statement.{statement}
 use Rattle.moves.proofs.seek.seek.Tie as tie
 
 abbrev Inv-loop : tie.InvT-loop
-Inv-loop words n from high place₀ place = (place ≤ n) × (sought (number-in words) high place (n - place) ≡ sought (number-in words) high from (n - from))
+Inv-loop words n from wanted place₀ place = (place ≤ n) × (sought (number-in words) wanted place (n - place) ≡ sought (number-in words) wanted from (n - from))
 
 abbrev μ-loop : tie.MeasureT-loop
-μ-loop words n from high place₀ place = n - place
+μ-loop words n from wanted place₀ place = n - place
 
 loop-holds : tie.Need-loop-holds Inv-loop μ-loop
 loop-holds c = (c .before .pre .0, refl)
@@ -40,23 +40,23 @@ loop-again c =
     let at-loop = c .before .before .before .before in
     let s = at-loop .before .before .args in
     let inside : at-loop .loop .place < s .n = omega arith in
-    let less : number-in (s .words .now) (at-loop .loop .place) + 1048576 < s .high = omega (arith, c .before .lower .ensures .0, ltb-true (c .before .lower .result + 1048576) (s .high) (c .if1 .taken)) in
-    (omega arith, sym (sought-next (number-in (s .words .now)) (s .high) (at-loop .loop .place) (s .n) inside less) ∙ at-loop .loop .inv .1)
+    let less : number-in (s .words .now) (at-loop .loop .place) + 1048576 < s .wanted = omega (arith, c .before .lower .ensures .0, ltb-true (c .before .lower .result + 1048576) (s .wanted) (c .if1 .taken)) in
+    (omega arith, sym (sought-next (number-in (s .words .now)) (s .wanted) (at-loop .loop .place) (s .n) inside less) ∙ at-loop .loop .inv .1)
 
 returns : tie.Need-returns Inv-loop μ-loop
 returns c =
     let at-loop = c .before .before .before .before in
     let s = at-loop .before .before .args in
     let inside : at-loop .loop .place < s .n = omega arith in
-    let not-less : s .high ≤ number-in (s .words .now) (at-loop .loop .place) + 1048576 = omega (arith, c .before .lower .ensures .0, ltb-false (c .before .lower .result + 1048576) (s .high) (c .if1 .left)) in
-    (sym (sought-here (number-in (s .words .now)) (s .high) (at-loop .loop .place) (s .n) inside not-less) ∙ at-loop .loop .inv .1, at-loop .loop .inv .0)
+    let not-less : s .wanted ≤ number-in (s .words .now) (at-loop .loop .place) + 1048576 = omega (arith, c .before .lower .ensures .0, ltb-false (c .before .lower .result + 1048576) (s .wanted) (c .if1 .left)) in
+    (sym (sought-here (number-in (s .words .now)) (s .wanted) (at-loop .loop .place) (s .n) inside not-less) ∙ at-loop .loop .inv .1, at-loop .loop .inv .0)
 
 returns-2 : tie.Need-returns-2 Inv-loop μ-loop
 returns-2 c =
     let at-loop = c .before in
     let s = at-loop .before .before .args in
     let past : s .n ≤ at-loop .loop .place = omega arith in
-    (sym (sought-end (number-in (s .words .now)) (s .high) (at-loop .loop .place) (s .n) past) ∙ at-loop .loop .inv .1, at-loop .loop .inv .0)
+    (sym (sought-end (number-in (s .words .now)) (s .wanted) (at-loop .loop .place) (s .n) past) ∙ at-loop .loop .inv .1, at-loop .loop .inv .0)
 
 pub seek-spec : {M : Type 1} → statement M
 seek-spec =
