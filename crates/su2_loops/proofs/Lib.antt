@@ -1,3 +1,4 @@
 pub mod Shared
 pub mod Judging
+pub mod Parity
 pub mod Examples

@@ -8,12 +8,15 @@ use su2_even_sets::closing_loops;
 use su2_masks::write_masks;
 ghost use mathlib.Core.Path.{_≡_};
 ghost use Prim.Native.Nat.{ℕ, _<_, _≤_};
+ghost use lib.Ieee.{binary64, neg, ofInt};
 ghost use lib.ListN.{getD, length};
 ghost use Rattle.mathematics.specs.Refusals.{first};
 ghost use Rattle.mathematics.specs.Calls.{Answered};
 ghost use Rattle.answers.specs.Expectation.{expectationAnswer};
 ghost use Rattle.complex.specs.Complex.{complexOf};
-ghost use Rattle.su2_loops.specs.Loop.{sign-of, path-right, loop-tests, su2-loop-call, path-mask, mask-sum};
+ghost use Rattle.matrices.specs.Coupling.{float-of};
+ghost use Rattle.su2_loops.specs.Loop.{path-right, loop-tests, su2-loop-call, path-mask, mask-sum};
+ghost use Rattle.su2_loops.specs.Parity.{parity-sign, ExactlyWhereOdd};
 
 // Whether every edge that the path names is below n.
 fn path_right(path: &[u8], n: usize) -> bool
@@ -54,11 +57,13 @@ fn path_mask(path: &[u8]) -> u64
     mask
 }
 
-// 1 for an even count, -1 for an odd one.
-fn sign_of(count: usize) -> f64
-    ensures { λ r. ⌜ r ≡ sign-of count ⌝ }
+// The sign of a count as on the lecture slide: 1 minus twice the remainder by two, on whole numbers and without a branch, then as a float.
+fn sign_of(count: u32) -> f64
+    ensures { λ r. ⌜ r ≡ ofInt binary64 (parity-sign count) ⌝ }
+    ensures { λ r. ⌜ ExactlyWhereOdd count (neg (float-of 1)) (float-of 1) r ⌝ }
 {
-    if count % 2 == 0 { 1.0 } else { -1.0 }
+    let remainder = (count % 2) as i32;
+    (1 - 2 * remainder) as f64
 }
 
 // The squares of the first n amplitudes, each with the sign of how many edges its state shares with a mask.
@@ -69,7 +74,7 @@ fn mask_sum(n: usize, vector: &[f64], states: &[u64], mask: u64) -> f64
     let mut sum = 0.0;
     for i in 0..n {
         let amplitude = vector[i];
-        let sign = sign_of(u64::count_ones(states[i] & mask) as usize);
+        let sign = sign_of(u64::count_ones(states[i] & mask));
         sum = sum + amplitude * amplitude * sign;
     }
     sum

@@ -1,13 +1,11 @@
 use Prim.Native.Nat.{_-_, _≤_}
 use mathlib.Core.Path.{_≡_, sym, ap₂, _∙_}
-use native.Mathlib.Nat.{lt-of-le-of-lt}
 use native.Mathlib.Omega.{arith}
-use lib.Bits.{bitAnd, and-le-r}
-use lib.Count.{ones-le}
 use lib.Ieee.{binary64, nan, add, mul}
-use lib.ListN.{length, getD}
+use lib.ListN.{getD}
 use Rattle.matrices.proofs.Literals.{zero}
 use Rattle.su2_loops.specs.Loop.{mask-sum}
+use Rattle.su2_loops.proofs.Parity.{parity-sign-is}
 use Rattle.su2_loops.proofs.Shared.{sum-more}
 use borrow.Author.Needs.{needs}
 use Rattle.su2_loops.proofs.mask_sum.Statement.{statement}
@@ -35,13 +33,6 @@ mul-sign-of c = search needs
 shared-slice-read-sign-of : tie.Need-shared-slice-read-sign-of Inv-loop μ-loop
 shared-slice-read-sign-of c = search needs
 
-cast-sign-of : tie.Need-cast-sign-of Inv-loop μ-loop
-cast-sign-of c =
-    let start = c .before .before .before .before .before .before in
-    let shared = bitAnd (getD (start .args .states .now) (c .before .before .before .loop .i) 0) (start .args .mask) in
-    let few = ones-le 64 shared (lt-of-le-of-lt (and-le-r (getD (start .args .states .now) (c .before .before .before .loop .i) 0) (start .args .mask)) (start .fits .mask .fits)) in
-    search needs
-
 sign-of-requires : tie.Need-sign-of-requires Inv-loop μ-loop
 sign-of-requires c κs = search needs
 
@@ -57,7 +48,7 @@ loop-again c =
     let a = at-loop .before .before .before .args in
     let i = at-loop .loop .i in (
       omega arith,
-      ap₂ (λ x y. add binary64 x (mul binary64 (mul binary64 (getD (a .vector .now) i nan) (getD (a .vector .now) i nan)) y)) (at-loop .loop .inv .1) (c .sign-of .ensures)
+      ap₂ (λ x y. add binary64 x (mul binary64 (mul binary64 (getD (a .vector .now) i nan) (getD (a .vector .now) i nan)) y)) (at-loop .loop .inv .1) (c .sign-of .ensures .0 ∙ parity-sign-is _ .float)
           ∙ sym (sum-more (a .vector .now) (a .states .now) (a .mask) i),
     )
 
@@ -78,7 +69,6 @@ mask-sum-spec =
     shared-slice-read-amplitude
     mul-sign-of
     shared-slice-read-sign-of
-    cast-sign-of
     sign-of-requires
     add-i
     loop-less

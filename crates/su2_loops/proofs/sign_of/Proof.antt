@@ -1,20 +1,30 @@
-use mathlib.Core.Path.{_≡_, ap}
-use borrow.Author.Tests.{eq-eqb, ne-eqb}
-use lib.Ieee.{neg}
-use Rattle.matrices.proofs.Literals.{one}
-use Rattle.su2_loops.specs.Loop.{sign-of}
+use mathlib.Core.Logic.{⊎-elim}
+use mathlib.Core.Path.{refl}
+use mir.Facts.{sfits-lit}
+use Rattle.su2_loops.specs.Parity.{parity-sign}
+use Rattle.su2_loops.proofs.Parity.{remainder-is, sign-told}
 use borrow.Author.Needs.{needs}
 use Rattle.su2_loops.proofs.sign_of.Statement.{statement}
 use Rattle.su2_loops.proofs.sign_of.Tie as tie
 
-returns : tie.Need-returns
-unfolding sign-of
-returns c = rw (eq-eqb _ _ (c .if1 .taken)) one
+cast-remainder : tie.Need-cast-remainder
+cast-remainder c = search needs
 
-returns-2 : tie.Need-returns-2
-unfolding sign-of
-returns-2 c = rw (ne-eqb _ _ (c .if1 .left)) (ap neg one)
+-- the remainder is 0 or 1; either way the numbers are known, and fit
+mul-result : tie.Need-mul-result
+mul-result c = ⊎-elim (λ h. rw h (sfits-lit tt)) (λ h. rw h (sfits-lit tt)) (remainder-is (c .args .count))
+
+sub-result : tie.Need-sub-result
+sub-result c = ⊎-elim (λ h. rw h (sfits-lit tt)) (λ h. rw h (sfits-lit tt)) (remainder-is (c .args .count))
+
+int-to-float-result : tie.Need-int-to-float-result
+int-to-float-result c = search needs
+
+returns : tie.Need-returns
+unfolding parity-sign
+returns c =
+    let n = c .before .args .count in
+    sign-told n _ (⊎-elim (λ h. rw h refl) (λ h. rw h refl) (remainder-is n))
 
 pub sign-of-spec : {M : Type 1} → statement M
-sign-of-spec =
-    tie.close (tie.spec returns returns-2)
+sign-of-spec = tie.close (tie.spec cast-remainder mul-result sub-result int-to-float-result returns)
