@@ -19,7 +19,7 @@ remainder-is n = go (n % 2) (omega arith)
     go (suc zero) h = inr refl
     go (suc (suc k)) h = absurd (omega arith)
 
--- a value that is chosen by the remainder between two that differ
+-- of two values that differ, the one that the remainder chooses
 exactly : {A : Type 0} (minus plus x : A) (n : ℕ) → (plus ≡ minus → ⊥) → x ≡ cond (eqb (n % 2) 0) plus minus → ExactlyWhereOdd n minus plus x
 exactly {A} minus plus x n differ e = go (remainder-is n)
   where
@@ -44,7 +44,7 @@ signs-differ h = let z : _≡_ {A = ℕ} 1 0 = ap (λ x. cond (le (float-of 0) x
 pub parity-sign-is : (n : ℕ) → ParitySign n
 parity-sign-is n = record { whole = exactly (negsuc 0) (pos 1) (parity-sign n) n (pos-ne-negsuc 1 0) (whole-is n); float = float-is n }
 
--- what `sign_of` promises, where the code has worked out the slide's line
+-- both promises of `sign_of`, where the whole number that it works out is the slide's line
 pub sign-told : (n : ℕ) (z : ℤ)
     → z ≡ parity-sign n → (ofInt binary64 z ≡ ofInt binary64 (parity-sign n)) × ExactlyWhereOdd n (neg (float-of 1)) (float-of 1) (ofInt binary64 z)
 unfolding sign-of

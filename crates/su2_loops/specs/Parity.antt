@@ -15,7 +15,7 @@ pub record ExactlyWhereOdd {A : Type 0} (n : ℕ) (minus plus x : A) : Type 0 wh
   pub only-odd : x ≡ minus → n % 2 ≡ 1
   pub not-odd : (n % 2 ≡ 1 → ⊥) → x ≡ plus
 
--- for theorems: what the slide's line is
+-- for theorems: what the slide's line is worth
 pub record ParitySign (n : ℕ) : Type 0 where
   -- -1 exactly where the count is odd, else 1
   pub whole : ExactlyWhereOdd n (negsuc 0) (pos 1) (parity-sign n)

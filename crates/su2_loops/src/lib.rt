@@ -57,7 +57,8 @@ fn path_mask(path: &[u8]) -> u64
     mask
 }
 
-// The sign of a count as on the lecture slide: 1 minus twice the remainder by two, on whole numbers and without a branch, then as a float.
+// -1.0 for an odd count, else 1.0. As on the lecture slide it is 1 minus twice the remainder by two, on whole numbers and without a branch.
+// Then it is turned into a float.
 fn sign_of(count: u32) -> f64
     ensures { λ r. ⌜ r ≡ ofInt binary64 (parity-sign count) ⌝ }
     ensures { λ r. ⌜ ExactlyWhereOdd count (neg (float-of 1)) (float-of 1) r ⌝ }

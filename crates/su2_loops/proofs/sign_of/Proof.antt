@@ -10,7 +10,7 @@ use Rattle.su2_loops.proofs.sign_of.Tie as tie
 cast-remainder : tie.Need-cast-remainder
 cast-remainder c = search needs
 
--- the remainder is 0 or 1; either way the numbers are known, and fit
+-- the remainder is 0 or 1; either way the product and the difference are known numbers, and fit
 mul-result : tie.Need-mul-result
 mul-result c = ⊎-elim (λ h. rw h (sfits-lit tt)) (λ h. rw h (sfits-lit tt)) (remainder-is (c .args .count))
 
