@@ -13,16 +13,16 @@ use lib.ListN.{get_or, length, set, length-set, replicate, get_or-replicate}
 use lib.Seq.{get_or-set_same, get_or-set_other}
 use Rattle.mathematics.specs.Lists.{same, listed, distinct}
 use Rattle.mathematics.specs.Bits.{bit}
-use Rattle.mathematics.proofs.Tests.{and_parts, or-false}
-use Rattle.mathematics.proofs.Lists.{numbers-equal, lists-equal, listed-last, distinct-last}
-use Rattle.mathematics.proofs.Flags.{flag-zero}
-use Rattle.mathematics.proofs.Bits.{bit_below, bit-of-zero, bit-xor, bit-power, bit-power-other}
+use Rattle.mathematics.proofs.Tests.{and_parts, or_false}
+use Rattle.mathematics.proofs.Lists.{numbers_equal, lists_equal, listed_last, distinct_last}
+use Rattle.mathematics.proofs.Flags.{flag_zero}
+use Rattle.mathematics.proofs.Bits.{bit_below, bit_of_zero, bit_xor_lem, bit_power, bit_power_other}
 use Rattle.complex.specs.Complex.{Simplex, entries, simplices}
 use Rattle.complex.specs.Numbering.{number, key, EdgeTable}
-use Rattle.complex.proofs.Simplices.{simplices-length}
-use Rattle.complex.proofs.Numberings.{number-last, number-other}
-use Rattle.complex.proofs.Indexes.{simplices-next}
-use Rattle.complex.proofs.Triangles.{number-listed}
+use Rattle.complex.proofs.Simplices.{simplices_length}
+use Rattle.complex.proofs.Numberings.{number_last, number_other}
+use Rattle.complex.proofs.Indexes.{simplices_next}
+use Rattle.complex.proofs.Triangles.{number_listed}
 use Rattle.acceptance.specs.Once.{EdgesIndexed, mark_of, Marked}
 
 -- a test that an entry is new goes on with the test that none is listed twice
@@ -31,14 +31,14 @@ goes_on true d new old e h = rw (← e) (h refl)
 goes_on false d new old e h = rw (← e)
 
 -- no edge
-pub none-indexed : EdgesIndexed (replicate 4096 0) true []
+pub none_indexed : EdgesIndexed (replicate 4096 0) true []
 unfolding distinct number listed
-none-indexed = record { once = refl; index = λ h. record { long = refl; numbers = λ a b al bl. get_or-replicate 4096 (64 * a + b) 0 0 (omega arith) } }
+none_indexed = record { once = refl; index = λ h. record { long = refl; numbers = λ a b al bl. get_or-replicate 4096 (64 * a + b) 0 0 (omega arith) } }
 
 module _ (table : List ℕ) (es : List Simplex) (a b : ℕ) (al : a < 64) (bl : b < 64) where
   -- a new edge
-  more-indexed : EdgeTable table es → listed same (a ∷ b ∷ []) es ≡ false → EdgeTable (set table (64 * a + b) (length es + 1)) (es ++ ((a ∷ b ∷ []) ∷ []))
-  more-indexed i new =
+  more_indexed : EdgeTable table es → listed same (a ∷ b ∷ []) es ≡ false → EdgeTable (set table (64 * a + b) (length es + 1)) (es ++ ((a ∷ b ∷ []) ∷ []))
+  more_indexed i new =
       let tl = i.long in
       record {
         long = length-set table (64 * a + b) (length es + 1) ∙ tl;
@@ -48,9 +48,9 @@ module _ (table : List ℕ) (es : List Simplex) (a b : ℕ) (al : a < 64) (bl : 
             (λ (p : 64 * x + y ≡ 64 * a + b).
             let xa : x ≡ a = omega arith in
             let yb : y ≡ b = omega arith in
-            rw (xa, yb, get_or-set_same table (64 * a + b) (length es + 1) 0 (omega arith), number-last same lists-equal (a ∷ b ∷ []) es new))
+            rw (xa, yb, get_or-set_same table (64 * a + b) (length es + 1) 0 (omega arith), number_last same lists_equal (a ∷ b ∷ []) es new))
             (λ (p : 64 * x + y ≡ 64 * a + b → ⊥).
-            rw (get_or-set_other table (64 * a + b) (64 * x + y) (length es + 1) 0 p, number-other same lists-equal (x ∷ y ∷ []) (a ∷ b ∷ []) es (differ x y p)) (i.numbers x y xl yl));
+            rw (get_or-set_other table (64 * a + b) (64 * x + y) (length es + 1) 0 p, number_other same lists_equal (x ∷ y ∷ []) (a ∷ b ∷ []) es (differ x y p)) (i.numbers x y xl yl));
       }
     where
       differ : (x y : ℕ) → (64 * x + y ≡ 64 * a + b → ⊥) → x ∷ y ∷ [] ≡ a ∷ b ∷ [] → ⊥
@@ -60,29 +60,29 @@ module _ (table : List ℕ) (es : List Simplex) (a b : ℕ) (al : a < 64) (bl : 
   next : (r : Bool) → EdgesIndexed table r es → EdgesIndexed (set table (64 * a + b) (length es + 1)) (r && eqb (get_or table (64 * a + b) 0) 0) (es ++ ((a ∷ b ∷ []) ∷ []))
   next r i =
       record {
-        once = goes_on r (distinct same es) _ (listed same (a ∷ b ∷ []) es) i.once is-new ∙ sym (distinct-last same lists-equal es (a ∷ b ∷ []));
+        once = goes_on r (distinct same es) _ (listed same (a ∷ b ∷ []) es) i.once is_new ∙ sym (distinct_last same lists_equal es (a ∷ b ∷ []));
         index =
             λ h.
             let p = and_parts r (eqb (get_or table (64 * a + b) 0) 0) h in
-            more-indexed (i.index p.0) (not-true (listed same (a ∷ b ∷ []) es) (sym (is-new p.0) ∙ p.1));
+            more_indexed (i.index p.0) (not-true (listed same (a ∷ b ∷ []) es) (sym (is_new p.0) ∙ p.1));
       }
     where
-      is-new : r ≡ true → eqb (get_or table (64 * a + b) 0) 0 ≡ not (listed same (a ∷ b ∷ []) es)
-      is-new h = rw ((i.index h).numbers a b al bl, ← number-listed (a ∷ b ∷ []) es) (sym (not-not (eqb (number same (a ∷ b ∷ []) es) 0)))
+      is_new : r ≡ true → eqb (get_or table (64 * a + b) 0) 0 ≡ not (listed same (a ∷ b ∷ []) es)
+      is_new h = rw ((i.index h).numbers a b al bl, ← number_listed (a ∷ b ∷ []) es) (sym (not-not (eqb (number same (a ∷ b ∷ []) es) 0)))
 
 -- one edge of a flat list more
-pub indexed-next : (l : List ℕ) (e : ℕ) → get_or l (2 * e) 0 < 64 → get_or l (2 * e + 1) 0 < 64 → (table : List ℕ) (r : Bool) → EdgesIndexed table r (simplices 2 l e)
+pub indexed_next : (l : List ℕ) (e : ℕ) → get_or l (2 * e) 0 < 64 → get_or l (2 * e + 1) 0 < 64 → (table : List ℕ) (r : Bool) → EdgesIndexed table r (simplices 2 l e)
     → EdgesIndexed (set table (key (entries l (2 * e) 2)) (e + 1)) (r && eqb (get_or table (key (entries l (2 * e) 2)) 0) 0) (simplices 2 l (e + 1))
 unfolding key entries
-indexed-next l e al bl table r i =
-    rw (simplices-next 2 l e)
-    (rw (simplices-length 2 l e) at (next table (simplices 2 l e) (get_or l (2 * e) 0) (get_or l (2 * e + 1) 0) al bl r i))
+indexed_next l e al bl table r i =
+    rw (simplices_next 2 l e)
+    (rw (simplices_length 2 l e) at (next table (simplices 2 l e) (get_or l (2 * e) 0) (get_or l (2 * e + 1) 0) al bl r i))
 
 -- ---- the set of bits
 -- no key
-pub none-marked : Marked (replicate 64 0) true []
+pub none_marked : Marked (replicate 64 0) true []
 unfolding distinct listed
-none-marked = record { long = refl; once = refl; marks = λ h k kl. rw (get_or-replicate {A = ℕ} 64 (k / 64) 0 0 (omega arith)) (bit-of-zero (k % 64)) }
+none_marked = record { long = refl; once = refl; marks = λ h k kl. rw (get_or-replicate {A = ℕ} 64 (k / 64) 0 0 (omega arith)) (bit_of_zero (k % 64)) }
 
 -- the entry of key k with its bit flipped, and the set with that entry
 abbrev pub turned : List ℕ → ℕ → ℕ
@@ -92,15 +92,15 @@ abbrev pub flipped : List ℕ → ℕ → List ℕ
 flipped seen k = set seen (k / 64) (turned seen k)
 
 module _ (seen : List ℕ) (k : ℕ) (inside : k / 64 < length seen) where
-  flipped-own : mark_of (flipped seen k) k ≡ (mark_of seen k + 1) % 2
-  flipped-own =
-      rw (get_or-set_same seen (k / 64) (turned seen k) 0 inside, bit-xor (get_or seen (k / 64) 0) (2 ^ (k % 64)) (k % 64), bit-power (k % 64))
+  flipped_own : mark_of (flipped seen k) k ≡ (mark_of seen k + 1) % 2
+  flipped_own =
+      rw (get_or-set_same seen (k / 64) (turned seen k) 0 inside, bit_xor_lem (get_or seen (k / 64) 0) (2 ^ (k % 64)) (k % 64), bit_power (k % 64))
 
-  flipped-other : (j : ℕ) → (j ≡ k → ⊥) → mark_of (flipped seen k) j ≡ mark_of seen j
-  flipped-other j n =
+  flipped_other : (j : ℕ) → (j ≡ k → ⊥) → mark_of (flipped seen k) j ≡ mark_of seen j
+  flipped_other j n =
       by_cases (ℕ_discrete (j / 64) (k / 64))
       (λ (p : j / 64 ≡ k / 64).
-      rw (p, get_or-set_same seen (k / 64) (turned seen k) 0 inside, bit-xor (get_or seen (k / 64) 0) (2 ^ (k % 64)) (j % 64), bit-power-other (k % 64) (j % 64) (λ (q : j % 64 ≡ k % 64). n (omega arith)))
+      rw (p, get_or-set_same seen (k / 64) (turned seen k) 0 inside, bit_xor_lem (get_or seen (k / 64) 0) (2 ^ (k % 64)) (j % 64), bit_power_other (k % 64) (j % 64) (λ (q : j % 64 ≡ k % 64). n (omega arith)))
       (omega (arith, bit_below (get_or seen (k / 64) 0) (j % 64))))
       (λ (p : j / 64 ≡ k / 64 → ⊥).
       rw (get_or-set_other seen (k / 64) (j / 64) (turned seen k) 0 p))
@@ -110,20 +110,20 @@ pub marked_next : (seen keys : List ℕ) (r : Bool) (k : ℕ) → k < 4096 → M
 marked_next seen keys r k kl m =
     record {
       long = length-set seen (k / 64) (turned seen k) ∙ m.long;
-      once = goes_on r (distinct eqb keys) _ (listed eqb k keys) m.once is-new ∙ sym (distinct-last eqb numbers-equal keys k);
+      once = goes_on r (distinct eqb keys) _ (listed eqb k keys) m.once is_new ∙ sym (distinct_last eqb numbers_equal keys k);
       marks =
           λ h j jl.
           let p = and_parts r (eqb (mark_of seen k) 0) h in
-          rw (listed-last eqb j keys k)
+          rw (listed_last eqb j keys k)
           (by_cases (ℕ_discrete j k)
           (λ (q : j ≡ k).
-          rw (q, flipped-own seen k inside, eqb-true (mark_of seen k) 0 p.1, not-true (listed eqb k keys) (sym (is-new p.0) ∙ p.1), eq-eqb k k refl))
+          rw (q, flipped_own seen k inside, eqb-true (mark_of seen k) 0 p.1, not-true (listed eqb k keys) (sym (is_new p.0) ∙ p.1), eq-eqb k k refl))
           (λ (q : j ≡ k → ⊥).
-          rw (flipped-other seen k inside j q, ne_eqb j k q, or-false) (m.marks p.0 j jl)));
+          rw (flipped_other seen k inside j q, ne_eqb j k q, or_false) (m.marks p.0 j jl)));
     }
   where
     inside : k / 64 < length seen
     inside = rw m.long (omega arith)
 
-    is-new : r ≡ true → eqb (mark_of seen k) 0 ≡ not (listed eqb k keys)
-    is-new h = flag-zero (mark_of seen k) k keys (m.marks h k kl)
+    is_new : r ≡ true → eqb (mark_of seen k) 0 ≡ not (listed eqb k keys)
+    is_new h = flag_zero (mark_of seen k) k keys (m.marks h k kl)

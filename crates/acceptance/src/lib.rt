@@ -1,11 +1,11 @@
 // The one judge of a record: 4, 7, 8, 9, or accepted.
 ghost use Rattle.std.specs.Prelude.{◌≡◌, List, [], ◌∷◌, ◌++◌, map, ◌&&◌, ℕ, ◌+◌, ◌-◌, ◌*◌, ◌<◌, ◌≤◌, get_or, replicate, eqb};
 ghost use Rattle.mathematics.specs.Lists.{distinct};
-ghost use Rattle.mathematics.specs.Tests.{every-entry};
-ghost use Rattle.complex.specs.Complex.{Simplex, entries, simplices, complexOf};
+ghost use Rattle.mathematics.specs.Tests.{every_entry};
+ghost use Rattle.complex.specs.Complex.{Simplex, entries, simplices, complex_of};
 ghost use Rattle.mathematics.specs.Refusals.{first};
-ghost use Rattle.complex.specs.Judge.{counts-right, rising, sides-listed, refusal, truncated-tests};
-ghost use Rattle.complex.specs.Numbering.{key, triangle-key, Keyed, EdgeTable, Judged};
+ghost use Rattle.complex.specs.Judge.{counts_right, rising, sides_listed, refusal, truncated_tests};
+ghost use Rattle.complex.specs.Numbering.{key, triangle_key, Keyed, EdgeTable, Judged};
 ghost use Rattle.acceptance.specs.Once.{EdgesIndexed, Marked};
 
 use complex::SimplicialComplex;
@@ -26,7 +26,7 @@ fn edge_rises(edges: &[u8; EDGE_ENTRIES], n: usize, e: usize) -> bool
 
 fn edges_rise(edges: &[u8; EDGE_ENTRIES], n: usize, m: usize) -> bool
     requires { m ≤ 63 }
-    ensures { result ≡ every-entry (rising n) (simplices 2 edges.now m) }
+    ensures { result ≡ every_entry (rising n) (simplices 2 edges.now m) }
 {
     let mut so_far = true;
     for e in 0..m {
@@ -78,7 +78,7 @@ pub fn edge_number(table: &[u8; 4096], a: usize, b: usize) -> usize
 // Whether a triangle rises and its three edges are listed.
 fn triangle_fits(triangles: &[u8; TRIANGLE_ENTRIES], n: usize, table: &[u8; 4096], t: usize) -> bool
     requires { (t < 256) × (n ≤ 64) }
-    ensures { (es : List Simplex) → EdgeTable table.now es → result ≡ (rising n (entries triangles.now (3 * t) 3) && sides-listed es (entries triangles.now (3 * t) 3)) }
+    ensures { (es : List Simplex) → EdgeTable table.now es → result ≡ (rising n (entries triangles.now (3 * t) 3) && sides_listed es (entries triangles.now (3 * t) 3)) }
 {
     let a = byte(triangles[3 * t]);
     let b = byte(triangles[3 * t + 1]);
@@ -98,7 +98,7 @@ fn triangle_fits(triangles: &[u8; TRIANGLE_ENTRIES], n: usize, table: &[u8; 4096
 
 fn triangles_fit(triangles: &[u8; TRIANGLE_ENTRIES], n: usize, table: &[u8; 4096], t: usize) -> bool
     requires { (t ≤ 256) × (n ≤ 64) }
-    ensures { (es : List Simplex) → EdgeTable table.now es → result ≡ every-entry (λ s. rising n s && sides-listed es s) (simplices 3 triangles.now t) }
+    ensures { (es : List Simplex) → EdgeTable table.now es → result ≡ every_entry (λ s. rising n s && sides_listed es s) (simplices 3 triangles.now t) }
 {
     let mut so_far = true;
     for i in 0..t {
@@ -109,7 +109,7 @@ fn triangles_fit(triangles: &[u8; TRIANGLE_ENTRIES], n: usize, table: &[u8; 4096
 
 fn triangle_key(triangles: &[u8; TRIANGLE_ENTRIES], table: &[u8; 4096], t: usize) -> usize
     requires { (t < 256) × Keyed table.now (entries triangles.now (3 * t) 3) }
-    ensures { (result ≡ triangle-key table.now (entries triangles.now (3 * t) 3)) × (result < 4096) }
+    ensures { (result ≡ triangle_key table.now (entries triangles.now (3 * t) 3)) × (result < 4096) }
 {
     let a = byte(triangles[3 * t]);
     let b = byte(triangles[3 * t + 1]);
@@ -132,7 +132,7 @@ fn mark(seen: &mut [u64; 64], key: usize, so_far: bool) -> bool
 // Whether no triangle is listed twice.
 fn triangles_once(triangles: &[u8; TRIANGLE_ENTRIES], table: &[u8; 4096], t: usize) -> bool
     requires { (t ≤ 256) × ((i : ℕ) → i < t → Keyed table.now (entries triangles.now (3 * i) 3)) }
-    ensures { result ≡ distinct eqb (map (triangle-key table.now) (simplices 3 triangles.now t)) }
+    ensures { result ≡ distinct eqb (map (triangle_key table.now) (simplices 3 triangles.now t)) }
 {
     let mut seen = [0u64; 64];
     let mut so_far = true;
@@ -143,7 +143,7 @@ fn triangles_once(triangles: &[u8; TRIANGLE_ENTRIES], table: &[u8; 4096], t: usi
 }
 
 pub fn counts_right(n: usize, m: usize, t: usize) -> bool
-    ensures { result ≡ counts-right n m t }
+    ensures { result ≡ counts_right n m t }
 {
     (((1 <= n) & (n <= MOST_VERTICES)) & (m <= MOST_EDGES)) & (t <= MOST_TRIANGLES)
 }
@@ -176,7 +176,7 @@ pub fn judge_indexed(c: SimplicialComplex, table: &mut [u8; 4096]) -> u8
 
 // The judge of a record: the first of 4, 7, 8 and 9 that holds, or 0 where it is accepted.
 pub fn judge(c: SimplicialComplex) -> u8
-    ensures { result ≡ refusal (complexOf c) }
+    ensures { result ≡ refusal (complex_of c) }
 {
     let mut table = [0u8; 4096];
     judge_indexed(c, &mut table)
@@ -184,7 +184,7 @@ pub fn judge(c: SimplicialComplex) -> u8
 
 // The judge of a record and a truncation: 5 has its place between 4 and 7.
 pub fn judge_truncated(c: SimplicialComplex, lambda: usize) -> u8
-    ensures { result ≡ first (truncated-tests (complexOf c) lambda) }
+    ensures { result ≡ first (truncated_tests (complex_of c) lambda) }
 {
     let number = judge(c);
     if number == 4 {

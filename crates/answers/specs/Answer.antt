@@ -4,6 +4,6 @@ use Rattle.mathematics.specs.Refusals.{Outcome, value, refused}
 use Rattle.answers.specs.declared.Answer.{Answer}
 use Rattle.answers.specs.declared.Answer.TheVariants.{Number, Refused}
 
-unfoldable pub numberAnswer : Answer → Outcome ℕ
-numberAnswer (Number n) = value n
-numberAnswer (Refused n) = refused n
+unfoldable pub number_answer : Answer → Outcome ℕ
+number_answer (Number n) = value n
+number_answer (Refused n) = refused n

@@ -4,6 +4,6 @@ use Rattle.mathematics.specs.Refusals.{Outcome, value, refused}
 use Rattle.answers.specs.declared.expectation.Expectation.{Expectation}
 use Rattle.answers.specs.declared.expectation.Expectation.TheVariants.{Value, Refused}
 
-unfoldable pub expectationAnswer : Expectation → Outcome Float
-expectationAnswer (Value x) = value x
-expectationAnswer (Refused n) = refused n
+unfoldable pub expectation_answer : Expectation → Outcome Float
+expectation_answer (Value x) = value x
+expectation_answer (Refused n) = refused n

@@ -1,7 +1,7 @@
 // `basis list`: reads a sheet from standard input and prints its states, or the number of its refusal.
 ghost use Rattle.std.specs.Prelude.{◌≡◌, true, ◌≤◌, length};
 ghost use Rattle.pages.specs.Pages.{PageReady};
-ghost use Rattle.basis.specs.Status.{statusDigit, Told};
+ghost use Rattle.basis.specs.Status.{status_digit, Told};
 
 use answers::Answer;
 use numbers::sizes::INPUT_ROOM;
@@ -167,7 +167,7 @@ fn run(words: usize) -> Status {
 }
 
 fn status_digit(status: Status) -> u8
-    ensures { result ≡ statusDigit status }
+    ensures { result ≡ status_digit status }
 {
     match status {
         Status::Answered => b'0',

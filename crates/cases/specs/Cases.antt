@@ -7,24 +7,24 @@ use Rattle.std.specs.Float.Ieee.{neg, div}
 use Rattle.mathematics.specs.Refusals.{Outcome, value, refused, first, outcome}
 use Rattle.hilbert.specs.Basis.{place}
 use Rattle.mathematics.specs.Entries.{Each}
-use Rattle.complex.specs.Complex.{Complex, complexOf, uncharged}
-use Rattle.sheet.specs.Sheet.{sheetIn, reading-refusal}
-use Rattle.gauss_law.specs.Listing.{tree-edges, free-edges, states}
-use Rattle.matrices.specs.Coupling.{float_of, u1-params, su2-params}
+use Rattle.complex.specs.Complex.{Complex, complex_of, uncharged}
+use Rattle.sheet.specs.Sheet.{sheet_in, reading_refusal}
+use Rattle.gauss_law.specs.Listing.{tree_edges, free_edges, states}
+use Rattle.matrices.specs.Coupling.{float_of, u1_params, su2_params}
 use Rattle.matrices.specs.Weights.{weight}
-use Rattle.plaquettes.specs.Triangle.{shifted-state, triangle-tests}
-use Rattle.hamiltonian.specs.Dense.{u1-dense, u1-dense-tests}
-use Rattle.rows.specs.RowLists.{row-starts}
-use Rattle.entries.specs.Rows.{csr-row, csr-entries}
-use Rattle.csr.specs.Csr.{csr-tests}
-use Rattle.lanczos.specs.Matvec.{u1-product, u1-product-tests}
-use Rattle.electric.specs.Electric.{field-squares, electric-tests}
-use Rattle.wilson.specs.Wilson.{path-of, wilson, wilson-tests}
+use Rattle.plaquettes.specs.Triangle.{shifted_state, triangle_tests}
+use Rattle.hamiltonian.specs.Dense.{u1_dense, u1_dense_tests}
+use Rattle.rows.specs.RowLists.{row_starts}
+use Rattle.entries.specs.Rows.{csr_row, csr_entries}
+use Rattle.csr.specs.Csr.{csr_tests}
+use Rattle.lanczos.specs.Matvec.{u1_product, u1_product_tests}
+use Rattle.electric.specs.Electric.{field_squares, electric_tests}
+use Rattle.wilson.specs.Wilson.{path_of, wilson, wilson_tests}
 use Rattle.loops.specs.Walks.{Step}
-use Rattle.loops.specs.Loops.{fundamental-loops}
-use Rattle.su2_even_sets.specs.EvenSets.{su2-states}
-use Rattle.su2_quantum.specs.Dense.{su2-dense, su2-dense-tests}
-use Rattle.su2_loops.specs.Loop.{su2-expectation, su2-loop-tests}
+use Rattle.loops.specs.Loops.{fundamental_loops}
+use Rattle.su2_even_sets.specs.EvenSets.{su2_states}
+use Rattle.su2_quantum.specs.Dense.{su2_dense, su2_dense_tests}
+use Rattle.su2_loops.specs.Loop.{su2_expectation, su2_loop_tests}
 use Rattle.lines.specs.Lines.{ascii}
 use Rattle.lines.specs.Printed.{printed}
 
@@ -48,12 +48,12 @@ pub record Matrices : Type 0 where
 
 -- what is claimed of them: with lists that are just long enough neither call is refused, and the matrices are the expected ones
 pub record MatricesHold (c : Complex) (L : ℕ) (x : Matrices) : Type 0 where
-  pub u1-accepted : first (u1-dense-tests c L (u1-params (float_of x.coupling)) false [] (length (flatten (states c L))) (length x.u1)) ≡ 0
-  pub u1 : u1-dense c L (u1-params (float_of x.coupling)) (weight false []) ≡ x.u1
-  pub starts-accepted : first (csr-tests c L (u1-params (float_of x.coupling)) false [] (length (flatten (states c L))) (length x.starts) (csr-entries c L (u1-params (float_of x.coupling)) (weight false [])) (csr-entries c L (u1-params (float_of x.coupling)) (weight false []))) ≡ 0
-  pub starts : row-starts (csr-row c L (u1-params (float_of x.coupling)) (weight false [])) (length (states c L)) ≡ x.starts
-  pub su2-accepted : first (su2-dense-tests c (su2-params (float_of x.coupling)) false [] (length (su2-states c)) (length x.su2)) ≡ 0
-  pub su2 : su2-dense c (su2-params (float_of x.coupling)) (weight false []) ≡ x.su2
+  pub u1_accepted : first (u1_dense_tests c L (u1_params (float_of x.coupling)) false [] (length (flatten (states c L))) (length x.u1)) ≡ 0
+  pub u1 : u1_dense c L (u1_params (float_of x.coupling)) (weight false []) ≡ x.u1
+  pub starts_accepted : first (csr_tests c L (u1_params (float_of x.coupling)) false [] (length (flatten (states c L))) (length x.starts) (csr_entries c L (u1_params (float_of x.coupling)) (weight false [])) (csr_entries c L (u1_params (float_of x.coupling)) (weight false []))) ≡ 0
+  pub starts : row_starts (csr_row c L (u1_params (float_of x.coupling)) (weight false [])) (length (states c L)) ≡ x.starts
+  pub su2_accepted : first (su2_dense_tests c (su2_params (float_of x.coupling)) false [] (length (su2_states c)) (length x.su2)) ≡ 0
+  pub su2 : su2_dense c (su2_params (float_of x.coupling)) (weight false []) ≡ x.su2
 
 -- a path in the two-valued mode, an amplitude for each state and the expectation of the loop
 pub record Su2Loop : Type 0 where
@@ -63,8 +63,8 @@ pub record Su2Loop : Type 0 where
 
 -- what is claimed of it: with a list that is just long enough the call is not refused, and the expectation is the expected one
 pub record Su2LoopHolds (c : Complex) (x : Su2Loop) : Type 0 where
-  pub accepted : first (su2-loop-tests c (map float_of x.amplitudes) x.path (length (su2-states c))) ≡ 0
-  pub expectation : su2-expectation c (map float_of x.amplitudes) x.path ≡ x.expectation
+  pub accepted : first (su2_loop_tests c (map float_of x.amplitudes) x.path (length (su2_states c))) ≡ 0
+  pub expectation : su2_expectation c (map float_of x.amplitudes) x.path ≡ x.expectation
 
 -- of amplitudes: the product with the U(1) Hamiltonian for a coupling, without weights, the squares of the field on the edges, and the
 -- expectation along a path
@@ -79,16 +79,16 @@ pub record Measured : Type 0 where
 
 -- what is claimed of them: with lists that are just long enough no call is refused, and the values are the expected ones
 pub record MeasuredHold (c : Complex) (L : ℕ) (x : Measured) : Type 0 where
-  pub product-accepted : first (u1-product-tests c L (u1-params (float_of x.coupling)) false [] x.amplitudes (length (flatten (states c L))) (length x.product)) ≡ 0
-  pub product : u1-product c L (u1-params (float_of x.coupling)) (weight false []) x.amplitudes ≡ x.product
-  pub squares-accepted : first (electric-tests c L x.amplitudes (length (flatten (states c L))) (length x.squares)) ≡ 0
-  pub squares : field-squares c L x.amplitudes ≡ x.squares
-  pub path-accepted : first (wilson-tests c L x.amplitudes x.edges x.directions (length (flatten (states c L)))) ≡ 0
-  pub expectation : wilson c L x.amplitudes (path-of x.edges x.directions) ≡ x.expectation
+  pub product_accepted : first (u1_product_tests c L (u1_params (float_of x.coupling)) false [] x.amplitudes (length (flatten (states c L))) (length x.product)) ≡ 0
+  pub product : u1_product c L (u1_params (float_of x.coupling)) (weight false []) x.amplitudes ≡ x.product
+  pub squares_accepted : first (electric_tests c L x.amplitudes (length (flatten (states c L))) (length x.squares)) ≡ 0
+  pub squares : field_squares c L x.amplitudes ≡ x.squares
+  pub path_accepted : first (wilson_tests c L x.amplitudes x.edges x.directions (length (flatten (states c L)))) ≡ 0
+  pub expectation : wilson c L x.amplitudes (path_of x.edges x.directions) ≡ x.expectation
 
 -- the answer of a triangle's shift is the expected one
 abbrev pub ShiftHolds : Complex → ℕ → Shift → Type 0
-ShiftHolds c L x = outcome (first (triangle-tests c L x.triangle x.state x.room)) (place c L (shifted-state c L x.triangle x.state)) ≡ x.told
+ShiftHolds c L x = outcome (first (triangle_tests c L x.triangle x.state x.room)) (place c L (shifted_state c L x.triangle x.state)) ≡ x.told
 
 -- the bytes of a sheet, the complex and truncation that it holds, and the values that are expected of them
 pub record Case : Type 0 where
@@ -102,31 +102,31 @@ pub record Case : Type 0 where
   pub loops : List (List Step)
   pub masks : List ℕ
   pub matrices : List Matrices
-  pub su2-loops : List Su2Loop
+  pub su2_loops : List Su2Loop
   pub measured : List Measured
 
 -- what is claimed of a case: its sheet is read as it should be, and its tree, its free edges, its printed basis, its shifts, its loops, its two-valued basis, its dense
 -- matrices, its two-valued expectations and what its amplitudes give are the expected ones
 pub record Holds (k : Case) : Type 0 where
-  pub accepted : reading-refusal k.bytes ≡ 0
-  pub complex : complexOf (sheetIn k.bytes).complex ≡ k.complex
-  pub truncation : (sheetIn k.bytes).lambda ≡ k.truncation
-  pub tree : tree-edges k.complex ≡ k.tree
-  pub free : free-edges k.complex ≡ k.free
+  pub accepted : reading_refusal k.bytes ≡ 0
+  pub complex : complex_of (sheet_in k.bytes).complex ≡ k.complex
+  pub truncation : (sheet_in k.bytes).lambda ≡ k.truncation
+  pub tree : tree_edges k.complex ≡ k.tree
+  pub free : free_edges k.complex ≡ k.free
   pub basis : printed k.complex k.truncation ≡ ascii k.text
   pub shifts : Each (ShiftHolds k.complex k.truncation) k.shifts
-  pub loops : fundamental-loops k.complex ≡ k.loops
-  pub masks : su2-states k.complex ≡ k.masks
+  pub loops : fundamental_loops k.complex ≡ k.loops
+  pub masks : su2_states k.complex ≡ k.masks
   pub matrices : Each (MatricesHold k.complex k.truncation) k.matrices
-  pub su2-loops : Each (Su2LoopHolds k.complex) k.su2-loops
+  pub su2_loops : Each (Su2LoopHolds k.complex) k.su2_loops
   pub measured : Each (MeasuredHold k.complex k.truncation) k.measured
 
 unfoldable pub triangle : Complex
 triangle =
     record { vertices = 3; edges = (0 ∷ 1 ∷ []) ∷ (0 ∷ 2 ∷ []) ∷ (1 ∷ 2 ∷ []) ∷ []; triangles = (0 ∷ 1 ∷ 2 ∷ []) ∷ []; charges = uncharged }
 
-unfoldable pub one-vertex : Complex
-one-vertex = record { vertices = 1; edges = []; triangles = []; charges = uncharged }
+unfoldable pub one_vertex : Complex
+one_vertex = record { vertices = 1; edges = []; triangles = []; charges = uncharged }
 
 -- vertices 0 to 3 with all six edges and all four triangles, in dictionary order
 unfoldable pub tetrahedron : Complex
@@ -162,7 +162,7 @@ table =
             su2 = eighths 0 ∷ neg (eighths 4) ∷ neg (eighths 4) ∷ eighths 9 ∷ [];
           }
           ∷ [];
-      su2-loops = record { amplitudes = 3 ∷ 5 ∷ []; path = 0 ∷ 1 ∷ 2 ∷ []; expectation = neg (float_of 16) } ∷ [];
+      su2_loops = record { amplitudes = 3 ∷ 5 ∷ []; path = 0 ∷ 1 ∷ 2 ∷ []; expectation = neg (float_of 16) } ∷ [];
       measured =
           record {
             coupling = 1;
@@ -186,12 +186,12 @@ table =
       loops = ((0, negsuc 0) ∷ (1, pos 1) ∷ (2, negsuc 0) ∷ []) ∷ [];
       masks = 0 ∷ 7 ∷ [];
       matrices = record { coupling = 1; u1 = eighths 0 ∷ []; starts = 0 ∷ 0 ∷ []; su2 = eighths 0 ∷ neg (eighths 4) ∷ neg (eighths 4) ∷ eighths 9 ∷ [] } ∷ [];
-      su2-loops = [];
+      su2_loops = [];
       measured = [];
     }
     ∷ record {
       bytes = 71 ∷ 76 ∷ 83 ∷ 1 ∷ 0 ∷ 1 ∷ 0 ∷ 0 ∷ 0 ∷ 1 ∷ 0 ∷ [];
-      complex = one-vertex;
+      complex = one_vertex;
       truncation = 1;
       tree = [];
       free = [];
@@ -200,7 +200,7 @@ table =
       loops = [];
       masks = 0 ∷ [];
       matrices = record { coupling = 1; u1 = eighths 0 ∷ []; starts = 0 ∷ 0 ∷ []; su2 = eighths 0 ∷ [] } ∷ [];
-      su2-loops = [];
+      su2_loops = [];
       measured = [];
     }
     ∷ record {
@@ -218,7 +218,7 @@ table =
           ∷ [];
       masks = 0 ∷ 11 ∷ 21 ∷ 30 ∷ 38 ∷ 45 ∷ 51 ∷ 56 ∷ [];
       matrices = [];
-      su2-loops = [];
+      su2_loops = [];
       measured = [];
     }
     ∷ []

@@ -9,30 +9,30 @@ use borrow.Author.Tests.{eqb-true, ltb-true, lt-ltb}
 use lib.ListN.{length, replicate, get_or-replicate}
 use lib.Dec.{eqb, ltb}
 use Rattle.mathematics.specs.Lists.{same, listed}
-use Rattle.mathematics.specs.Tests.{every-entry}
-use Rattle.mathematics.proofs.Tests.{and_parts, all-last}
-use Rattle.mathematics.proofs.Lists.{numbers-equal, lists-equal, listed-map, place_map}
+use Rattle.mathematics.specs.Tests.{every_entry}
+use Rattle.mathematics.proofs.Tests.{and_parts, all_last}
+use Rattle.mathematics.proofs.Lists.{numbers_equal, lists_equal, listed_map, place_map}
 use Rattle.complex.specs.Complex.{Simplex, start, end, entries, simplices}
 use Rattle.complex.specs.Numbering.{number, Numbered, key}
 
 -- one simplex more
-pub simplices-next : (k : ℕ) (l : List ℕ) (n : ℕ) → simplices k l (n + 1) ≡ simplices k l n ++ (entries l (k * n) k ∷ [])
+pub simplices_next : (k : ℕ) (l : List ℕ) (n : ℕ) → simplices k l (n + 1) ≡ simplices k l n ++ (entries l (k * n) k ∷ [])
 unfolding simplices
-simplices-next k l n = rw (add-one n)
+simplices_next k l n = rw (add-one n)
 
-pub all-next : (p : Simplex → Bool) (k : ℕ) (l : List ℕ) (n : ℕ) → every-entry p (simplices k l (n + 1)) ≡ (every-entry p (simplices k l n) && p (entries l (k * n) k))
-all-next p k l n = rw (simplices-next k l n) (all-last p (simplices k l n) (entries l (k * n) k))
+pub all_next : (p : Simplex → Bool) (k : ℕ) (l : List ℕ) (n : ℕ) → every_entry p (simplices k l (n + 1)) ≡ (every_entry p (simplices k l n) && p (entries l (k * n) k))
+all_next p k l n = rw (simplices_next k l n) (all_last p (simplices k l n) (entries l (k * n) k))
 
-pub keys-next : (f : Simplex → ℕ) (k : ℕ) (l : List ℕ) (n : ℕ) → map f (simplices k l (n + 1)) ≡ map f (simplices k l n) ++ (f (entries l (k * n) k) ∷ [])
-keys-next f k l n = rw (simplices-next k l n) (map-append f (simplices k l n) (entries l (k * n) k ∷ []))
+pub keys_next : (f : Simplex → ℕ) (k : ℕ) (l : List ℕ) (n : ℕ) → map f (simplices k l (n + 1)) ≡ map f (simplices k l n) ++ (f (entries l (k * n) k) ∷ [])
+keys_next f k l n = rw (simplices_next k l n) (map-append f (simplices k l n) (entries l (k * n) k ∷ []))
 
 -- before any key is noted
-pub none-numbered : (limit : ℕ) → Numbered limit (replicate 4096 0) (replicate 256 0) 0 []
+pub none_numbered : (limit : ℕ) → Numbered limit (replicate 4096 0) (replicate 256 0) 0 []
 unfolding number listed
-none-numbered limit =
+none_numbered limit =
     record {
-      table-long = refl;
-      keys-long = refl;
+      table_long = refl;
+      keys_long = refl;
       counted = omega arith;
       numbers = λ few k below. get_or-replicate 4096 k 0 0 below;
       kept = λ few. refl;
@@ -45,11 +45,11 @@ two (a ∷ []) h = absurd (omega arith)
 two (a ∷ b ∷ []) h = refl
 two (a ∷ b ∷ c ∷ s) h = absurd (omega arith)
 
-unfoldable pub small-pair : Simplex → Bool
-small-pair s = eqb (length s) 2 && (ltb (start s) 64 && ltb (end s) 64)
+unfoldable pub small_pair : Simplex → Bool
+small_pair s = eqb (length s) 2 && (ltb (start s) 64 && ltb (end s) 64)
 
-pub key_apart : (x y : Simplex) → small-pair x ≡ true → small-pair y ≡ true → key x ≡ key y → x ≡ y
-unfolding small-pair key
+pub key_apart : (x y : Simplex) → small_pair x ≡ true → small_pair y ≡ true → key x ≡ key y → x ≡ y
+unfolding small_pair key
 key_apart x y p q e =
     let a = and_parts (eqb (length x) 2) (ltb (start x) 64 && ltb (end x) 64) p in
     let b = and_parts (eqb (length y) 2) (ltb (start y) 64 && ltb (end y) 64) q in
@@ -61,8 +61,8 @@ key_apart x y p q e =
     two x (eqb-true (length x) 2 a.0) ∙ m ∙ sym (two y (eqb-true (length y) 2 b.0))
 
 -- numbers by key are numbers by edge
-pub number-key : (es : List Simplex) → every-entry small-pair es ≡ true → (a b : ℕ) → a < 64 → b < 64 → number eqb (64 * a + b) (map key es) ≡ number same (a ∷ b ∷ []) es
-unfolding number small-pair key
-number-key es h a b al bl =
-    let p : small-pair (a ∷ b ∷ []) ≡ true = rw (lt-ltb a 64 al, lt-ltb b 64 bl) in
-    rw (listed-map same lists-equal eqb numbers-equal small-pair key key_apart (a ∷ b ∷ []) es p h, place_map same lists-equal eqb numbers-equal small-pair key key_apart (a ∷ b ∷ []) es p h)
+pub number_key : (es : List Simplex) → every_entry small_pair es ≡ true → (a b : ℕ) → a < 64 → b < 64 → number eqb (64 * a + b) (map key es) ≡ number same (a ∷ b ∷ []) es
+unfolding number small_pair key
+number_key es h a b al bl =
+    let p : small_pair (a ∷ b ∷ []) ≡ true = rw (lt-ltb a 64 al, lt-ltb b 64 bl) in
+    rw (listed_map same lists_equal eqb numbers_equal small_pair key key_apart (a ∷ b ∷ []) es p h, place_map same lists_equal eqb numbers_equal small_pair key key_apart (a ∷ b ∷ []) es p h)

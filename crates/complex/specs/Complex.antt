@@ -27,8 +27,8 @@ simplices k l zero = []
 simplices k l (suc n) = simplices k l n ++ (entries l (k * n) k ∷ [])
 
 -- the complex that a record stands for
-unfoldable pub complexOf : SimplicialComplex → Complex
-complexOf c =
+unfoldable pub complex_of : SimplicialComplex → Complex
+complex_of c =
     record {
       vertices = c.n_vertices;
       edges = simplices 2 c.edges c.n_edges;

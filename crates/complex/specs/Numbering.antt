@@ -2,7 +2,7 @@
 use Rattle.std.specs.Prelude.{ℕ, suc, ◌+◌, ◌-◌, ◌*◌, ◌<◌, ◌≤◌, min, List, [], ◌∷◌, Bool, cond, ◌≡◌, get_or, length, take, eqb}
 use Rattle.mathematics.specs.Lists.{same, listed, position}
 use Rattle.complex.specs.declared.SimplicialComplex.{SimplicialComplex}
-use Rattle.complex.specs.Complex.{Simplex, start, end, complexOf}
+use Rattle.complex.specs.Complex.{Simplex, start, end, complex_of}
 use Rattle.complex.specs.Judge.{refusal}
 
 -- the number of x in a list, counted from 1; 0 where it is not listed
@@ -12,8 +12,8 @@ number eq x l = cond (listed eq x l) (suc (position eq x l)) 0
 -- The keys in l were noted: count is their number, or limit + 1 where there are more; up to the limit the table has the number of
 -- each key, and the keys stand in the second list as they were noted.
 pub record Numbered (limit : ℕ) (table keys : List ℕ) (count : ℕ) (l : List ℕ) : Type 0 where
-  pub table-long : length table ≡ 4096
-  pub keys-long : length keys ≡ 256
+  pub table_long : length table ≡ 4096
+  pub keys_long : length keys ≡ 256
   pub counted : count ≡ min (limit + 1) (length l)
   pub numbers : length l ≤ limit → (k : ℕ) → k < 4096 → get_or table k 0 ≡ number eqb k l
   pub kept : length l ≤ limit → take (length l) keys ≡ l
@@ -28,8 +28,8 @@ pub record EdgeTable (table : List ℕ) (es : List Simplex) : Type 0 where
   pub numbers : (a b : ℕ) → a < 64 → b < 64 → get_or table (64 * a + b) 0 ≡ number same (a ∷ b ∷ []) es
 
 -- a triangle as a key: the number of its first edge, and its third vertex
-unfoldable pub triangle-key : List ℕ → Simplex → ℕ
-triangle-key table s = 64 * (get_or table (key s) 0 - 1) + get_or s 2 0
+unfoldable pub triangle_key : List ℕ → Simplex → ℕ
+triangle_key table s = 64 * (get_or table (key s) 0 - 1) + get_or s 2 0
 
 -- the vertices are below 64 and the first edge has a number
 pub record Keyed (table : List ℕ) (s : Simplex) : Type 0 where
@@ -41,5 +41,5 @@ pub record Keyed (table : List ℕ) (s : Simplex) : Type 0 where
 
 -- what the judge says of a record, and what its table then holds
 pub record Judged (c : SimplicialComplex) (table : List ℕ) (r : ℕ) : Type 0 where
-  pub number : r ≡ refusal (complexOf c)
-  pub index : r ≡ 0 → EdgeTable table (complexOf c).edges
+  pub number : r ≡ refusal (complex_of c)
+  pub index : r ≡ 0 → EdgeTable table (complex_of c).edges

@@ -39,12 +39,12 @@ served es s zero = s
 served es s (suc k) = serve es (served es s k) k
 
 -- the whole search of n vertices: n places are served, and where every edge has its ends below n no more than n vertices can be found
-unfoldable pub search : List Simplex → ℕ → Search
-search es n = served es (record { seen = 0 ∷ []; tree = [] }) n
+unfoldable pub whole_search : List Simplex → ℕ → Search
+whole_search es n = served es (record { seen = 0 ∷ []; tree = [] }) n
 
 -- every one of the n vertices is seen
 unfoldable pub connected : List Simplex → ℕ → Bool
-connected es n = every (λ v. listed eqb v (search es n).seen) n
+connected es n = every (λ v. listed eqb v (whole_search es n).seen) n
 
 -- for theorems: each edge's two vertices rise and are below n
 abbrev pub Ends : ℕ → List Simplex → Type 0

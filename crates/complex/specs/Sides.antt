@@ -28,12 +28,12 @@ pub record TriangleSides (c : Complex) (t : ℕ) : Type 0 where
   pub j : ℕ
   pub k : ℕ
   pub triangle : get_or c.triangles t [] ≡ x ∷ y ∷ z ∷ []
-  pub first-rise : x < y
-  pub second-rise : y < z
+  pub first_rise : x < y
+  pub second_rise : y < z
   pub numbers : sides c t ≡ i ∷ j ∷ k ∷ []
-  pub i-below : i < length c.edges
-  pub j-below : j < length c.edges
-  pub k-below : k < length c.edges
+  pub i_below : i < length c.edges
+  pub j_below : j < length c.edges
+  pub k_below : k < length c.edges
   pub xy : get_or c.edges i [] ≡ x ∷ y ∷ []
   pub xz : get_or c.edges j [] ≡ x ∷ z ∷ []
   pub yz : get_or c.edges k [] ≡ y ∷ z ∷ []

@@ -1,7 +1,7 @@
 // Keys below 4096, numbered in order of first appearance up to a limit. table[k] is one more than the number of key k, and 0 where
 // k is new; keys holds the keys as they were numbered; a count of limit + 1 says that there were more.
 ghost use Rattle.std.specs.Prelude.{List, ℕ, ◌+◌, ◌<◌, ◌≤◌, get_or, length, eqb};
-ghost use Rattle.mathematics.specs.Lists.{noted, notedAll};
+ghost use Rattle.mathematics.specs.Lists.{noted, noted_all};
 ghost use Rattle.complex.specs.Numbering.{Numbered};
 
 use numbers::sizes::MOST_TRIANGLES;
@@ -41,7 +41,7 @@ pub fn note_all(
     new: &[u16],
 ) -> usize
     requires { (limit ≤ 256) × ((i : ℕ) → i < length new.now → get_or new.now i 0 < 4096) }
-    ensures { (l : List ℕ) → Numbered limit table.old keys.old count l → Numbered limit table.new keys.new result (notedAll eqb l new.now) }
+    ensures { (l : List ℕ) → Numbered limit table.old keys.old count l → Numbered limit table.new keys.new result (noted_all eqb l new.now) }
 {
     let mut so_far = count;
     for i in 0..new.len() {

@@ -3,8 +3,8 @@
 // heads[v] is the first at v, next[d] the next at the vertex of d, and the number of half-edges says that there is none.
 ghost use Rattle.std.specs.Prelude.{◌≡◌, ℕ, ◌+◌, ◌*◌, ◌/◌, ◌<◌, ◌≤◌, get_or};
 ghost use Rattle.complex.specs.Complex.{simplices};
-ghost use Rattle.complex.specs.Search.{look, scan, serve, search, connected};
-ghost use Rattle.complex.specs.Tree.{opposite, Linked, tree_of, searchOf, Searchable, Fits, Searched};
+ghost use Rattle.complex.specs.Search.{look, scan, serve, whole_search, connected};
+ghost use Rattle.complex.specs.Tree.{opposite, Linked, tree_of, search_of, Searchable, Fits, Searched};
 
 use numbers::byte;
 use numbers::sizes::{EDGE_ENTRIES, MOST_EDGES, MOST_VERTICES};
@@ -72,7 +72,7 @@ fn look(
     found: usize,
 ) -> usize
     requires { Searchable edges.now n_vertices n_edges × Fits n_vertices (tree_of queue.old tree_edges.old visited.old found) × (d < 2 * n_edges) }
-    ensures { Searched n_vertices (tree_of queue.new tree_edges.new visited.new result) (look (simplices 2 edges.now n_edges) (get_or edges.now d 0) (searchOf (tree_of queue.old tree_edges.old visited.old found)) (d / 2)) }
+    ensures { Searched n_vertices (tree_of queue.new tree_edges.new visited.new result) (look (simplices 2 edges.now n_edges) (get_or edges.now d 0) (search_of (tree_of queue.old tree_edges.old visited.old found)) (d / 2)) }
 {
     let w = edges[opposite(d)];
     let place = byte(w);
@@ -100,7 +100,7 @@ fn scan(
     found: usize,
 ) -> usize
     requires { Searchable edges.now n_vertices n_edges × Linked edges.now (2 * n_edges) heads.now next.now 0 × (v < 64) × Fits n_vertices (tree_of queue.old tree_edges.old visited.old found) }
-    ensures { Searched n_vertices (tree_of queue.new tree_edges.new visited.new result) (scan (simplices 2 edges.now n_edges) v (searchOf (tree_of queue.old tree_edges.old visited.old found)) n_edges) }
+    ensures { Searched n_vertices (tree_of queue.new tree_edges.new visited.new result) (scan (simplices 2 edges.now n_edges) v (search_of (tree_of queue.old tree_edges.old visited.old found)) n_edges) }
 {
     let count = 2 * n_edges;
     let mut so_far = found;
@@ -128,7 +128,7 @@ fn serve(
     found: usize,
 ) -> usize
     requires { Searchable edges.now n_vertices n_edges × Linked edges.now (2 * n_edges) heads.now next.now 0 × Fits n_vertices (tree_of queue.old tree_edges.old visited.old found) }
-    ensures { Searched n_vertices (tree_of queue.new tree_edges.new visited.new result) (serve (simplices 2 edges.now n_edges) (searchOf (tree_of queue.old tree_edges.old visited.old found)) h) }
+    ensures { Searched n_vertices (tree_of queue.new tree_edges.new visited.new result) (serve (simplices 2 edges.now n_edges) (search_of (tree_of queue.old tree_edges.old visited.old found)) h) }
 {
     if found < h {
         return found;
@@ -145,7 +145,7 @@ fn serve(
 // The whole search: vertex 0 alone is seen at first.
 pub fn search(edges: &[u8; EDGE_ENTRIES], n_vertices: usize, n_edges: usize) -> SpanningTree
     requires { Searchable edges.now n_vertices n_edges }
-    ensures { Searched n_vertices result (search (simplices 2 edges.now n_edges) n_vertices) }
+    ensures { Searched n_vertices result (whole_search (simplices 2 edges.now n_edges) n_vertices) }
 {
     let count = 2 * n_edges;
     let mut heads = [count as u8; MOST_VERTICES];

@@ -1,13 +1,13 @@
 // What the exported functions on complexes, sheets and the refusals' sentences do.
-ghost use Rattle.triangles.specs.Indices.{indices-call};
-ghost use Rattle.pentachora.specs.Pentachora.{pentachora-call};
-ghost use Rattle.sheet.specs.Sheet.{reading-call};
-ghost use Rattle.making.specs.Making.{making-call};
-ghost use Rattle.gauss_law.specs.Spanning.{tree-call};
-ghost use Rattle.loops.specs.Loops.{loops-call, su2-loops-call};
-ghost use Rattle.refusals.specs.Sentences.{text-call};
-ghost use Rattle.exports.specs.Exports.{on-sheet, stored, second-lent, in_place, Exported};
-ghost use Rattle.complex_exports.specs.Parts.{sheet-parts};
+ghost use Rattle.triangles.specs.Indices.{indices_call};
+ghost use Rattle.pentachora.specs.Pentachora.{pentachora_call};
+ghost use Rattle.sheet.specs.Sheet.{reading_call};
+ghost use Rattle.making.specs.Making.{making_call};
+ghost use Rattle.gauss_law.specs.Spanning.{tree_call};
+ghost use Rattle.loops.specs.Loops.{loops_call, su2_loops_call};
+ghost use Rattle.refusals.specs.Sentences.{text_call};
+ghost use Rattle.exports.specs.Exports.{on_sheet, stored, second_lent, in_place, Exported};
+ghost use Rattle.complex_exports.specs.Parts.{sheet_parts};
 
 use exports::{open, refused, signed, told_number, value};
 use gauss_law::spanning::spanning_tree;
@@ -26,7 +26,7 @@ pub fn export_make_sheet(
     lambda: u64,
     sheet: &mut [u8],
 ) -> i64
-    ensures { Exported (making-call n_vertices edges.now triangles.now lambda sheet.old) result sheet.new }
+    ensures { Exported (making_call n_vertices edges.now triangles.now lambda sheet.old) result sheet.new }
 {
     let made = make_sheet(
         n_vertices as usize,
@@ -48,7 +48,7 @@ pub fn export_read_sheet(
     edges: &mut [u8; 126],
     triangles: &mut [u8; 768],
 ) -> i64
-    ensures { Exported (stored (reading-call sheet.now) sheet-parts (n_vertices.old, n_edges.old, n_triangles.old, lambda.old, edges.old, triangles.old)) result (n_vertices.new, n_edges.new, n_triangles.new, lambda.new, edges.new, triangles.new) }
+    ensures { Exported (stored (reading_call sheet.now) sheet_parts (n_vertices.old, n_edges.old, n_triangles.old, lambda.old, edges.old, triangles.old)) result (n_vertices.new, n_edges.new, n_triangles.new, lambda.new, edges.new, triangles.new) }
 {
     let opened = open(sheet);
     let number = opened.refusal;
@@ -68,7 +68,7 @@ pub fn export_read_sheet(
 
 // The edge numbers of a triangle of a sheet: 0.
 pub fn export_tri_edge_indices(sheet: &[u8], triangle: u64, indices: &mut [u64; 3]) -> i64
-    ensures { Exported (on-sheet sheet.now (λ c L. stored (indices-call c triangle) in_place indices.old)) result indices.new }
+    ensures { Exported (on_sheet sheet.now (λ c L. stored (indices_call c triangle) in_place indices.old)) result indices.new }
 {
     let opened = open(sheet);
     let number = opened.refusal;
@@ -93,7 +93,7 @@ pub fn export_from_pentachorons(
     triangles: &mut [u8],
     n_triangles: &mut u64,
 ) -> i64
-    ensures { Exported (second-lent (pentachora-call n_vertices pentachora.now edges.old triangles.old) n_triangles.old) result (edges.new, triangles.new, n_triangles.new) }
+    ensures { Exported (second_lent (pentachora_call n_vertices pentachora.now edges.old triangles.old) n_triangles.old) result (edges.new, triangles.new, n_triangles.new) }
 {
     let answer = from_pentachorons(n_vertices as usize, pentachora, edges, triangles);
     match answer {
@@ -110,7 +110,7 @@ pub fn export_from_pentachorons(
 
 // The tree edges and the free edges of a sheet's complex: the number of free edges.
 pub fn export_spanning_tree(sheet: &[u8], tree: &mut [u32], free: &mut [u32]) -> i64
-    ensures { Exported (on-sheet sheet.now (λ c L. tree-call c tree.old free.old)) result (tree.new, free.new) }
+    ensures { Exported (on_sheet sheet.now (λ c L. tree_call c tree.old free.old)) result (tree.new, free.new) }
 {
     let opened = open(sheet);
     let number = opened.refusal;
@@ -128,7 +128,7 @@ pub fn export_fundamental_loops(
     edges: &mut [u8],
     directions: &mut [i8],
 ) -> i64
-    ensures { Exported (on-sheet sheet.now (λ c L. loops-call c starts.old edges.old directions.old)) result (starts.new, edges.new, directions.new) }
+    ensures { Exported (on_sheet sheet.now (λ c L. loops_call c starts.old edges.old directions.old)) result (starts.new, edges.new, directions.new) }
 {
     let opened = open(sheet);
     let number = opened.refusal;
@@ -141,7 +141,7 @@ pub fn export_fundamental_loops(
 
 // The same without directions.
 pub fn export_su2_fundamental_loops(sheet: &[u8], starts: &mut [u32], edges: &mut [u8]) -> i64
-    ensures { Exported (on-sheet sheet.now (λ c L. su2-loops-call c starts.old edges.old)) result (starts.new, edges.new) }
+    ensures { Exported (on_sheet sheet.now (λ c L. su2_loops_call c starts.old edges.old)) result (starts.new, edges.new) }
 {
     let opened = open(sheet);
     let number = opened.refusal;
@@ -154,7 +154,7 @@ pub fn export_su2_fundamental_loops(sheet: &[u8], starts: &mut [u32], edges: &mu
 
 // The sentence of a refusal: the number of its bytes.
 pub fn export_refusal_text(number: u64, text: &mut [u8]) -> i64
-    ensures { Exported (text-call number text.old) result text.new }
+    ensures { Exported (text_call number text.old) result text.new }
 {
     signed(told_number(refusal_text(number as usize, text)))
 }

@@ -3,21 +3,21 @@
 use Rattle.std.specs.Prelude.{Bool, [], ◌∷◌}
 use Rattle.recorded.specs.Bytes.{u32s}
 use Rattle.recorded_fields.specs.Layout.{Case}
-use Rattle.recorded_fields.specs.Inputs.{sheet-of, number_of, pentachora-of, weights-of, vector-of, told_of}
+use Rattle.recorded_fields.specs.Inputs.{sheet_of, number_of, pentachora_of, weights_of, vector_of, told_of}
 use Rattle.recorded_fields.specs.Choosing.{chosen}
-use Rattle.complex_recorded.specs.Agreement.{pentachora-agrees, indices-agrees, tree-agrees, loops-agrees, su2-loops-agrees, matvec-agrees}
+use Rattle.complex_recorded.specs.Agreement.{pentachora_agrees, indices_agrees, tree_agrees, loops_agrees, su2_loops_agrees, matvec_agrees}
 
 -- complexes, trees and loops
-unfoldable pub complexes-agreed : Case → Bool
-complexes-agreed c =
+unfoldable pub complexes_agreed : Case → Bool
+complexes_agreed c =
     chosen c.kind
-    ((1, pentachora-agrees (number_of c 0) (pentachora-of c) (told_of c) (c.field 11) (c.field 12) (c.field 13))
-    ∷ (2, indices-agrees (sheet-of c) (number_of c 0) (told_of c) (c.field 11))
-    ∷ (3, tree-agrees (sheet-of c) (told_of c) (c.field 11) (c.field 12))
-    ∷ (4, loops-agrees (sheet-of c) (told_of c) (c.field 12) (c.field 11) (c.field 13))
-    ∷ (5, su2-loops-agrees (sheet-of c) (told_of c) (c.field 12) (c.field 11))
+    ((1, pentachora_agrees (number_of c 0) (pentachora_of c) (told_of c) (c.field 11) (c.field 12) (c.field 13))
+    ∷ (2, indices_agrees (sheet_of c) (number_of c 0) (told_of c) (c.field 11))
+    ∷ (3, tree_agrees (sheet_of c) (told_of c) (c.field 11) (c.field 12))
+    ∷ (4, loops_agrees (sheet_of c) (told_of c) (c.field 12) (c.field 11) (c.field 13))
+    ∷ (5, su2_loops_agrees (sheet_of c) (told_of c) (c.field 12) (c.field 11))
     ∷ [])
 
 -- row lists: the starts and columns that go in stand in fields 11 and 12, the values where weights stand
-unfoldable pub rows-agreed : Case → Bool
-rows-agreed c = matvec-agrees (u32s (c.field 11)) (u32s (c.field 12)) (weights-of c) (vector-of c) (told_of c) (c.field 14)
+unfoldable pub rows_agreed : Case → Bool
+rows_agreed c = matvec_agrees (u32s (c.field 11)) (u32s (c.field 12)) (weights_of c) (vector_of c) (told_of c) (c.field 14)

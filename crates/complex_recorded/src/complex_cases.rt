@@ -1,8 +1,8 @@
 // The calls on complexes, trees and loops in a case, held against its answers.
 ghost use Rattle.std.specs.Prelude.{◌≡◌};
 ghost use Rattle.recorded_fields.specs.Layout.{case_at, Whole};
-ghost use Rattle.recorded_fields.specs.Inputs.{pentachora-of};
-ghost use Rattle.complex_recorded.specs.Cases.{complexes-agreed};
+ghost use Rattle.recorded_fields.specs.Inputs.{pentachora_of};
+ghost use Rattle.complex_recorded.specs.Cases.{complexes_agreed};
 
 use crate::{
     from_pentachorons_same, fundamental_loops_same, spanning_tree_same, su2_fundamental_loops_same,
@@ -14,8 +14,8 @@ use recorded_fields::inputs::{ROOM_8, number, told};
 
 // The pentachora of the case are read already.
 fn answers_same(list: &[u8], at: usize, pentachora: &[u64]) -> bool
-    requires { Whole list.now at × (pentachora.now ≡ pentachora-of (case_at list.now at)) }
-    ensures { result ≡ complexes-agreed (case_at list.now at) }
+    requires { Whole list.now at × (pentachora.now ≡ pentachora_of (case_at list.now at)) }
+    ensures { result ≡ complexes_agreed (case_at list.now at) }
 {
     let kind = byte_at(list, at);
     let sheet = field(list, at, 0);
@@ -44,7 +44,7 @@ fn answers_same(list: &[u8], at: usize, pentachora: &[u64]) -> bool
 
 pub fn complexes_same(list: &[u8], at: usize) -> bool
     requires { Whole list.now at }
-    ensures { result ≡ complexes-agreed (case_at list.now at) }
+    ensures { result ≡ complexes_agreed (case_at list.now at) }
 {
     let mut pentachora = [0u64; ROOM_8];
     let n_pentachora = u64s(field(list, at, 6), &mut pentachora);

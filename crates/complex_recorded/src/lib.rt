@@ -3,8 +3,8 @@ pub mod complex_cases;
 pub mod row_cases;
 
 ghost use Rattle.std.specs.Prelude.{◌≡◌};
-ghost use Rattle.recorded.specs.Bytes.{holds-u64s};
-ghost use Rattle.complex_recorded.specs.Agreement.{pentachora-agrees, indices-agrees, tree-agrees, loops-agrees, su2-loops-agrees, matvec-agrees};
+ghost use Rattle.recorded.specs.Bytes.{holds_u64s};
+ghost use Rattle.complex_recorded.specs.Agreement.{pentachora_agrees, indices_agrees, tree_agrees, loops_agrees, su2_loops_agrees, matvec_agrees};
 
 use complex_exports::{
     export_from_pentachorons, export_fundamental_loops, export_spanning_tree,
@@ -24,7 +24,7 @@ pub fn from_pentachorons_same(
     triangles: &[u8],
     n_triangles: &[u8],
 ) -> bool
-    ensures { result ≡ pentachora-agrees n_vertices pentachora.now told edges.now triangles.now n_triangles.now }
+    ensures { result ≡ pentachora_agrees n_vertices pentachora.now told edges.now triangles.now n_triangles.now }
 {
     let mut made_edges = [0u8; EDGE_ENTRIES];
     let mut made_triangles = [0u8; TRIANGLE_ENTRIES];
@@ -43,13 +43,13 @@ pub fn from_pentachorons_same(
 
 // Three numbers as a list.
 fn same_three(list: &[u64; 3], bytes: &[u8]) -> bool
-    ensures { result ≡ holds-u64s list.now bytes.now }
+    ensures { result ≡ holds_u64s list.now bytes.now }
 {
     same_u64s(list, bytes)
 }
 
 pub fn tri_edge_indices_same(sheet: &[u8], triangle: u64, told: i64, indices: &[u8]) -> bool
-    ensures { result ≡ indices-agrees sheet.now triangle told indices.now }
+    ensures { result ≡ indices_agrees sheet.now triangle told indices.now }
 {
     let mut found = [0u64; 3];
     let answer = export_tri_edge_indices(sheet, triangle, &mut found);
@@ -57,7 +57,7 @@ pub fn tri_edge_indices_same(sheet: &[u8], triangle: u64, told: i64, indices: &[
 }
 
 pub fn spanning_tree_same(sheet: &[u8], told: i64, tree: &[u8], free: &[u8]) -> bool
-    ensures { result ≡ tree-agrees sheet.now told tree.now free.now }
+    ensures { result ≡ tree_agrees sheet.now told tree.now free.now }
 {
     let mut made_tree = [0u32; 64];
     let mut made_free = [0u32; 64];
@@ -72,7 +72,7 @@ pub fn fundamental_loops_same(
     edges: &[u8],
     directions: &[u8],
 ) -> bool
-    ensures { result ≡ loops-agrees sheet.now told starts.now edges.now directions.now }
+    ensures { result ≡ loops_agrees sheet.now told starts.now edges.now directions.now }
 {
     let mut made_starts = [0u32; 64];
     let mut made_edges = [0u8; 1024];
@@ -89,7 +89,7 @@ pub fn fundamental_loops_same(
 }
 
 pub fn su2_fundamental_loops_same(sheet: &[u8], told: i64, starts: &[u8], edges: &[u8]) -> bool
-    ensures { result ≡ su2-loops-agrees sheet.now told starts.now edges.now }
+    ensures { result ≡ su2_loops_agrees sheet.now told starts.now edges.now }
 {
     let mut made_starts = [0u32; 64];
     let mut made_edges = [0u8; 1024];
@@ -105,7 +105,7 @@ pub fn matvec_same(
     told: i64,
     product: &[u8],
 ) -> bool
-    ensures { result ≡ matvec-agrees starts.now columns.now values.now vector.now told product.now }
+    ensures { result ≡ matvec_agrees starts.now columns.now values.now vector.now told product.now }
 {
     let mut result = [0.0f64; 256];
     let answer = export_matvec(starts, columns, values, vector, &mut result);

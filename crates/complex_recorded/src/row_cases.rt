@@ -1,7 +1,7 @@
 // The product of row lists in a case, held against its answer.
 ghost use Rattle.std.specs.Prelude.{◌≡◌};
 ghost use Rattle.recorded_fields.specs.Layout.{case_at, Whole};
-ghost use Rattle.complex_recorded.specs.Cases.{rows-agreed};
+ghost use Rattle.complex_recorded.specs.Cases.{rows_agreed};
 
 use crate::matvec_same;
 use recorded::list::{floats, u32s};
@@ -10,7 +10,7 @@ use recorded_fields::inputs::{ROOM_4, ROOM_8, told};
 
 pub fn rows_same(list: &[u8], at: usize) -> bool
     requires { Whole list.now at }
-    ensures { result ≡ rows-agreed (case_at list.now at) }
+    ensures { result ≡ rows_agreed (case_at list.now at) }
 {
     let mut starts = [0u32; ROOM_4];
     let mut columns = [0u32; ROOM_4];

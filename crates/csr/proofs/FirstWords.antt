@@ -26,17 +26,17 @@ module _ (f : ℕ → ℕ) (words : List ℕ) where
       are' k h (no e) = get_or-set_other now i k x 0 e ∙ so_far.are k (omega arith)
 
 module _ (lengths : ℕ → ℕ) where
-  pub begins-next : (i : ℕ) → begins lengths (i + 1) ≡ begins lengths i + lengths i
+  pub begins_next : (i : ℕ) → begins lengths (i + 1) ≡ begins lengths i + lengths i
   unfolding begins
-  begins-next i = rw (add-one i)
+  begins_next i = rw (add-one i)
 
-  begins-by : (d i : ℕ) → begins lengths i ≤ begins lengths (i + d)
-  begins-by zero i = let e : i + 0 ≡ i = omega arith in rw e (omega arith)
-  begins-by (suc d) i =
+  begins_by : (d i : ℕ) → begins lengths i ≤ begins lengths (i + d)
+  begins_by zero i = let e : i + 0 ≡ i = omega arith in rw e (omega arith)
+  begins_by (suc d) i =
       let e : i + suc d ≡ i + d + 1 = omega arith in
-      rw (e, begins-next (i + d)) (omega (arith, begins-by d i))
+      rw (e, begins_next (i + d)) (omega (arith, begins_by d i))
 
-  pub begins-rise : (i n : ℕ) → i ≤ n → begins lengths i ≤ begins lengths n
-  begins-rise i n h =
+  pub begins_rise : (i n : ℕ) → i ≤ n → begins lengths i ≤ begins lengths n
+  begins_rise i n h =
       let e : i + (n - i) ≡ n = omega arith in
-      rw e at (begins-by (n - i) i)
+      rw e at (begins_by (n - i) i)

@@ -8,26 +8,26 @@ use lib.Ieee.{Float}
 use lib.ListN.{get_or, length}
 use Rattle.complex.specs.Complex.{Complex}
 use Rattle.complex.specs.Judge.{Accepted}
-use Rattle.gauss_law.specs.Listing.{free-edges, states, limit}
+use Rattle.gauss_law.specs.Listing.{free_edges, states, limit}
 use Rattle.matrices.specs.declared.coupling.KSParams.{KSParams}
 use Rattle.hilbert.specs.Search.{row}
 use Rattle.plaquettes.specs.declared.target.Sizes.{Sizes}
 use Rattle.plaquettes.specs.Targets.{BasisList}
-use Rattle.plaquettes.proofs.TriangleTelling.{state-there}
-use Rattle.plaquettes.proofs.Targets.{there, row-long, row_is}
-use Rattle.plaquettes.proofs.Moves.{small-everywhere}
+use Rattle.plaquettes.proofs.TriangleTelling.{state_there}
+use Rattle.plaquettes.proofs.Targets.{there, row_long, row_is}
+use Rattle.plaquettes.proofs.Moves.{small_everywhere}
 use Rattle.moves.specs.Numbers.{number, lower, Numbered}
 use Rattle.moves.specs.Moves.{tables}
 use Rattle.moves.specs.Tables.{MovesWritten}
-use Rattle.moves.proofs.Numbers.{number-few}
-use Rattle.entries.specs.Rows.{csr-entries}
+use Rattle.moves.proofs.Numbers.{number_few}
+use Rattle.entries.specs.Rows.{csr_entries}
 use Rattle.csr.specs.Words.{FirstWords}
 use Rattle.csr.specs.Fill.{walk_of, WalkOf}
-use Rattle.entries.proofs.EntryNumbers.{entries-few}
+use Rattle.entries.proofs.EntryNumbers.{entries_few}
 
-lower-small : (x : ℕ) → x < limit → lower x ≡ x
+lower_small : (x : ℕ) → x < limit → lower x ≡ x
 unfolding lower
-lower-small x h = omega arith
+lower_small x h = omega arith
 
 module _ (c : Complex) (list : List ℤ) (s : Sizes) (free : List ℕ) (basis : BasisList c list s free) (candidates : (2 * s.lambda + 1) ^ s.free ≤ limit) where
   abbrev L : ℕ
@@ -36,54 +36,54 @@ module _ (c : Complex) (list : List ℤ) (s : Sizes) (free : List ℕ) (basis : 
   abbrev N : ℕ
   N = length (states c L)
 
-  listed : (j : ℕ) → j < length (free-edges c) → get_or free j 0 ≡ get_or (free-edges c) j 0
-  listed j h = basis.free-listed j (rw basis.free-count h)
+  listed : (j : ℕ) → j < length (free_edges c) → get_or free j 0 ≡ get_or (free_edges c) j 0
+  listed j h = basis.free_listed j (rw basis.free_count h)
 
-  few : (i : ℕ) → i < N → number L L free (length (free-edges c)) (get_or (states c L) i []) < limit
-  few i h = number-few c basis.accepted L free listed (rw basis.free-count at candidates) i h
+  few : (i : ℕ) → i < N → number L L free (length (free_edges c)) (get_or (states c L) i []) < limit
+  few i h = number_few c basis.accepted L free listed (rw basis.free_count at candidates) i h
 
   -- the number of a row
-  number_is : (i : ℕ) → i < s.states → number L L free s.free (row s.edges list i) ≡ number L L free (length (free-edges c)) (get_or (states c L) i [])
-  number_is i h = rw (basis.free-count, row_is c list s free basis i h)
+  number_is : (i : ℕ) → i < s.states → number L L free s.free (row s.edges list i) ≡ number L L free (length (free_edges c)) (get_or (states c L) i [])
+  number_is i h = rw (basis.free_count, row_is c list s free basis i h)
 
   pub numbered : (i : ℕ) → i < s.states → Numbered L L free s.free (row s.edges list i)
   numbered i h =
-      let state = state-there c basis.accepted L i (there c list s free basis i h) in
+      let state = state_there c basis.accepted L i (there c list s free basis i h) in
       let is = number_is i h in
       let small = few i (there c list s free basis i h) in
       record {
         truncation = basis.truncation;
         low_small = basis.truncation;
-        free-few = basis.free-few;
-        free-fit = rw (row-long c list s free basis i h) basis.free-fit;
-        small = λ e. rw (row_is c list s free basis i h) (small-everywhere c L (get_or (states c L) i []) state e);
+        free_few = basis.free_few;
+        free_fit = rw (row_long c list s free basis i h) basis.free_fit;
+        small = λ e. rw (row_is c list s free basis i h) (small_everywhere c L (get_or (states c L) i []) state e);
         few = omega arith;
       }
 
   module _ (p : KSParams) (w : ℕ → Float) (starts words : List ℕ) (written : FirstWords (λ i. number L L free s.free (row s.edges list i)) s.states starts words) where
-    word-is : (i : ℕ) → i < N → get_or words i 0 ≡ number L L free (length (free-edges c)) (get_or (states c L) i [])
-    word-is i h = let b : i < s.states = rw basis.count h in written.are i b ∙ number_is i b
+    word_is : (i : ℕ) → i < N → get_or words i 0 ≡ number L L free (length (free_edges c)) (get_or (states c L) i [])
+    word_is i h = let b : i < s.states = rw basis.count h in written.are i b ∙ number_is i b
 
     pub word_small : (i : ℕ) → i < N → get_or words i 0 < 2 ^ 20
-    word_small i h = omega (arith, word-is i h, few i h)
+    word_small i h = omega (arith, word_is i h, few i h)
 
-    pub walk-made : (sides keys : List ℕ) (terms : List Float) (count : ℕ) → count ≡ 2 * length c.triangles → MovesWritten c L p w free (tables sides keys terms)
+    pub walk_made : (sides keys : List ℕ) (terms : List Float) (count : ℕ) → count ≡ 2 * length c.triangles → MovesWritten c L p w free (tables sides keys terms)
         → WalkOf c L p w free (walk_of sides keys terms count L words s.states list s.edges p.electric)
-    walk-made sides keys terms count count-is moves =
+    walk_made sides keys terms count count_is moves =
         record {
           accepted = basis.accepted;
           few = rw (← basis.count) basis.few;
           small = basis.truncation;
           listed = listed;
-          count = count-is;
-          candidates = rw basis.free-count at candidates;
-          moves-are = moves;
+          count = count_is;
+          candidates = rw basis.free_count at candidates;
+          moves_are = moves;
           truncation = refl;
-          count-states = basis.count;
-          state-is = λ i h. row_is c list s free basis i (rw basis.count h);
-          numbers-are = λ i h. ap lower (word-is i h) ∙ lower-small _ (few i h);
+          count_states = basis.count;
+          state_is = λ i h. row_is c list s free basis i (rw basis.count h);
+          numbers_are = λ i h. ap lower (word_is i h) ∙ lower_small _ (few i h);
           factor = refl;
         }
 
-pub entries-small : (c : Complex) → Accepted c → (L : ℕ) (p : KSParams) (w : ℕ → Float) → length (states c L) ≤ 1048576 → csr-entries c L p w < 2 ^ 32
-entries-small c accepted L p w few = omega (arith, entries-few c accepted L p w)
+pub entries_small : (c : Complex) → Accepted c → (L : ℕ) (p : KSParams) (w : ℕ → Float) → length (states c L) ≤ 1048576 → csr_entries c L p w < 2 ^ 32
+entries_small c accepted L p w few = omega (arith, entries_few c accepted L p w)

@@ -1,14 +1,14 @@
 // The U(1) Hamiltonian as row lists.
 ghost use Rattle.std.specs.Prelude.{◌+◌, ◌*◌, ◌^◌, ◌<◌, ◌≤◌, length};
 ghost use Rattle.mathematics.specs.Calls.{Answered};
-ghost use Rattle.answers.specs.Answer.{numberAnswer};
-ghost use Rattle.complex.specs.Complex.{complexOf};
+ghost use Rattle.answers.specs.Answer.{number_answer};
+ghost use Rattle.complex.specs.Complex.{complex_of};
 ghost use Rattle.matrices.specs.Weights.{weight, Weighed};
 ghost use Rattle.rows.specs.RowLists.{RowsWritten};
 ghost use Rattle.plaquettes.specs.Targets.{BasisList};
 ghost use Rattle.triangles.specs.Indices.{AllSides};
-ghost use Rattle.entries.specs.Rows.{csr-row, csr-entries};
-ghost use Rattle.csr.specs.Csr.{csr-call};
+ghost use Rattle.entries.specs.Rows.{csr_row, csr_entries};
+ghost use Rattle.csr.specs.Csr.{csr_call};
 
 use crate::fill::write_rows;
 use crate::words::{write_numbers, write_starts};
@@ -37,8 +37,8 @@ fn write_lists(
     columns: &mut [u32],
     values: &mut [f64],
 )
-    requires { BasisList (complexOf c) list.now s free.now × AllSides (complexOf c) all.now × ((2 * s.lambda + 1) ^ s.free ≤ 1048576) × Weighed (length (complexOf c).triangles) given weights.now × (s.states < length starts.old) × (csr-entries (complexOf c) s.lambda p (weight given weights.now) ≤ length columns.old) × (csr-entries (complexOf c) s.lambda p (weight given weights.now) ≤ length values.old) }
-    ensures { RowsWritten (csr-row (complexOf c) s.lambda p (weight given weights.now)) s.states (csr-entries (complexOf c) s.lambda p (weight given weights.now)) starts.old columns.old values.old starts.new columns.new values.new }
+    requires { BasisList (complex_of c) list.now s free.now × AllSides (complex_of c) all.now × ((2 * s.lambda + 1) ^ s.free ≤ 1048576) × Weighed (length (complex_of c).triangles) given weights.now × (s.states < length starts.old) × (csr_entries (complex_of c) s.lambda p (weight given weights.now) ≤ length columns.old) × (csr_entries (complex_of c) s.lambda p (weight given weights.now) ≤ length values.old) }
+    ensures { RowsWritten (csr_row (complex_of c) s.lambda p (weight given weights.now)) s.states (csr_entries (complex_of c) s.lambda p (weight given weights.now)) starts.old columns.old values.old starts.new columns.new values.new }
 {
     let mut keys = [0u32; 512];
     let mut terms = [0.0f64; 512];
@@ -74,7 +74,7 @@ pub fn build_csr(
     columns: &mut [u32],
     values: &mut [f64],
 ) -> Answer
-    ensures { Answered (csr-call (complexOf c) lambda p given weights.now states.old starts.old columns.old values.old) (numberAnswer result) (states.new, starts.new, columns.new, values.new) }
+    ensures { Answered (csr_call (complex_of c) lambda p given weights.now states.old starts.old columns.old values.old) (number_answer result) (states.new, starts.new, columns.new, values.new) }
 {
     let basis = prepare_basis(c, lambda);
     let number = basis.refusal;

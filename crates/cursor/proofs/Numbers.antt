@@ -8,30 +8,30 @@ use native.Mathlib.Decide.{dec_lt}
 use lib.IntN.{ℤ, pos}
 use lib.ListN.{get_or, length, drop, length-append, length-drop, get_or-append}
 use lib.Seq.{drop_at, drop-drop, get_or-drop}
-use Rattle.cycles.specs.Cycles.{row, with-cycle}
-use Rattle.walker.specs.Walker.{block-rows}
-use Rattle.walker.proofs.BlockRows.{rows-length, rows_at}
+use Rattle.cycles.specs.Cycles.{row, with_cycle}
+use Rattle.walker.specs.Walker.{block_rows}
+use Rattle.walker.proofs.BlockRows.{rows_length, rows_at}
 use Rattle.cursor.specs.declared.Cursor.{Cursor}
-use Rattle.cursor.specs.Cursor.{states-left, states-from, state-here, Standing, NextBlock, CursorAt}
-use Rattle.cursor.proofs.Cursors.{from-here, more_rows, some-rows}
+use Rattle.cursor.specs.Cursor.{states_left, states_from, state_here, Standing, NextBlock, CursorAt}
+use Rattle.cursor.proofs.Cursors.{from_here, more_rows, some_rows}
 
 module _ (free : List ℕ) (cycles : List ℤ) (L n : ℕ) where
   -- ---- where it stands
   module _ (all : List (List ℤ)) where
     -- before all of them
-    pub at_first : (s : List ℤ) (c : Cursor) → states-from free cycles L n s c ≡ all → c.number ≡ 0 → CursorAt free cycles L n all s c
+    pub at_first : (s : List ℤ) (c : Cursor) → states_from free cycles L n s c ≡ all → c.number ≡ 0 → CursorAt free cycles L n all s c
     at_first s c is numbered = record { is = is ∙ ap (λ k. drop k all) (sym numbered); inside = omega (arith, numbered) }
 
     module _ (s : List ℤ) (c : Cursor) (at : CursorAt free cycles L n all s c) where
-      length-left : length (states-from free cycles L n s c) ≡ length all - c.number
-      length-left = ap length at.is ∙ length-drop c.number all
+      length_left : length (states_from free cycles L n s c) ≡ length all - c.number
+      length_left = ap length at.is ∙ length-drop c.number all
 
       -- behind the last one it has the number of all
-      pub at-end : c.left ≡ 0 → c.number ≡ length all
-      unfolding states-left
-      at-end none =
-          let nothing : length (states-from free cycles L n s c) ≡ 0 = ap (λ k. length (states-left free (row (length s) cycles) L n s k c.d c.to)) none in
-          omega (arith, length-left, at.inside)
+      pub at_end : c.left ≡ 0 → c.number ≡ length all
+      unfolding states_left
+      at_end none =
+          let nothing : length (states_from free cycles L n s c) ≡ 0 = ap (λ k. length (states_left free (row (length s) cycles) L n s k c.d c.to)) none in
+          omega (arith, length_left, at.inside)
 
       -- before a number of the list it is not behind the last
       pub at_more : (place : ℕ) → c.number ≤ place → place < length all → 0 < c.left
@@ -39,38 +39,38 @@ module _ (free : List ℕ) (cycles : List ℤ) (L n : ℕ) where
         where
           go : Dec (0 < c.left) → 0 < c.left
           go (yes h) = h
-          go (no h) = absurd (omega (arith, at-end (omega arith)))
+          go (no h) = absurd (omega (arith, at_end (omega arith)))
 
       module _ (standing : Standing free cycles L n s c) (some : 0 < c.left) where
         -- the states of its block are in the list
         pub at_block : c.number + (c.to - c.d) ≤ length all
-        at_block = omega (arith, length-left, at.inside, some-rows free cycles L n s c.left standing.walkable some c.d c.to)
+        at_block = omega (arith, length_left, at.inside, some_rows free cycles L n s c.left standing.walkable some c.d c.to)
 
         -- there it is the state of the list
-        pub at-state : (c.number < length all) × (state-here cycles s c ≡ get_or all c.number [])
-        at-state =
+        pub at_state : (c.number < length all) × (state_here cycles s c ≡ get_or all c.number [])
+        at_state =
             let low = standing.some some in
             let here = sym (more_rows free cycles L n s c.left standing.walkable some c.d c.to low) ∙ at.is in
             (omega (arith, at_block), ap (λ l. get_or l 0 []) here ∙ get_or-drop c.number all 0 [] ∙ ap (λ k. get_or all k []) (add-zero c.number))
 
         -- a state of the block
-        pub found : (place : ℕ) → c.number ≤ place → place - c.number < c.to - c.d → get_or all place [] ≡ with-cycle s (pos (c.d + (place - c.number))) (row (length s) cycles 0)
+        pub found : (place : ℕ) → c.number ≤ place → place - c.number < c.to - c.d → get_or all place [] ≡ with_cycle s (pos (c.d + (place - c.number))) (row (length s) cycles 0)
         found place low high =
-            let rows = block-rows s (row (length s) cycles 0) c.d c.to in
+            let rows = block_rows s (row (length s) cycles 0) c.d c.to in
             let i = place - c.number in
             let e : c.number + i ≡ place = omega arith in
-            let here = sym (from-here free cycles L n s c.left standing.walkable some c.d c.to) ∙ at.is in
+            let here = sym (from_here free cycles L n s c.left standing.walkable some c.d c.to) ∙ at.is in
             ap (λ k. get_or all k []) (sym e)
             ∙ sym (get_or-drop c.number all i [])
             ∙ ap (λ l. get_or l i []) (sym here)
-            ∙ get_or-append rows _ [] i (omega (arith, rows-length s (row (length s) cycles 0) c.d c.to))
+            ∙ get_or-append rows _ [] i (omega (arith, rows_length s (row (length s) cycles 0) c.d c.to))
             ∙ rows_at s (row (length s) cycles 0) c.d c.to i high
 
       -- ---- where it goes
       -- behind some states
-      pub at-passed : (rows : List (List ℤ)) (new : List ℤ) (r : Cursor) → states-from free cycles L n s c ≡ rows ++ states-from free cycles L n new r → r.number ≡ c.number + length rows → CursorAt free cycles L n all new r
-      at-passed rows new r is numbered =
-          let rest = states-from free cycles L n new r in
+      pub at_passed : (rows : List (List ℤ)) (new : List ℤ) (r : Cursor) → states_from free cycles L n s c ≡ rows ++ states_from free cycles L n new r → r.number ≡ c.number + length rows → CursorAt free cycles L n all new r
+      at_passed rows new r is numbered =
+          let rest = states_from free cycles L n new r in
           let both : rows ++ rest ≡ drop c.number all = sym is ∙ at.is in
           record {
             is = sym (drop_at rows rest (length rows) refl) ∙ ap (drop (length rows)) both ∙ drop-drop (length rows) c.number all ∙ ap (λ k. drop k all) (sym numbered);
@@ -78,7 +78,7 @@ module _ (free : List ℕ) (cycles : List ℤ) (L n : ℕ) where
           }
 
   -- fewer are to come behind a block
-  pub fewer : (s new : List ℤ) (c r : Cursor) → Standing free cycles L n s c → 0 < c.left → NextBlock free cycles L n s c new r → length (states-from free cycles L n new r) < length (states-from free cycles L n s c)
+  pub fewer : (s new : List ℤ) (c r : Cursor) → Standing free cycles L n s c → 0 < c.left → NextBlock free cycles L n s c new r → length (states_from free cycles L n new r) < length (states_from free cycles L n s c)
   fewer s new c r standing some next =
-      let rows = block-rows s (row (length s) cycles 0) c.d c.to in
-      omega (arith, standing.some some, ap length next.states, length-append rows (states-from free cycles L n new r), rows-length s (row (length s) cycles 0) c.d c.to)
+      let rows = block_rows s (row (length s) cycles 0) c.d c.to in
+      omega (arith, standing.some some, ap length next.states, length-append rows (states_from free cycles L n new r), rows_length s (row (length s) cycles 0) c.d c.to)

@@ -4,7 +4,7 @@ pub mod tables;
 
 ghost use Rattle.std.specs.Prelude.{◌+◌, ◌^◌, ◌<◌, ◌≤◌, length};
 ghost use Rattle.cycles.specs.Cycles.{row};
-ghost use Rattle.walker.specs.Walker.{walked-states};
+ghost use Rattle.walker.specs.Walker.{walked_states};
 ghost use Rattle.walker.specs.Steps.{Walkable};
 ghost use Rattle.cursor.specs.Cursor.{Standing, First, NextBlock, Next};
 
@@ -32,7 +32,7 @@ pub fn first_state(
     blocks: usize,
     number: usize,
 ) -> Cursor
-    requires { Walkable free.now cycles.now lambda n_free config.old blocks × (number + length (walked-states free.now (row (length config.old) cycles.now) lambda n_free config.old blocks) ≤ 2 ^ 40) }
+    requires { Walkable free.now cycles.now lambda n_free config.old blocks × (number + length (walked_states free.now (row (length config.old) cycles.now) lambda n_free config.old blocks) ≤ 2 ^ 40) }
     ensures { First free.now cycles.now lambda n_free config.old blocks number config.new result }
 {
     let n = width(n_free, lambda);

@@ -1,7 +1,7 @@
 // One of all states, found by its number.
 ghost use Rattle.std.specs.Prelude.{◌≡◌, [], ◌<◌, get_or, length};
 ghost use Rattle.cycles.specs.Cycles.{row};
-ghost use Rattle.walker.specs.Walker.{walked-states};
+ghost use Rattle.walker.specs.Walker.{walked_states};
 ghost use Rattle.walker.specs.Steps.{Walkable};
 
 use crate::{first_state, next_block};
@@ -19,8 +19,8 @@ pub fn find_state(
     blocks: usize,
     place: usize,
 )
-    requires { Walkable free.now cycles.now lambda n_free config.old blocks × (place < length (walked-states free.now (row (length config.old) cycles.now) lambda n_free config.old blocks)) }
-    ensures { config.new ≡ get_or (walked-states free.now (row (length config.old) cycles.now) lambda n_free config.old blocks) place [] }
+    requires { Walkable free.now cycles.now lambda n_free config.old blocks × (place < length (walked_states free.now (row (length config.old) cycles.now) lambda n_free config.old blocks)) }
+    ensures { config.new ≡ get_or (walked_states free.now (row (length config.old) cycles.now) lambda n_free config.old blocks) place [] }
 {
     let mut c = first_state(config, free, n_free, cycles, lambda, blocks, 0);
     while c.to - c.d <= place - c.number {

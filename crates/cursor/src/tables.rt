@@ -1,6 +1,6 @@
 // A state of a record, by its tables.
 ghost use Rattle.std.specs.Prelude.{◌≡◌, [], ◌<◌, get_or, length, take};
-ghost use Rattle.walker.specs.Tables.{states-of, Fit};
+ghost use Rattle.walker.specs.Tables.{states_of, Fit};
 
 use crate::states::find_state;
 use numbers::sizes::MOST_EDGES;
@@ -8,8 +8,8 @@ use walker::tables::Walker;
 
 // The state with a number stands in the first n_edges entries.
 pub fn state_at(w: Walker, lambda: usize, blocks: usize, place: usize) -> [i32; MOST_EDGES]
-    requires { Fit w lambda blocks × (place < length (states-of w lambda blocks)) }
-    ensures { (length result ≡ 63) × (take w.n_edges result ≡ get_or (states-of w lambda blocks) place []) }
+    requires { Fit w lambda blocks × (place < length (states_of w lambda blocks)) }
+    ensures { (length result ≡ 63) × (take w.n_edges result ≡ get_or (states_of w lambda blocks) place []) }
 {
     let free = w.free;
     let n_free = w.n_free;

@@ -10,52 +10,52 @@ use lib.ListN.{get_or, length, set, replicate, length-replicate, length-set}
 use lib.Seq.{paste, get_or-take, length-paste}
 use Rattle.complex.specs.declared.SimplicialComplex.{SimplicialComplex}
 use Rattle.complex.specs.declared.search.SpanningTree.{SpanningTree}
-use Rattle.complex.specs.Complex.{Simplex, Joins, entries, complexOf}
-use Rattle.complex.specs.Search.{Search, search, across, SpansReached}
+use Rattle.complex.specs.Complex.{Simplex, Joins, entries, complex_of}
+use Rattle.complex.specs.Search.{Search, whole_search, across, SpansReached}
 use Rattle.complex.specs.Judge.{Accepted}
-use Rattle.complex.specs.Tree.{searchOf}
-use Rattle.complex.proofs.Simplices.{simplex-at}
-use Rattle.complex.proofs.Looks.{joins-across}
+use Rattle.complex.specs.Tree.{search_of}
+use Rattle.complex.proofs.Simplices.{simplex_at}
+use Rattle.complex.proofs.Looks.{joins_across}
 use Rattle.complex.proofs.Accepting.{accepted}
-use Rattle.gauss_law.specs.Listing.{tree-edges}
+use Rattle.gauss_law.specs.Listing.{tree_edges}
 use Rattle.gauss_law.specs.Spanning.{Spanned}
-use Rattle.gauss_law.proofs.Accepted.{accepted-spans}
-use Rattle.gauss_law.proofs.Spanned.{edges-long, spanned-edges, spanned-tree, spanned-found}
+use Rattle.gauss_law.proofs.Accepted.{accepted_spans}
+use Rattle.gauss_law.proofs.Spanned.{edges_long, spanned_edges, spanned_tree, spanned_found}
 use Rattle.cycles.specs.Cycles.{row, toward, PathTable, extended}
-use Rattle.cycles.proofs.Rows.{zero_row, row-length, row_written, row_kept, row-set, row-set-other}
-use Rattle.cycles.proofs.Paths.{path-none, path-more}
+use Rattle.cycles.proofs.Rows.{zero_row, row_length, row_written, row_kept, row_set, row_set_other}
+use Rattle.cycles.proofs.Paths.{path_none, path_more}
 
-joins-back : (s : Simplex) (v w : ℕ) → Joins s v w → Joins s w v
-joins-back s v w (inl j) = inr j
-joins-back s v w (inr j) = inl j
+joins_back : (s : Simplex) (v w : ℕ) → Joins s v w → Joins s w v
+joins_back s v w (inl j) = inr j
+joins_back s v w (inr j) = inl j
 
 module _ (c : SimplicialComplex) (t : SpanningTree) (spanned : Spanned c t) where
-  good : Accepted (complexOf c)
+  good : Accepted (complex_of c)
   good = (accepted c).0 spanned.accepted
 
   abbrev found : Search
-  found = search (complexOf c).edges (complexOf c).vertices
+  found = whole_search (complex_of c).edges (complex_of c).vertices
 
-  spans : SpansReached (complexOf c).edges (complexOf c).vertices found
-  spans = accepted-spans (complexOf c) good
+  spans : SpansReached (complex_of c).edges (complex_of c).vertices found
+  spans = accepted_spans (complex_of c) good
 
-  few : length (complexOf c).edges ≤ 63
-  few = good.few-edges
+  few : length (complex_of c).edges ≤ 63
+  few = good.few_edges
 
-  tree-long : length found.tree ≡ t.found
-  unfolding tree-edges
-  tree-long = sym (spanned-found c t spanned)
+  tree_long : length found.tree ≡ t.found
+  unfolding tree_edges
+  tree_long = sym (spanned_found c t spanned)
 
-  pub vertex-found : (i : ℕ) → i ≤ t.found → get_or found.seen i 0 ≡ get_or t.queue i 0
-  unfolding searchOf complexOf
-  vertex-found i h = ap (λ s. get_or s.seen i 0) (sym spanned.searched.stands) ∙ get_or-take (t.found + 1) t.queue i 0 (omega arith)
+  pub vertex_found : (i : ℕ) → i ≤ t.found → get_or found.seen i 0 ≡ get_or t.queue i 0
+  unfolding search_of complex_of
+  vertex_found i h = ap (λ s. get_or s.seen i 0) (sym spanned.searched.stands) ∙ get_or-take (t.found + 1) t.queue i 0 (omega arith)
 
-  pub edge-found : (i : ℕ) → i < t.found → get_or found.tree i 0 ≡ get_or t.tree_edges i 0
-  unfolding tree-edges
-  edge-found i h = ap (λ l. get_or l i 0) (sym (spanned-tree c t spanned)) ∙ get_or-take t.found t.tree_edges i 0 h
+  pub edge_found : (i : ℕ) → i < t.found → get_or found.tree i 0 ≡ get_or t.tree_edges i 0
+  unfolding tree_edges
+  edge_found i h = ap (λ l. get_or l i 0) (sym (spanned_tree c t spanned)) ∙ get_or-take t.found t.tree_edges i 0 h
 
-  vertex-below : (i : ℕ) → i ≤ t.found → get_or found.seen i 0 < 64
-  vertex-below i h = let l = good.few-vertices in let b = spans.below i (omega (arith, tree-long, spans.sizes)) in omega arith
+  vertex_below : (i : ℕ) → i ≤ t.found → get_or found.seen i 0 < 64
+  vertex_below i h = let l = good.few_vertices in let b = spans.below i (omega (arith, tree_long, spans.sizes)) in omega arith
 
   -- ---- one path more
   module _ (i : ℕ) (more : i < t.found) where
@@ -68,50 +68,50 @@ module _ (c : SimplicialComplex) (t : SpanningTree) (spanned : Spanned c t) wher
     abbrev sides : Simplex
     sides = entries c.edges (2 * edge) 2
 
-    edge-inside : edge < length (complexOf c).edges
-    edge-inside = rw (edge-found i more) at (spans.numbered i (omega (arith, tree-long)))
+    edge_inside : edge < length (complex_of c).edges
+    edge_inside = rw (edge_found i more) at (spans.numbered i (omega (arith, tree_long)))
 
-    sides-are : get_or (complexOf c).edges edge [] ≡ sides
-    unfolding complexOf
-    sides-are = simplex-at 2 c.edges c.n_edges edge (omega (arith, edge-inside, edges-long c))
+    sides_are : get_or (complex_of c).edges edge [] ≡ sides
+    unfolding complex_of
+    sides_are = simplex_at 2 c.edges c.n_edges edge (omega (arith, edge_inside, edges_long c))
 
-    vertex-is : get_or found.seen (suc i) 0 ≡ vertex
-    vertex-is = rw (add-one i) (vertex-found (suc i) more)
+    vertex_is : get_or found.seen (suc i) 0 ≡ vertex
+    vertex_is = rw (add-one i) (vertex_found (suc i) more)
 
     record Parent : Type 0 where
       place : ℕ
       earlier : place ≤ i
       is : across sides vertex ≡ get_or found.seen place 0
-      joined : Joins (get_or (complexOf c).edges (get_or found.tree i 0) []) (get_or found.seen place 0) (get_or found.seen (suc i) 0)
+      joined : Joins (get_or (complex_of c).edges (get_or found.tree i 0) []) (get_or found.seen place 0) (get_or found.seen (suc i) 0)
 
     parent : Parent
     parent =
-        let r = spans.joined i (omega (arith, tree-long)) in
-        let j : Joins sides (get_or found.seen r.0 0) vertex = rw (edge-found i more, sides-are, vertex-is) at r.2 in
-        record { place = r.0; earlier = r.1; is = joins-across sides vertex _ (joins-back sides _ _ j); joined = r.2 }
+        let r = spans.joined i (omega (arith, tree_long)) in
+        let j : Joins sides (get_or found.seen r.0 0) vertex = rw (edge_found i more, sides_are, vertex_is) at r.2 in
+        record { place = r.0; earlier = r.1; is = joins_across sides vertex _ (joins_back sides _ _ j); joined = r.2 }
 
-    pub extend-ready : (edge < c.n_edges) × (c.n_edges ≤ 63) × (vertex < 64) × (across sides vertex < 64) × (across sides vertex ≢ vertex)
-    extend-ready =
+    pub extend_ready : (edge < c.n_edges) × (c.n_edges ≤ 63) × (vertex < 64) × (across sides vertex < 64) × (across sides vertex ≢ vertex)
+    extend_ready =
         let p = parent in
         let older = p.earlier in
         rw p.is (
-          omega (arith, edge-inside, edges-long c),
-          spanned-edges c t spanned,
-          rw vertex-is at (vertex-below (suc i) more),
-          vertex-below p.place (omega arith),
-          rw vertex-is at (spans.apart p.place (suc i) (omega arith) (omega (arith, tree-long, spans.sizes))),
+          omega (arith, edge_inside, edges_long c),
+          spanned_edges c t spanned,
+          rw vertex_is at (vertex_below (suc i) more),
+          vertex_below p.place (omega arith),
+          rw vertex_is at (spans.apart p.place (suc i) (omega arith) (omega (arith, tree_long, spans.sizes))),
         )
 
-    extended-rows : (table : List ℤ) → PathTable (complexOf c) i table → PathTable (complexOf c) (suc i) (extended table (length (complexOf c).edges) sides edge vertex)
+    extended_rows : (table : List ℤ) → PathTable (complex_of c) i table → PathTable (complex_of c) (suc i) (extended table (length (complex_of c).edges) sides edge vertex)
     unfolding extended
-    extended-rows table h =
+    extended_rows table h =
         record {
           long = length-set written (63 * vertex + edge) (toward sides vertex) ∙ copied ∙ h.long;
-          paths = path-more es (complexOf c).vertices found spans i (omega (arith, tree-long)) (row m table) (row m new) h.paths p.place p.earlier p.joined made kept;
+          paths = path_more es (complex_of c).vertices found spans i (omega (arith, tree_long)) (row m table) (row m new) h.paths p.place p.earlier p.joined made kept;
         }
       where
         es : List Simplex
-        es = (complexOf c).edges
+        es = (complex_of c).edges
 
         m : ℕ
         m = length es
@@ -129,42 +129,42 @@ module _ (c : SimplicialComplex) (t : SpanningTree) (spanned : Spanned c t) wher
         new = set written (63 * vertex + edge) (toward sides vertex)
 
         ready : (edge < c.n_edges) × (c.n_edges ≤ 63) × (vertex < 64) × (across sides vertex < 64) × (across sides vertex ≢ vertex)
-        ready = extend-ready
+        ready = extend_ready
 
         room : (v : ℕ) → v < 64 → 63 * v + m ≤ length table
         room v l = omega (arith, few, h.long)
 
-        source-long : length source ≡ m
-        source-long = row-length m few table (across sides vertex) (room (across sides vertex) ready.3)
+        source_long : length source ≡ m
+        source_long = row_length m few table (across sides vertex) (room (across sides vertex) ready.3)
 
         copied : length written ≡ length table
-        copied = length-paste table (63 * vertex) source m (room vertex ready.2) (omega (arith, source-long))
+        copied = length-paste table (63 * vertex) source m (room vertex ready.2) (omega (arith, source_long))
 
         wide : (v : ℕ) → v < 64 → 63 * v + m ≤ length written
         wide v l = omega (arith, room v l, copied)
 
         made : row m new (get_or found.seen (suc i) 0) ≡ set (row m table (get_or found.seen p.place 0)) (get_or found.tree i 0) (toward (get_or es (get_or found.tree i 0) []) (get_or found.seen (suc i) 0))
         made =
-            rw (vertex-is, edge-found i more, sides-are, ← p.is)
-            (row-set m few written vertex (wide vertex ready.2) edge edge-inside (toward sides vertex)
-            ∙ ap (λ l. set l edge (toward sides vertex)) (row_written m few table vertex (room vertex ready.2) source source-long))
+            rw (vertex_is, edge_found i more, sides_are, ← p.is)
+            (row_set m few written vertex (wide vertex ready.2) edge edge_inside (toward sides vertex)
+            ∙ ap (λ l. set l edge (toward sides vertex)) (row_written m few table vertex (room vertex ready.2) source source_long))
 
         kept : (k : ℕ) → k ≤ i → row m new (get_or found.seen k 0) ≡ row m table (get_or found.seen k 0)
         kept k l =
             let v = get_or found.seen k 0 in
-            let below : v < 64 = vertex-below k (omega arith) in
-            let apart : v ≢ vertex = rw vertex-is at (spans.apart k (suc i) (omega arith) (omega (arith, tree-long, spans.sizes))) in
-            row-set-other m few written vertex (wide vertex ready.2) edge edge-inside (toward sides vertex) v apart (wide v below)
-            ∙ row_kept m few table vertex (room vertex ready.2) source source-long v apart (room v below)
+            let below : v < 64 = vertex_below k (omega arith) in
+            let apart : v ≢ vertex = rw vertex_is at (spans.apart k (suc i) (omega arith) (omega (arith, tree_long, spans.sizes))) in
+            row_set_other m few written vertex (wide vertex ready.2) edge edge_inside (toward sides vertex) v apart (wide v below)
+            ∙ row_kept m few table vertex (room vertex ready.2) source source_long v apart (room v below)
 
-    pub extend-more : (table : List ℤ) → PathTable (complexOf c) i table → PathTable (complexOf c) (i + 1) (extended table c.n_edges sides edge vertex)
-    extend-more table h =
-        subst (λ k. PathTable (complexOf c) k (extended table c.n_edges sides edge vertex)) (sym (add-one i))
-        (subst (λ m. PathTable (complexOf c) (suc i) (extended table m sides edge vertex)) (edges-long c) (extended-rows table h))
+    pub extend_more : (table : List ℤ) → PathTable (complex_of c) i table → PathTable (complex_of c) (i + 1) (extended table c.n_edges sides edge vertex)
+    extend_more table h =
+        subst (λ k. PathTable (complex_of c) k (extended table c.n_edges sides edge vertex)) (sym (add-one i))
+        (subst (λ m. PathTable (complex_of c) (suc i) (extended table m sides edge vertex)) (edges_long c) (extended_rows table h))
 
-  pub no-paths : PathTable (complexOf c) 0 (replicate 4032 (pos 0))
-  no-paths =
+  pub no_paths : PathTable (complex_of c) 0 (replicate 4032 (pos 0))
+  no_paths =
       record {
         long = length-replicate 4032 (pos 0);
-        paths = path-none (complexOf c).edges (complexOf c).vertices found spans (row (length (complexOf c).edges) (replicate 4032 (pos 0))) (zero_row 4032 (length (complexOf c).edges) 0 few (omega (arith, few)));
+        paths = path_none (complex_of c).edges (complex_of c).vertices found spans (row (length (complex_of c).edges) (replicate 4032 (pos 0))) (zero_row 4032 (length (complex_of c).edges) 0 few (omega (arith, few)));
       }

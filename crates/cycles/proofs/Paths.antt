@@ -11,43 +11,43 @@ use lib.IntN.{ℤ, pos, negsuc, ◌+ℤ◌, ◌-ℤ◌, neg_ℤ, nat_abs, +ℤ_i
 use lib.ListN.{get_or, length, set, length-set, replicate, length-replicate}
 use lib.Seq.{get_or-set_same, get_or-set_other, set-get_or}
 use borrow.Author.Tests.{eq-eqb, ne_eqb}
-use Rattle.mathematics.proofs.Integers.{positive, negative, integral, linear, parts, parts-size, one-part, the, nought, ◌⊞◌, ◌⊟◌, ⊖◌, minus-one-times}
-use Rattle.mathematics.proofs.Ordered.{Member, each_member, member-place, place-member, ordered_at}
-use Rattle.mathematics.proofs.Below.{listed-member}
+use Rattle.mathematics.proofs.Integers.{positive, negative, integral, linear, parts, parts_size, one_part, the, nought, ◌⊞◌, ◌⊟◌, ⊖◌, minus_one_times}
+use Rattle.mathematics.proofs.Ordered.{Member, each_member, member_place, place_member, ordered_at}
+use Rattle.mathematics.proofs.Below.{listed_member}
 use Rattle.complex.specs.Complex.{Simplex, Complex, Joins, start, end}
 use Rattle.complex.specs.Judge.{Accepted}
-use Rattle.complex.specs.Search.{Search, search, SpansReached}
+use Rattle.complex.specs.Search.{Search, whole_search, SpansReached}
 use Rattle.gauss_law.specs.Gauss.{flow, gauss}
-use Rattle.gauss_law.specs.Listing.{tree-edges, free-edges}
-use Rattle.cycles.specs.Cycles.{with-cycle, toward, Cycle, Paths}
-use Rattle.gauss_law.proofs.Gauss.{gauss-set}
-use Rattle.gauss_law.proofs.Tree.{spans-solvable}
-use Rattle.gauss_law.proofs.Free.{free-below, free-not-tree}
-use Rattle.gauss_law.proofs.Accepted.{accepted-ends, accepted-spans}
-use Rattle.cycles.proofs.Adding.{added-at, added-length, gauss-added, zeros-at, gauss-zeros}
+use Rattle.gauss_law.specs.Listing.{tree_edges, free_edges}
+use Rattle.cycles.specs.Cycles.{with_cycle, toward, Cycle, Paths}
+use Rattle.gauss_law.proofs.Gauss.{gauss_set}
+use Rattle.gauss_law.proofs.Tree.{spans_solvable}
+use Rattle.gauss_law.proofs.Free.{free_below, free_not_tree}
+use Rattle.gauss_law.proofs.Accepted.{accepted_ends, accepted_spans}
+use Rattle.cycles.proofs.Adding.{added_at, added_length, gauss_added, zeros_at, gauss_zeros}
 
 -- ---- one edge more
-pick-minus : (b : Bool) → cond b (negsuc 0) (pos 0) ≡ neg_ℤ (cond b (pos 1) (pos 0))
-pick-minus true = refl
-pick-minus false = refl
+pick_minus : (b : Bool) → cond b (negsuc 0) (pos 0) ≡ neg_ℤ (cond b (pos 1) (pos 0))
+pick_minus true = refl
+pick_minus false = refl
 
 -- a unit over the edge from p to w, whichever way it is listed
-flow-onward : (E : Simplex) (p w v : ℕ) → p ≢ w → Joins E p w → flow (0 ∷ p ∷ []) (pos 1) v +ℤ flow E (toward E w) v ≡ flow (0 ∷ w ∷ []) (pos 1) v
+flow_onward : (E : Simplex) (p w v : ℕ) → p ≢ w → Joins E p w → flow (0 ∷ p ∷ []) (pos 1) v +ℤ flow E (toward E w) v ≡ flow (0 ∷ w ∷ []) (pos 1) v
 unfolding flow toward
-flow-onward E p w v n (inl j) =
+flow_onward E p w v n (inl j) =
     let Z = cond (eqb 0 v) (pos 1) (pos 0) in
     let A = cond (eqb p v) (pos 1) (pos 0) in
     let B = cond (eqb w v) (pos 1) (pos 0) in
     rw (eq-eqb (end E) w j.1, j.0, j.1) (linear (the A ⊟ the Z ⊞ (the B ⊟ the A)) (the B ⊟ the Z) (omega arith))
-flow-onward E p w v n (inr j) =
+flow_onward E p w v n (inr j) =
     let Z = cond (eqb 0 v) (pos 1) (pos 0) in
     let A = cond (eqb p v) (pos 1) (pos 0) in
     let B = cond (eqb w v) (pos 1) (pos 0) in
-    rw (j.0, j.1, ne_eqb p w n, pick-minus (eqb p v), pick-minus (eqb w v)) (linear (the A ⊟ the Z ⊞ (⊖ the A ⊟ ⊖ the B)) (the B ⊟ the Z) (omega arith))
+    rw (j.0, j.1, ne_eqb p w n, pick_minus (eqb p v), pick_minus (eqb w v)) (linear (the A ⊟ the Z ⊞ (⊖ the A ⊟ ⊖ the B)) (the B ⊟ the Z) (omega arith))
 
-toward-small : (E : Simplex) (w : ℕ) → nat_abs (toward E w) ≤ 1
+toward_small : (E : Simplex) (w : ℕ) → nat_abs (toward E w) ≤ 1
 unfolding toward
-toward-small E w = go (eqb (end E) w)
+toward_small E w = go (eqb (end E) w)
   where
     go : (b : Bool) → nat_abs (cond b (pos 1) (negsuc 0)) ≤ 1
     go true = omega arith
@@ -56,14 +56,14 @@ toward-small E w = go (eqb (end E) w)
 -- two of 0 and u
 differ : (u x y : ℤ) → nat_abs u ≤ 1 → (x ≡ pos 0) ⊎ (x ≡ u) → (y ≡ pos 0) ⊎ (y ≡ u) → nat_abs (x -ℤ y) ≤ 1
 unfolding positive negative
-differ u x y h (inl a) (inl b) = omega (integral, parts-size (x -ℤ y), one-part (x -ℤ y), parts (the x ⊟ the y))
-differ u x y h (inl a) (inr b) = omega (integral, parts-size u, one-part u, parts-size (x -ℤ y), one-part (x -ℤ y), parts (the x ⊟ the y))
-differ u x y h (inr a) (inl b) = omega (integral, parts-size u, one-part u, parts-size (x -ℤ y), one-part (x -ℤ y), parts (the x ⊟ the y))
-differ u x y h (inr a) (inr b) = omega (integral, parts-size (x -ℤ y), one-part (x -ℤ y), parts (the x ⊟ the y))
+differ u x y h (inl a) (inl b) = omega (integral, parts_size (x -ℤ y), one_part (x -ℤ y), parts (the x ⊟ the y))
+differ u x y h (inl a) (inr b) = omega (integral, parts_size u, one_part u, parts_size (x -ℤ y), one_part (x -ℤ y), parts (the x ⊟ the y))
+differ u x y h (inr a) (inl b) = omega (integral, parts_size u, one_part u, parts_size (x -ℤ y), one_part (x -ℤ y), parts (the x ⊟ the y))
+differ u x y h (inr a) (inr b) = omega (integral, parts_size (x -ℤ y), one_part (x -ℤ y), parts (the x ⊟ the y))
 
 -- an entry that is zero may be set to zero
-set-zero : (z : List ℤ) (e : ℕ) → get_or z e (pos 0) ≡ pos 0 → set z e (pos 0) ≡ z
-set-zero z e h = ap (λ x. set z e x) (sym h) ∙ set-get_or z e (pos 0)
+set_zero : (z : List ℤ) (e : ℕ) → get_or z e (pos 0) ≡ pos 0 → set z e (pos 0) ≡ z
+set_zero z e h = ap (λ x. set z e x) (sym h) ∙ set-get_or z e (pos 0)
 
 module _ (es : List Simplex) (n : ℕ) (s : Search) (spans : SpansReached es n s) where
   -- the path to the vertex found next: that to its parent, and the edge between
@@ -88,7 +88,7 @@ module _ (es : List Simplex) (n : ℕ) (s : Search) (spans : SpansReached es n s
 
     -- the edge is new
     fresh : (i : ℕ) → i < k → get_or s.tree i 0 ≢ edge
-    fresh i l = ordered_at 0 (spans-solvable es n s spans).once i k l more
+    fresh i l = ordered_at 0 (spans_solvable es n s spans).once i k l more
 
     -- the path to the i-th vertex is an old one, but for the new edge
     record From (i : ℕ) : Type 0 where
@@ -122,8 +122,8 @@ module _ (es : List Simplex) (n : ℕ) (s : Search) (spans : SpansReached es n s
               own = inl (rw same (paths.unused i known edge fresh));
             }
 
-    pub path-more : Paths es s (suc k) new
-    path-more =
+    pub path_more : Paths es s (suc k) new
+    path_more =
         record {
           sized = λ i l. (from i l).sized;
           sums = λ i l v. sum i v (ℕ_discrete i (suc k)) l;
@@ -137,24 +137,24 @@ module _ (es : List Simplex) (n : ℕ) (s : Search) (spans : SpansReached es n s
         sum : (i v : ℕ) → Dec (i ≡ suc k) → i ≤ suc k → gauss es (new (vertex i)) v ≡ flow (0 ∷ vertex i ∷ []) (pos 1) v
         sum i v (yes e) l =
             rw (e, made)
-            (gauss-set es (path (vertex h)) edge v unit inside (paths.sized h older)
-            ∙ rw (set-zero (path (vertex h)) edge (paths.unused h older edge fresh), paths.sums h older v)
-            (flow-onward (get_or es edge []) (vertex h) (vertex (suc k)) v (apart h older) joined))
+            (gauss_set es (path (vertex h)) edge v unit inside (paths.sized h older)
+            ∙ rw (set_zero (path (vertex h)) edge (paths.unused h older edge fresh), paths.sums h older v)
+            (flow_onward (get_or es edge []) (vertex h) (vertex (suc k)) v (apart h older) joined))
         sum i v (no m) l = rw (kept i (omega arith)) (paths.sums i (omega arith) v)
 
         sign : {i j : ℕ} → From i → From j → (e : ℕ) → Dec (e ≡ edge) → nat_abs (get_or (new (vertex i)) e (pos 0) -ℤ get_or (new (vertex j)) e (pos 0)) ≤ 1
-        sign {i} {j} a b e (yes q) = rw q (differ unit (get_or (new (vertex i)) edge (pos 0)) (get_or (new (vertex j)) edge (pos 0)) (toward-small (get_or es edge []) (vertex (suc k))) a.own b.own)
+        sign {i} {j} a b e (yes q) = rw q (differ unit (get_or (new (vertex i)) edge (pos 0)) (get_or (new (vertex j)) edge (pos 0)) (toward_small (get_or es edge []) (vertex (suc k))) a.own b.own)
         sign a b e (no m) = rw (a.others e m, b.others e m) (paths.signs a.old b.old a.known b.known e)
 
   -- ---- the path to vertex 0 has no edge
-  pub path-none : (path : ℕ → List ℤ) → path 0 ≡ replicate (length es) (pos 0) → Paths es s 0 path
+  pub path_none : (path : ℕ → List ℤ) → path 0 ≡ replicate (length es) (pos 0) → Paths es s 0 path
   unfolding flow
-  path-none path none =
+  path_none path none =
       record {
         sized = λ k l. rw (zeros k l) (length-replicate (length es) (pos 0));
-        sums = λ k l v. rw (zeros k l, root k l) (gauss-zeros es (length es) v ∙ sym (+ℤ_invr (cond (eqb 0 v) (pos 1) (pos 0))));
-        signs = λ j k a b e. rw (zeros j a, zeros k b, zeros-at (length es) e) (omega arith);
-        unused = λ k l e f. rw (zeros k l) (zeros-at (length es) e);
+        sums = λ k l v. rw (zeros k l, root k l) (gauss_zeros es (length es) v ∙ sym (+ℤ_invr (cond (eqb 0 v) (pos 1) (pos 0))));
+        signs = λ j k a b e. rw (zeros j a, zeros k b, zeros_at (length es) e) (omega arith);
+        unused = λ k l e f. rw (zeros k l) (zeros_at (length es) e);
       }
     where
       root : (k : ℕ) → k ≤ 0 → get_or s.seen k 0 ≡ 0
@@ -164,56 +164,56 @@ module _ (es : List Simplex) (n : ℕ) (s : Search) (spans : SpansReached es n s
       zeros k l = rw (root k l) none
 
 -- every vertex was found
-pub found : (c : Complex) → Accepted c → (v : ℕ) → v < c.vertices → (k : ℕ) × (k ≤ length (tree-edges c)) × (get_or (search c.edges c.vertices).seen k 0 ≡ v)
-unfolding tree-edges
+pub found : (c : Complex) → Accepted c → (v : ℕ) → v < c.vertices → (k : ℕ) × (k ≤ length (tree_edges c)) × (get_or (whole_search c.edges c.vertices).seen k 0 ≡ v)
+unfolding tree_edges
 found c accepted v h =
-    let spans = accepted-spans c accepted in
-    let r = member-place 0 (listed-member v (search c.edges c.vertices).seen ((spans.reach v).1 (accepted.reached v h))) in
+    let spans = accepted_spans c accepted in
+    let r = member_place 0 (listed_member v (whole_search c.edges c.vertices).seen ((spans.reach v).1 (accepted.reached v h))) in
     (r.0, omega (arith, r.1, spans.sizes), r.2)
 
 -- ---- the cycle of a free edge: the path to its start, the edge, and the path to its end backwards
-module _ (c : Complex) (accepted : Accepted c) (path : ℕ → List ℤ) (paths : Paths c.edges (search c.edges c.vertices) (length (tree-edges c)) path) (f : ℕ) (free : Member f (free-edges c)) where
+module _ (c : Complex) (accepted : Accepted c) (path : ℕ → List ℤ) (paths : Paths c.edges (whole_search c.edges c.vertices) (length (tree_edges c)) path) (f : ℕ) (free : Member f (free_edges c)) where
   abbrev ends : Simplex
   ends = get_or c.edges f []
 
   abbrev difference : List ℤ
-  difference = with-cycle (path (start ends)) (negsuc 0) (path (end ends))
+  difference = with_cycle (path (start ends)) (negsuc 0) (path (end ends))
 
-  inside-edges : f < length c.edges
-  inside-edges = each_member (free-below c) free
+  inside_edges : f < length c.edges
+  inside_edges = each_member (free_below c) free
 
   first : start ends < c.vertices
-  first = let r = accepted-ends c accepted f inside-edges in omega (arith, r.0, r.1)
+  first = let r = accepted_ends c accepted f inside_edges in omega (arith, r.0, r.1)
 
   second : end ends < c.vertices
-  second = (accepted-ends c accepted f inside-edges).1
+  second = (accepted_ends c accepted f inside_edges).1
 
-  path-sized : (v : ℕ) → v < c.vertices → length (path v) ≡ length c.edges
-  path-sized v h = let r = found c accepted v h in rw r.2 at (paths.sized r.0 r.1)
+  path_sized : (v : ℕ) → v < c.vertices → length (path v) ≡ length c.edges
+  path_sized v h = let r = found c accepted v h in rw r.2 at (paths.sized r.0 r.1)
 
-  path-sum : (v u : ℕ) → v < c.vertices → gauss c.edges (path v) u ≡ flow (0 ∷ v ∷ []) (pos 1) u
-  path-sum v u h = let r = found c accepted v h in rw r.2 at (paths.sums r.0 r.1 u)
+  path_sum : (v u : ℕ) → v < c.vertices → gauss c.edges (path v) u ≡ flow (0 ∷ v ∷ []) (pos 1) u
+  path_sum v u h = let r = found c accepted v h in rw r.2 at (paths.sums r.0 r.1 u)
 
   -- no free edge is on a path
-  path-free : (v e : ℕ) → v < c.vertices → Member e (free-edges c) → get_or (path v) e (pos 0) ≡ pos 0
-  unfolding tree-edges
-  path-free v e h m =
+  path_free : (v e : ℕ) → v < c.vertices → Member e (free_edges c) → get_or (path v) e (pos 0) ≡ pos 0
+  unfolding tree_edges
+  path_free v e h m =
       let r = found c accepted v h in
-      rw r.2 at (paths.unused r.0 r.1 e (λ i l q. each_member (free-not-tree c) m (rw q at (place-member 0 (tree-edges c) i l))))
+      rw r.2 at (paths.unused r.0 r.1 e (λ i l q. each_member (free_not_tree c) m (rw q at (place_member 0 (tree_edges c) i l))))
 
   same_length : length (path (end ends)) ≡ length (path (start ends))
-  same_length = path-sized (end ends) second ∙ sym (path-sized (start ends) first)
+  same_length = path_sized (end ends) second ∙ sym (path_sized (start ends) first)
 
   long : length difference ≡ length c.edges
-  long = added-length (path (start ends)) (negsuc 0) (path (end ends)) ∙ path-sized (start ends) first
+  long = added_length (path (start ends)) (negsuc 0) (path (end ends)) ∙ path_sized (start ends) first
 
-  difference-at : (e : ℕ) → get_or difference e (pos 0) ≡ get_or (path (start ends)) e (pos 0) -ℤ get_or (path (end ends)) e (pos 0)
-  difference-at e =
-      added-at (path (start ends)) (negsuc 0) (path (end ends)) e same_length
-      ∙ ap (λ x. get_or (path (start ends)) e (pos 0) +ℤ x) (minus-one-times (get_or (path (end ends)) e (pos 0)))
+  difference_at : (e : ℕ) → get_or difference e (pos 0) ≡ get_or (path (start ends)) e (pos 0) -ℤ get_or (path (end ends)) e (pos 0)
+  difference_at e =
+      added_at (path (start ends)) (negsuc 0) (path (end ends)) e same_length
+      ∙ ap (λ x. get_or (path (start ends)) e (pos 0) +ℤ x) (minus_one_times (get_or (path (end ends)) e (pos 0)))
 
-  difference-free : (e : ℕ) → Member e (free-edges c) → get_or difference e (pos 0) ≡ pos 0
-  difference-free e m = rw (difference-at e, path-free (start ends) e first m, path-free (end ends) e second m)
+  difference_free : (e : ℕ) → Member e (free_edges c) → get_or difference e (pos 0) ≡ pos 0
+  difference_free e m = rw (difference_at e, path_free (start ends) e first m, path_free (end ends) e second m)
 
   pub fundamental : Cycle c f (set difference f (pos 1))
   unfolding flow
@@ -221,8 +221,8 @@ module _ (c : Complex) (accepted : Accepted c) (path : ℕ → List ℤ) (paths 
       record {
         sized = length-set difference f (pos 1) ∙ long;
         closed = λ v h. closed v;
-        own = get_or-set_same difference f (pos 1) (pos 0) (omega (arith, inside-edges, long));
-        others = λ e m n. get_or-set_other difference f e (pos 1) (pos 0) n ∙ difference-free e (listed-member e (free-edges c) m);
+        own = get_or-set_same difference f (pos 1) (pos 0) (omega (arith, inside_edges, long));
+        others = λ e m n. get_or-set_other difference f e (pos 1) (pos 0) n ∙ difference_free e (listed_member e (free_edges c) m);
         signs = λ e. sign e (ℕ_discrete e f);
       }
     where
@@ -235,18 +235,18 @@ module _ (c : Complex) (accepted : Accepted c) (path : ℕ → List ℤ) (paths 
 
       closed : (v : ℕ) → gauss c.edges (set difference f (pos 1)) v ≡ pos 0
       closed v =
-          gauss-set c.edges difference f v (pos 1) inside-edges long
+          gauss_set c.edges difference f v (pos 1) inside_edges long
           ∙ rw (
-            set-zero difference f (difference-free f free),
-            gauss-added c.edges (path (start ends)) (negsuc 0) (path (end ends)) v same_length,
-            path-sum (start ends) v first,
-            path-sum (end ends) v second,
-            minus-one-times (flow (0 ∷ end ends ∷ []) (pos 1) v),
+            set_zero difference f (difference_free f free),
+            gauss_added c.edges (path (start ends)) (negsuc 0) (path (end ends)) v same_length,
+            path_sum (start ends) v first,
+            path_sum (end ends) v second,
+            minus_one_times (flow (0 ∷ end ends ∷ []) (pos 1) v),
           ) (turn v)
 
       sign : (e : ℕ) → Dec (e ≡ f) → nat_abs (get_or (set difference f (pos 1)) e (pos 0)) ≤ 1
-      sign e (yes q) = rw (q, get_or-set_same difference f (pos 1) (pos 0) (omega (arith, inside-edges, long))) (omega arith)
+      sign e (yes q) = rw (q, get_or-set_same difference f (pos 1) (pos 0) (omega (arith, inside_edges, long))) (omega arith)
       sign e (no n) =
           let a = found c accepted (start ends) first in
           let b = found c accepted (end ends) second in
-          rw (get_or-set_other difference f e (pos 1) (pos 0) n, difference-at e) (rw (a.2, b.2) at (paths.signs a.0 b.0 a.1 b.1 e))
+          rw (get_or-set_other difference f e (pos 1) (pos 0) n, difference_at e) (rw (a.2, b.2) at (paths.signs a.0 b.0 a.1 b.1 e))

@@ -9,20 +9,20 @@ use native.Mathlib.Decide.{ℕ_discrete, dec_lt}
 use lib.IntN.{ℤ, pos}
 use lib.ListN.{get_or, length, drop, set, length-set, length-drop, replicate, length-replicate, get_or-replicate}
 use lib.Seq.{paste, paste-suc, length-take-le, length-paste, get_or-take, get_or-drop, get_or-set_same, get_or-set_other, ext_get_or}
-use Rattle.mathematics.proofs.Pasted.{paste-inside, paste-outside}
+use Rattle.mathematics.proofs.Pasted.{paste_inside, paste_outside}
 use Rattle.cycles.specs.Cycles.{row}
 
 module _ (m : ℕ) (few : m ≤ 63) (table : List ℤ) where
   pub row_at : (r e : ℕ) → e < m → get_or (row m table r) e (pos 0) ≡ get_or table (63 * r + e) (pos 0)
   row_at r e h = get_or-take m (drop (63 * r) table) e (pos 0) h ∙ get_or-drop (63 * r) table e (pos 0)
 
-  pub row-length : (r : ℕ) → 63 * r + m ≤ length table → length (row m table r) ≡ m
-  row-length r h = length-take-le m (drop (63 * r) table) (omega (arith, length-drop (63 * r) table))
+  pub row_length : (r : ℕ) → 63 * r + m ≤ length table → length (row m table r) ≡ m
+  row_length r h = length-take-le m (drop (63 * r) table) (omega (arith, length-drop (63 * r) table))
 
 -- a row of a table of zeros
 pub zero_row : (n m r : ℕ) → m ≤ 63 → 63 * r + m ≤ n → row m (replicate n (pos 0)) r ≡ replicate m (pos 0)
 zero_row n m r few h =
-    let l : length (row m (replicate n (pos 0)) r) ≡ m = row-length m few (replicate n (pos 0)) r (omega (arith, length-replicate n (pos 0))) in
+    let l : length (row m (replicate n (pos 0)) r) ≡ m = row_length m few (replicate n (pos 0)) r (omega (arith, length-replicate n (pos 0))) in
     ext_get_or (pos 0) (row m (replicate n (pos 0)) r) (replicate m (pos 0)) (l ∙ sym (length-replicate m (pos 0)))
     (λ e k.
     let i : e < m = omega (arith, l) in
@@ -32,26 +32,26 @@ zero_row n m r few h =
 row_same : (m : ℕ) → m ≤ 63 → (t u : List ℤ) (r q : ℕ) → 63 * r + m ≤ length t → 63 * q + m ≤ length u
     → ((e : ℕ) → e < m → get_or t (63 * r + e) (pos 0) ≡ get_or u (63 * q + e) (pos 0)) → row m t r ≡ row m u q
 row_same m few t u r q a b h =
-    let l : length (row m t r) ≡ m = row-length m few t r a in
-    ext_get_or (pos 0) (row m t r) (row m u q) (l ∙ sym (row-length m few u q b))
+    let l : length (row m t r) ≡ m = row_length m few t r a in
+    ext_get_or (pos 0) (row m t r) (row m u q) (l ∙ sym (row_length m few u q b))
     (λ e k. let i : e < m = omega (arith, l) in row_at m few t r e i ∙ h e i ∙ sym (row_at m few u q e i))
 
 module _ (m : ℕ) (few : m ≤ 63) (table : List ℤ) (w : ℕ) (room : 63 * w + m ≤ length table) where
   -- a row is written
   module _ (s : List ℤ) (long : length s ≡ m) where
-    written-length : length (paste table (63 * w) s m) ≡ length table
-    written-length = length-paste table (63 * w) s m room (omega arith)
+    written_length : length (paste table (63 * w) s m) ≡ length table
+    written_length = length-paste table (63 * w) s m room (omega arith)
 
     pub row_written : row m (paste table (63 * w) s m) w ≡ s
     row_written =
-        let l : length (row m (paste table (63 * w) s m) w) ≡ m = row-length m few (paste table (63 * w) s m) w (omega (arith, written-length)) in
+        let l : length (row m (paste table (63 * w) s m) w) ≡ m = row_length m few (paste table (63 * w) s m) w (omega (arith, written_length)) in
         ext_get_or (pos 0) (row m (paste table (63 * w) s m) w) s (l ∙ sym long)
-        (λ e k. let i : e < m = omega (arith, l) in row_at m few (paste table (63 * w) s m) w e i ∙ paste-inside table (63 * w) s m (pos 0) room (omega arith) e i)
+        (λ e k. let i : e < m = omega (arith, l) in row_at m few (paste table (63 * w) s m) w e i ∙ paste_inside table (63 * w) s m (pos 0) room (omega arith) e i)
 
     pub row_kept : (r : ℕ) → r ≢ w → 63 * r + m ≤ length table → row m (paste table (63 * w) s m) r ≡ row m table r
     row_kept r n h =
-        row_same m few (paste table (63 * w) s m) table r r (omega (arith, written-length)) h
-        (λ e i. paste-outside table (63 * w) s m (pos 0) room (omega arith) (63 * r + e) (apart e i (dec_lt r w)))
+        row_same m few (paste table (63 * w) s m) table r r (omega (arith, written_length)) h
+        (λ e i. paste_outside table (63 * w) s m (pos 0) room (omega arith) (63 * r + e) (apart e i (dec_lt r w)))
       where
         apart : (e : ℕ) → e < m → Dec (r < w) → (63 * r + e < 63 * w) ⊎ (63 * w + m ≤ 63 * r + e)
         apart e i (yes k) = inl (omega arith)
@@ -59,10 +59,10 @@ module _ (m : ℕ) (few : m ≤ 63) (table : List ℤ) (w : ℕ) (room : 63 * w 
 
   -- one entry is set
   module _ (i : ℕ) (inside : i < m) (x : ℤ) where
-    pub row-set : row m (set table (63 * w + i) x) w ≡ set (row m table w) i x
-    row-set =
-        let l : length (row m (set table (63 * w + i) x) w) ≡ m = row-length m few (set table (63 * w + i) x) w (omega (arith, length-set table (63 * w + i) x)) in
-        let k : length (row m table w) ≡ m = row-length m few table w room in
+    pub row_set : row m (set table (63 * w + i) x) w ≡ set (row m table w) i x
+    row_set =
+        let l : length (row m (set table (63 * w + i) x) w) ≡ m = row_length m few (set table (63 * w + i) x) w (omega (arith, length-set table (63 * w + i) x)) in
+        let k : length (row m table w) ≡ m = row_length m few table w room in
         ext_get_or (pos 0) (row m (set table (63 * w + i) x) w) (set (row m table w) i x) (l ∙ sym k ∙ sym (length-set (row m table w) i x))
         (λ e h. row_at m few (set table (63 * w + i) x) w e (omega (arith, l)) ∙ at e (omega (arith, l)) k (ℕ_discrete e i))
       where
@@ -73,8 +73,8 @@ module _ (m : ℕ) (few : m ≤ 63) (table : List ℤ) (w : ℕ) (room : 63 * w 
             ∙ sym (row_at m few table w e h)
             ∙ sym (get_or-set_other (row m table w) i e x (pos 0) n)
 
-    pub row-set-other : (r : ℕ) → r ≢ w → 63 * r + m ≤ length table → row m (set table (63 * w + i) x) r ≡ row m table r
-    row-set-other r n h =
+    pub row_set_other : (r : ℕ) → r ≢ w → 63 * r + m ≤ length table → row m (set table (63 * w + i) x) r ≡ row m table r
+    row_set_other r n h =
         row_same m few (set table (63 * w + i) x) table r r (omega (arith, length-set table (63 * w + i) x)) h
         (λ e k. get_or-set_other table (63 * w + i) (63 * r + e) x (pos 0) (λ q. apart e k (dec_lt r w) q))
       where
@@ -87,10 +87,10 @@ pub copy_more : (m : ℕ) → m ≤ 63 → (table so_far : List ℤ) (from to e 
     → so_far ≡ paste table (63 * to) (row m table from) e → x ≡ get_or so_far (63 * from + e) (pos 0)
     → set so_far (63 * to + e) x ≡ paste table (63 * to) (row m table from) (e + 1)
 copy_more m few table so_far from to e x a b n h q r =
-    let long : length (row m table from) ≡ m = row-length m few table from a in
+    let long : length (row m table from) ≡ m = row_length m few table from a in
     let read : x ≡ get_or (row m table from) e (pos 0) =
     r ∙ ap (λ t. get_or t (63 * from + e) (pos 0)) q
-    ∙ paste-outside table (63 * to) (row m table from) e (pos 0) (omega arith) (omega arith) (63 * from + e) (apart (dec_lt from to))
+    ∙ paste_outside table (63 * to) (row m table from) e (pos 0) (omega arith) (omega arith) (63 * from + e) (apart (dec_lt from to))
     ∙ sym (row_at m few table from e h) in
     rw (q, read, add-one e) (paste-suc table (63 * to) (row m table from) e (pos 0) (omega arith) (omega arith))
   where

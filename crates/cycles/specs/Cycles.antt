@@ -2,15 +2,15 @@
 use Rattle.std.specs.Prelude.{ℕ, ◌+◌, ◌*◌, ◌≤◌, ◌<◌, List, [], ◌∷◌, cond, ◌≡◌, ◌≢◌, eqb, ℤ, pos, negsuc, ◌+ℤ◌, ◌-ℤ◌, ◌*ℤ◌, nat_abs, get_or, length, take, drop, set}
 use Rattle.std.proofs.Math.Seq.{paste}
 use Rattle.complex.specs.Complex.{Simplex, Complex, start, end}
-use Rattle.complex.specs.Search.{Search, across, search}
+use Rattle.complex.specs.Search.{Search, across, whole_search}
 use Rattle.gauss_law.specs.Gauss.{flow, gauss}
-use Rattle.gauss_law.specs.Listing.{free-edges, Free}
+use Rattle.gauss_law.specs.Listing.{free_edges, Free}
 
 -- z added t times to s, entry by entry
-unfoldable pub with-cycle : List ℤ → ℤ → List ℤ → List ℤ
-with-cycle [] t z = []
-with-cycle (x ∷ s) t [] = x ∷ s
-with-cycle (x ∷ s) t (y ∷ z) = (x +ℤ t *ℤ y) ∷ with-cycle s t z
+unfoldable pub with_cycle : List ℤ → ℤ → List ℤ → List ℤ
+with_cycle [] t z = []
+with_cycle (x ∷ s) t [] = x ∷ s
+with_cycle (x ∷ s) t (y ∷ z) = (x +ℤ t *ℤ y) ∷ with_cycle s t z
 
 -- the value that takes a unit over the edge to its end v
 unfoldable pub toward : Simplex → ℕ → ℤ
@@ -34,10 +34,10 @@ pub record Paths (es : List Simplex) (s : Search) (n : ℕ) (path : ℕ → List
 
 -- the free edges in a table, and the cycle of each; without a free edge the first cycle is any row of signs
 pub record Tables (c : Complex) (free : List ℕ) (cycle : ℕ → List ℤ) : Type 0 where
-  pub edges : (j : ℕ) → j < length (free-edges c) → get_or free j 0 ≡ get_or (free-edges c) j 0
-  pub cycles : (j : ℕ) → j < length (free-edges c) → Cycle c (get_or (free-edges c) j 0) (cycle j)
-  pub first-sized : length (cycle 0) ≡ length c.edges
-  pub first-signs : (e : ℕ) → nat_abs (get_or (cycle 0) e (pos 0)) ≤ 1
+  pub edges : (j : ℕ) → j < length (free_edges c) → get_or free j 0 ≡ get_or (free_edges c) j 0
+  pub cycles : (j : ℕ) → j < length (free_edges c) → Cycle c (get_or (free_edges c) j 0) (cycle j)
+  pub first_sized : length (cycle 0) ≡ length c.edges
+  pub first_signs : (e : ℕ) → nat_abs (get_or (cycle 0) e (pos 0)) ≤ 1
 
 -- the first m entries of row r of a table of rows of 63
 abbrev pub row : ℕ → List ℤ → ℕ → List ℤ
@@ -46,7 +46,7 @@ row m table r = take m (drop (63 * r) table)
 -- a table that has in row v the path to vertex v, for the first n + 1 vertices found
 pub record PathTable (c : Complex) (n : ℕ) (table : List ℤ) : Type 0 where
   pub long : length table ≡ 4032
-  pub paths : Paths c.edges (search c.edges c.vertices) n (row (length c.edges) table)
+  pub paths : Paths c.edges (whole_search c.edges c.vertices) n (row (length c.edges) table)
 
 -- row w of a table of paths is made from that of its parent, over the edge s of number e
 unfoldable pub extended : List ℤ → ℕ → Simplex → ℕ → ℕ → List ℤ
@@ -61,11 +61,11 @@ pub record Subtractable (paths : List ℤ) (a b m : ℕ) : Type 0 where
   pub signs : (e : ℕ) → e < m → nat_abs (get_or paths (63 * a + e) (pos 0) -ℤ get_or paths (63 * b + e) (pos 0)) ≤ 1
 
 -- row j of a table of cycles is made of the paths to the ends of the edge s of number f
-unfoldable pub cycle-row : List ℤ → ℕ → List ℤ → ℕ → Simplex → ℕ → List ℤ
-cycle-row table j paths m s f = set (paste table (63 * j) (with-cycle (row m paths (start s)) (negsuc 0) (row m paths (end s))) m) (63 * j + f) (pos 1)
+unfoldable pub cycle_row : List ℤ → ℕ → List ℤ → ℕ → Simplex → ℕ → List ℤ
+cycle_row table j paths m s f = set (paste table (63 * j) (with_cycle (row m paths (start s)) (negsuc 0) (row m paths (end s))) m) (63 * j + f) (pos 1)
 
 -- a table of signs that has in row j the cycle of the j-th free edge, for the first n of them
 pub record CycleTable (c : Complex) (n : ℕ) (table : List ℤ) : Type 0 where
   pub long : length table ≡ 3969
-  pub cycles : (j : ℕ) → j < n → Cycle c (get_or (free-edges c) j 0) (row (length c.edges) table j)
+  pub cycles : (j : ℕ) → j < n → Cycle c (get_or (free_edges c) j 0) (row (length c.edges) table j)
   pub signs : (i : ℕ) → nat_abs (get_or table i (pos 0)) ≤ 1

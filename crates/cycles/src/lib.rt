@@ -1,12 +1,12 @@
 // The paths in the spanning tree and the fundamental cycles, as tables of rows of 63 signs.
 ghost use Rattle.std.specs.Prelude.{◌≡◌, ◌≢◌, cond, ◌+◌, ◌*◌, ◌<◌, ◌≤◌, get_or, length, eqb, pos, negsuc};
 ghost use Rattle.std.proofs.Math.Seq.{paste};
-ghost use Rattle.complex.specs.Complex.{entries, complexOf};
+ghost use Rattle.complex.specs.Complex.{entries, complex_of};
 ghost use Rattle.complex.specs.Search.{across};
 ghost use Rattle.complex.specs.Judge.{refusal};
-ghost use Rattle.gauss_law.specs.Listing.{tree-edges, free-edges};
+ghost use Rattle.gauss_law.specs.Listing.{tree_edges, free_edges};
 ghost use Rattle.gauss_law.specs.Spanning.{Spanned, FreeOf};
-ghost use Rattle.cycles.specs.Cycles.{row, with-cycle, PathTable, extended, Subtractable, cycle-row, CycleTable};
+ghost use Rattle.cycles.specs.Cycles.{row, with_cycle, PathTable, extended, Subtractable, cycle_row, CycleTable};
 
 use complex::SimplicialComplex;
 use complex::search::SpanningTree;
@@ -64,7 +64,7 @@ fn extend(
 // The paths to all vertices.
 pub fn tree_paths(c: SimplicialComplex, tree: SpanningTree) -> [i8; PATH_ENTRIES]
     requires { Spanned c tree }
-    ensures { PathTable (complexOf c) (length (tree-edges (complexOf c))) result }
+    ensures { PathTable (complex_of c) (length (tree_edges (complex_of c))) result }
 {
     let mut paths = [0i8; PATH_ENTRIES];
     for i in 0..tree.found {
@@ -89,7 +89,7 @@ fn subtract_paths(
     n_edges: usize,
 )
     requires { (j < 63) × Subtractable paths.now a b n_edges × (length cycles.old ≡ 3969) }
-    ensures { cycles.new ≡ paste cycles.old (63 * j) (with-cycle (row n_edges paths.now a) (negsuc 0) (row n_edges paths.now b)) n_edges }
+    ensures { cycles.new ≡ paste cycles.old (63 * j) (with_cycle (row n_edges paths.now a) (negsuc 0) (row n_edges paths.now b)) n_edges }
 {
     for e in 0..n_edges {
         cycles[MOST_EDGES * j + e] = paths[MOST_EDGES * a + e] - paths[MOST_EDGES * b + e];
@@ -106,7 +106,7 @@ fn close_cycle(
     f: usize,
 )
     requires { (j < 63) × (f < n_edges) × Subtractable paths.now (get_or edges.now (2 * f) 0) (get_or edges.now (2 * f + 1) 0) n_edges × (length cycles.old ≡ 3969) }
-    ensures { cycles.new ≡ cycle-row cycles.old j paths.now n_edges (entries edges.now (2 * f) 2) f }
+    ensures { cycles.new ≡ cycle_row cycles.old j paths.now n_edges (entries edges.now (2 * f) 2) f }
 {
     let a = edge_start(edges, f);
     let b = edge_end(edges, f);
@@ -120,8 +120,8 @@ pub fn fundamental_cycles(
     paths: &[i8; PATH_ENTRIES],
     free: FreeEdges,
 ) -> [i8; CYCLE_ENTRIES]
-    requires { (refusal (complexOf c) ≡ 0) × PathTable (complexOf c) (length (tree-edges (complexOf c))) paths.now × FreeOf (complexOf c) free }
-    ensures { CycleTable (complexOf c) (length (free-edges (complexOf c))) result }
+    requires { (refusal (complex_of c) ≡ 0) × PathTable (complex_of c) (length (tree_edges (complex_of c))) paths.now × FreeOf (complex_of c) free }
+    ensures { CycleTable (complex_of c) (length (free_edges (complex_of c))) result }
 {
     let mut cycles = [0i8; CYCLE_ENTRIES];
     for j in 0..free.count {

@@ -13,18 +13,18 @@ use lib.ListN.{get_or, length, drop, set, length-set, length-map, length-append,
 use lib.Seq.{get_or-set_same, get_or-set_other, get_or-append-add, get_or-drop, ext_get_or}
 use Rattle.mathematics.specs.Counting.{below}
 use Rattle.mathematics.specs.Writing.{front}
-use Rattle.mathematics.proofs.Below.{length-below, map-below-at}
-use Rattle.matrices.proofs.Matrices.{one-higher}
+use Rattle.mathematics.proofs.Below.{length_below, map_below_at}
+use Rattle.matrices.proofs.Matrices.{one_higher}
 use Rattle.electric.specs.Electric.{Begins}
 
 -- the same entries, said in another way
-pub begins-same : (f g : ℕ → Float) (m : ℕ) (old new : List Float) → ((e : ℕ) → e < m → f e ≡ g e) → Begins f m old new → Begins g m old new
-begins-same f g m old new same b = record { long = b.long; entries = λ e h. b.entries e h ∙ same e h; beyond = b.beyond }
+pub begins_same : (f g : ℕ → Float) (m : ℕ) (old new : List Float) → ((e : ℕ) → e < m → f e ≡ g e) → Begins f m old new → Begins g m old new
+begins_same f g m old new same b = record { long = b.long; entries = λ e h. b.entries e h ∙ same e h; beyond = b.beyond }
 
 module _ (f : ℕ → Float) (m : ℕ) (old new : List Float) (b : Begins f m old new) (room : m ≤ length old) where
   -- one entry is written
-  begins-set : (g : ℕ → Float) (k : ℕ) → k < m → (x : Float) → x ≡ g k → ((e : ℕ) → e < m → e ≢ k → f e ≡ g e) → Begins g m old (set new k x)
-  begins-set g k h x is same =
+  begins_set : (g : ℕ → Float) (k : ℕ) → k < m → (x : Float) → x ≡ g k → ((e : ℕ) → e < m → e ≢ k → f e ≡ g e) → Begins g m old (set new k x)
+  begins_set g k h x is same =
       record {
         long = length-set new k x ∙ b.long;
         entries = λ e l. go e l (ℕ_discrete e k);
@@ -36,17 +36,17 @@ module _ (f : ℕ → Float) (m : ℕ) (old new : List Float) (b : Begins f m ol
       go e l (no q) = get_or-set_other new k e x nan q ∙ b.entries e l ∙ same e l q
 
   -- the whole list
-  pub begins-is : new ≡ front (map f (below m)) old
-  begins-is = ext_get_or nan new (map f (below m) ++ drop m old) same_length (λ k h. each k (dec_lt k m)) ∙ ap (λ (k : ℕ). map f (below m) ++ drop k old) (sym long)
+  pub begins_is : new ≡ front (map f (below m)) old
+  begins_is = ext_get_or nan new (map f (below m) ++ drop m old) same_length (λ k h. each k (dec_lt k m)) ∙ ap (λ (k : ℕ). map f (below m) ++ drop k old) (sym long)
     where
       long : length (map f (below m)) ≡ m
-      long = length-map (below m) f ∙ length-below m
+      long = length-map (below m) f ∙ length_below m
 
       same_length : length new ≡ length (map f (below m) ++ drop m old)
       same_length = b.long ∙ sym (length-append (map f (below m)) (drop m old) ∙ rw (long, length-drop m old) (omega arith))
 
       each : (k : ℕ) → Dec (k < m) → get_or new k nan ≡ get_or (map f (below m) ++ drop m old) k nan
-      each k (yes l) = b.entries k l ∙ sym (get_or-append (map f (below m)) (drop m old) nan k (rw long l) ∙ map-below-at f m k nan l)
+      each k (yes l) = b.entries k l ∙ sym (get_or-append (map f (below m)) (drop m old) nan k (rw long l) ∙ map_below_at f m k nan l)
       each k (no l) =
           let e : m + (k - m) ≡ k = omega arith in
           b.beyond k (omega arith)
@@ -59,20 +59,20 @@ unfoldable pub replaced : (ℕ → Float) → (ℕ → Float) → ℕ → ℕ �
 replaced f g k e = cond (ltb e k) (g e) (f e)
 
 module _ (f g : ℕ → Float) (m : ℕ) (old : List Float) where
-  pub replaced-none : (new : List Float) → Begins f m old new → Begins (replaced f g 0) m old new
+  pub replaced_none : (new : List Float) → Begins f m old new → Begins (replaced f g 0) m old new
   unfolding replaced
-  replaced-none new b = begins-same f (replaced f g 0) m old new (λ e h. rw (le-ltb e 0 (omega arith))) b
+  replaced_none new b = begins_same f (replaced f g 0) m old new (λ e h. rw (le-ltb e 0 (omega arith))) b
 
   module _ (k : ℕ) (new : List Float) (b : Begins (replaced f g k) m old new) where
-    pub replaced-next : k < m → get_or new k nan ≡ f k
+    pub replaced_next : k < m → get_or new k nan ≡ f k
     unfolding replaced
-    replaced-next h = b.entries k h ∙ rw (le-ltb k k (omega arith))
+    replaced_next h = b.entries k h ∙ rw (le-ltb k k (omega arith))
 
-    pub replaced-more : k < m → m ≤ length old → (x : Float) → x ≡ g k → Begins (replaced f g (k + 1)) m old (set new k x)
+    pub replaced_more : k < m → m ≤ length old → (x : Float) → x ≡ g k → Begins (replaced f g (k + 1)) m old (set new k x)
     unfolding replaced
-    replaced-more h room x is =
-        begins-set (replaced f g k) m old new b room (replaced f g (k + 1)) k h x (rw (lt-ltb k (k + 1) (omega arith)) is) (λ e l q. rw (one-higher e k q))
+    replaced_more h room x is =
+        begins_set (replaced f g k) m old new b room (replaced f g (k + 1)) k h x (rw (lt-ltb k (k + 1) (omega arith)) is) (λ e l q. rw (one_higher e k q))
 
-    pub replaced-all : m ≤ k → Begins g m old new
+    pub replaced_all : m ≤ k → Begins g m old new
     unfolding replaced
-    replaced-all h = begins-same (replaced f g k) g m old new (λ e l. rw (lt-ltb e k (omega arith))) b
+    replaced_all h = begins_same (replaced f g k) g m old new (λ e l. rw (lt-ltb e k (omega arith))) b

@@ -3,11 +3,11 @@ ghost use Rattle.std.specs.Prelude.{◌≡◌, List, ℕ, ◌*◌, ◌^◌, ◌�
 ghost use Rattle.std.specs.Float.{binary64};
 ghost use Rattle.std.specs.Float.Ieee.{add};
 ghost use Rattle.mathematics.specs.Calls.{Answered};
-ghost use Rattle.answers.specs.Answer.{numberAnswer};
-ghost use Rattle.complex.specs.Complex.{complexOf};
+ghost use Rattle.answers.specs.Answer.{number_answer};
+ghost use Rattle.complex.specs.Complex.{complex_of};
 ghost use Rattle.matrices.specs.Coupling.{float_of};
 ghost use Rattle.hilbert.specs.Search.{row};
-ghost use Rattle.electric.specs.Electric.{field-term, field-sum, Begins, electric-call};
+ghost use Rattle.electric.specs.Electric.{field_term, field_sum, Begins, electric_call};
 
 use answers::Answer;
 use complex::SimplicialComplex;
@@ -17,7 +17,7 @@ use runs::{count_states, write_states};
 
 // (square × n) × n
 fn field_term(square: f64, n: i32) -> f64
-    ensures { result ≡ field-term square n }
+    ensures { result ≡ field_term square n }
 {
     square * (n as f64) * (n as f64)
 }
@@ -35,7 +35,7 @@ fn clear(res: &mut [f64], m: usize)
 // (square × n) × n is added to each of the first entries, n the value of a state on its edge.
 fn add_state(state: &[i32], square: f64, res: &mut [f64])
     requires { length state.now ≤ length res.old }
-    ensures { (f : ℕ → Float) (old : List Float) → Begins f (length state.now) old res.old → Begins (λ e. add binary64 (f e) (field-term square (get_or state.now e (pos 0)))) (length state.now) old res.new }
+    ensures { (f : ℕ → Float) (old : List Float) → Begins f (length state.now) old res.old → Begins (λ e. add binary64 (f e) (field_term square (get_or state.now e (pos 0)))) (length state.now) old res.new }
 {
     for e in 0..state.len() {
         res[e] = res[e] + field_term(square, state[e]);
@@ -45,7 +45,7 @@ fn add_state(state: &[i32], square: f64, res: &mut [f64])
 // The sums over n rows of m values go to the beginning of the result.
 fn write_sums(list: &[i32], n: usize, m: usize, amplitudes: &[f64], res: &mut [f64])
     requires { (n ≤ 2 ^ 20) × (m ≤ 63) × (n * m ≤ length list.now) × (length amplitudes.now ≡ n) × (m ≤ length res.old) }
-    ensures { Begins (λ e. field-sum amplitudes.now (λ i. get_or (row m list.now i) e (pos 0)) n) m res.old res.new }
+    ensures { Begins (λ e. field_sum amplitudes.now (λ i. get_or (row m list.now i) e (pos 0)) n) m res.old res.new }
 {
     clear(res, m);
     for i in 0..n {
@@ -64,7 +64,7 @@ pub fn electric_field_sq(
     states: &mut [i32],
     res: &mut [f64],
 ) -> Answer
-    ensures { Answered (electric-call (complexOf c) lambda amplitudes.now states.old res.old) (numberAnswer result) (states.new, res.new) }
+    ensures { Answered (electric_call (complex_of c) lambda amplitudes.now states.old res.old) (number_answer result) (states.new, res.new) }
 {
     let basis = prepare_basis(c, lambda);
     let number = basis.refusal;

@@ -11,56 +11,56 @@ use lib.Ieee.{Float, binary64, fin, round, mul, le, lt, eq, of_int}
 use lib.Ieee.Positive.{positive, between, mul_mono}
 use Rattle.mathematics.proofs.Tests.{and_parts}
 use Rattle.matrices.specs.declared.coupling.KSParams.{KSParams}
-use Rattle.matrices.specs.Coupling.{float_of, coupling-right, u1-params, params-right, u1-right}
+use Rattle.matrices.specs.Coupling.{float_of, coupling_right, u1_params, params_right, u1_right}
 use Rattle.matrices.specs.Squares.{energy}
 use Rattle.rows.specs.Row.{kept}
-use Rattle.rows.proofs.KeptDiagonals.{NotBelow, by-power, above-lowest, below-highest, coupling-positive, electric-low, energy-kept, no-energy}
+use Rattle.rows.proofs.KeptDiagonals.{NotBelow, by_power, above_lowest, below_highest, coupling_positive, electric_low, energy_kept, no_energy}
 
 two_is : float_of 2 ≡ fin false 1 (pos 1)
 unfolding float_of of_int round
 two_is = refl
 
-one-is : float_of 1 ≡ fin false 1 (pos 0)
+one_is : float_of 1 ≡ fin false 1 (pos 0)
 unfolding float_of of_int round
-one-is = refl
+one_is = refl
 
 -- half the lowest coupling
 abbrev pub least : Float
 least = fin false 1 (negsuc 32)
 
-module _ (g : Float) (right : coupling-right g ≡ true) where
+module _ (g : Float) (right : coupling_right g ≡ true) where
   abbrev factor : Float
   factor = mul binary64 g (fin false 1 (negsuc 0))
 
-  factor-low : T (le least factor)
+  factor_low : T (le least factor)
   unfolding mul round le lt eq
-  factor-low = mul_mono binary64 (fin false 1 (negsuc 31)) g (fin false 1 (negsuc 0)) (fin false 1 (negsuc 0)) tt (coupling-positive g right) tt tt (above-lowest g right) tt
+  factor_low = mul_mono binary64 (fin false 1 (negsuc 31)) g (fin false 1 (negsuc 0)) (fin false 1 (negsuc 0)) tt (coupling_positive g right) tt tt (above_lowest g right) tt
 
-  factor-high : T (le factor (fin false 1 (pos 31)))
+  factor_high : T (le factor (fin false 1 (pos 31)))
   unfolding mul round le lt eq
-  factor-high = mul_mono binary64 g (fin false 1 (pos 32)) (fin false 1 (negsuc 0)) (fin false 1 (negsuc 0)) (coupling-positive g right) tt tt tt (below-highest g right) tt
+  factor_high = mul_mono binary64 g (fin false 1 (pos 32)) (fin false 1 (negsuc 0)) (fin false 1 (negsuc 0)) (coupling_positive g right) tt tt tt (below_highest g right) tt
 
-  own-factor : (u1-params g).electric ≡ factor
-  unfolding u1-params
-  own-factor = rw two_is (by-power 0 g (coupling-positive g right))
+  own_factor : (u1_params g).electric ≡ factor
+  unfolding u1_params
+  own_factor = rw two_is (by_power 0 g (coupling_positive g right))
 
-  own-low : NotBelow least (u1-params g).electric
-  own-low = rw own-factor (record { positive = between least factor (fin false 1 (pos 31)) tt tt factor-low factor-high; not-below = factor-low })
+  own_low : NotBelow least (u1_params g).electric
+  own_low = rw own_factor (record { positive = between least factor (fin false 1 (pos 31)) tt tt factor_low factor_high; not_below = factor_low })
 
 -- the electric factor of a coupling that is right
-pub right-low : (p : KSParams) → u1-right p ≡ true → NotBelow least p.electric
-unfolding u1-right params-right
-right-low p right =
-    let own = u1-params p.g_squared in
-    let coupling = (and_parts (coupling-right p.g_squared) (eq p.electric own.electric && eq p.magnetic own.magnetic) right).0 in
-    electric-low p own least tt (own-low p.g_squared coupling) right
+pub right_low : (p : KSParams) → u1_right p ≡ true → NotBelow least p.electric
+unfolding u1_right params_right
+right_low p right =
+    let own = u1_params p.g_squared in
+    let coupling = (and_parts (coupling_right p.g_squared) (eq p.electric own.electric && eq p.magnetic own.magnetic) right).0 in
+    electric_low p own least tt (own_low p.g_squared coupling) right
 
 -- and 1
-pub one-low : NotBelow least (float_of 1)
+pub one_low : NotBelow least (float_of 1)
 unfolding le lt eq
-one-low = rw one-is (record { positive = tt; not-below = tt })
+one_low = rw one_is (record { positive = tt; not_below = tt })
 
-pub diagonal-told : (x : Float) → NotBelow least x → (k : ℕ) → k ≤ 2 ^ 26 → ◌≡◌ {A = ℕ} (cond (kept (energy x k)) 1 0) (cond (eqb k 0) 0 1)
+pub diagonal_told : (x : Float) → NotBelow least x → (k : ℕ) → k ≤ 2 ^ 26 → ◌≡◌ {A = ℕ} (cond (kept (energy x k)) 1 0) (cond (eqb k 0) 0 1)
 unfolding mul round
-diagonal-told x h zero few = rw (no-energy least x tt tt h)
-diagonal-told x h (suc k) few = rw (energy-kept least x tt tt h (suc k) (omega arith) few, ne_eqb (suc k) 0 (λ z. omega arith))
+diagonal_told x h zero few = rw (no_energy least x tt tt h)
+diagonal_told x h (suc k) few = rw (energy_kept least x tt tt h (suc k) (omega arith) few, ne_eqb (suc k) 0 (λ z. omega arith))

@@ -11,13 +11,13 @@ use Rattle.plaquettes.specs.Joined.{joins, arrivals}
 
 pub record ColumnsOnce (c : Complex) (L : ℕ) : Type 0 where
   -- distinct triangles have distinct edge sets
-  pub edge-sets : EdgeSetsDiffer c
+  pub edge_sets : EdgeSetsDiffer c
   -- no triangle's move, by 1 or by -1, takes a state to itself
   pub elsewhere : (t i : ℕ) → t < length c.triangles → i < length (states c L) → (target c L t (pos 1) i ≢ i) × (target c L t (negsuc 0) i ≢ i)
   -- no triangle's shift takes state i to state j and state j to state i: it gives row i one entry in column j, and not two
   pub one_way : (t i j : ℕ) → t < length c.triangles → i < length (states c L) → j < length (states c L) → hits c L t i j ≡ true → hits c L t j i ≡ false
   -- two triangles never join the same two states
-  pub one-triangle : (t u i j : ℕ) → t < length c.triangles → u < length c.triangles → i < length (states c L) → j < length (states c L) → joins c L t i j ≡ true → joins c L u i j ≡ true → t ≡ u
+  pub one_triangle : (t u i j : ℕ) → t < length c.triangles → u < length c.triangles → i < length (states c L) → j < length (states c L) → joins c L t i j ≡ true → joins c L u i j ≡ true → t ≡ u
   -- the states that the triangles join to state i are the targets of its moves
   pub others : (i j : ℕ) → i < length (states c L) → j < length (states c L) → some (λ t. joins c L t i j) (length c.triangles) ≡ listed eqb j (arrivals c L i (length c.triangles))
   -- so no column of row i is there twice: its own, and the target of each move that stays within -L to L

@@ -2,11 +2,11 @@
 ghost use Rattle.std.specs.Prelude.{◌≡◌, cond, ◌<◌, ◌≤◌, eqb, length};
 ghost use Rattle.matrices.specs.Squares.{squares};
 ghost use Rattle.cycles.specs.Cycles.{row};
-ghost use Rattle.walker.specs.Walker.{walked-states};
+ghost use Rattle.walker.specs.Walker.{walked_states};
 ghost use Rattle.walker.specs.Steps.{Walkable};
-ghost use Rattle.walker.specs.Tables.{states-of, Fit};
+ghost use Rattle.walker.specs.Tables.{states_of, Fit};
 ghost use Rattle.plaquettes.specs.Pairs.{three, Movable};
-ghost use Rattle.entries.specs.Count.{over-states, both-stay, moves-stay, row-entries, Countable, AllCountable};
+ghost use Rattle.entries.specs.Count.{over_states, both_stay, moves_stay, row_entries, Countable, AllCountable};
 
 use cursor::{first_state, next_state};
 use numbers::sizes::MOST_EDGES;
@@ -24,7 +24,7 @@ fn one(b: bool) -> usize
 // How many of both moves of a triangle do so.
 fn count_both(state: &[i32], sides: Sides, lambda: usize) -> usize
     requires { Movable state.now (three sides) × (lambda ≤ 1000) }
-    ensures { (result ≡ both-stay lambda state.now (three sides)) × (result ≤ 2) }
+    ensures { (result ≡ both_stay lambda state.now (three sides)) × (result ≤ 2) }
 {
     let forward = one(stays(state, sides, 1, -1, lambda));
     let back = one(stays(state, sides, -1, 1, lambda));
@@ -34,7 +34,7 @@ fn count_both(state: &[i32], sides: Sides, lambda: usize) -> usize
 // How many moves of the first n triangles do so.
 fn count_moves(state: &[i32], all: &[u8; 768], n: usize, lambda: usize) -> usize
     requires { Countable lambda state.now all.now n }
-    ensures { (result ≡ moves-stay lambda state.now all.now n) × (result ≤ 512) }
+    ensures { (result ≡ moves_stay lambda state.now all.now n) × (result ≤ 512) }
 {
     let mut count = 0;
     for t in 0..n {
@@ -59,7 +59,7 @@ fn is_zero(state: &[i32]) -> bool
 // How many entries the row of a state has.
 fn count_row(state: &[i32], all: &[u8; 768], n: usize, lambda: usize) -> usize
     requires { Countable lambda state.now all.now n }
-    ensures { (result ≡ row-entries lambda all.now n state.now) × (result ≤ 513) }
+    ensures { (result ≡ row_entries lambda all.now n state.now) × (result ≤ 513) }
 {
     let moves = count_moves(state, all, n, lambda);
     one(!is_zero(state)) + moves
@@ -76,8 +76,8 @@ fn count_walked(
     all: &[u8; 768],
     n: usize,
 ) -> usize
-    requires { Walkable free.now cycles.now lambda n_free config.old blocks × AllCountable lambda (walked-states free.now (row (length config.old) cycles.now) lambda n_free config.old blocks) all.now n }
-    ensures { result ≡ over-states (row-entries lambda all.now n) (walked-states free.now (row (length config.old) cycles.now) lambda n_free config.old blocks) }
+    requires { Walkable free.now cycles.now lambda n_free config.old blocks × AllCountable lambda (walked_states free.now (row (length config.old) cycles.now) lambda n_free config.old blocks) all.now n }
+    ensures { result ≡ over_states (row_entries lambda all.now n) (walked_states free.now (row (length config.old) cycles.now) lambda n_free config.old blocks) }
 {
     let m = config.len();
     let mut space = [0i32; MOST_EDGES];
@@ -95,8 +95,8 @@ fn count_walked(
 
 // How many entries the rows of all states have, n the number of the triangles whose edges are listed.
 pub fn count_rows(w: Walker, lambda: usize, blocks: usize, all: &[u8; 768], n: usize) -> usize
-    requires { Fit w lambda blocks × AllCountable lambda (states-of w lambda blocks) all.now n }
-    ensures { result ≡ over-states (row-entries lambda all.now n) (states-of w lambda blocks) }
+    requires { Fit w lambda blocks × AllCountable lambda (states_of w lambda blocks) all.now n }
+    ensures { result ≡ over_states (row_entries lambda all.now n) (states_of w lambda blocks) }
 {
     let free = w.free;
     let n_free = w.n_free;

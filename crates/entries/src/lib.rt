@@ -3,9 +3,9 @@
 pub mod count;
 
 ghost use Rattle.mathematics.specs.Calls.{Answered, none_lent};
-ghost use Rattle.answers.specs.Answer.{numberAnswer};
-ghost use Rattle.complex.specs.Complex.{complexOf};
-ghost use Rattle.entries.specs.Entries.{entries-call};
+ghost use Rattle.answers.specs.Answer.{number_answer};
+ghost use Rattle.complex.specs.Complex.{complex_of};
+ghost use Rattle.entries.specs.Entries.{entries_call};
 
 use crate::count::count_rows;
 use answers::Answer;
@@ -15,7 +15,7 @@ use triangles::all_sides;
 
 // How many entries the row lists of a record have, whatever the coupling and the weights are. The record is judged first.
 pub fn count_entries(c: SimplicialComplex, lambda: usize) -> Answer
-    ensures { Answered (entries-call (complexOf c) lambda) (numberAnswer result) none_lent }
+    ensures { Answered (entries_call (complex_of c) lambda) (number_answer result) none_lent }
 {
     let basis = prepare_basis(c, lambda);
     let number = basis.refusal;

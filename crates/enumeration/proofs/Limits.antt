@@ -12,16 +12,16 @@ use borrow.Author.Tests.{lt-ltb, le-ltb}
 use Rattle.walker.specs.declared.tables.Walker.{Walker}
 use Rattle.cycles.specs.Cycles.{row}
 use Rattle.walker.specs.Walker.{width}
-use Rattle.walker.specs.Tables.{begin-of, states-of, Fit}
+use Rattle.walker.specs.Tables.{begin_of, states_of, Fit}
 use Rattle.enumeration.specs.Enumeration.{Limited}
-use Rattle.walker.proofs.BlockStates.{width-bound, states-few}
+use Rattle.walker.proofs.BlockStates.{width_bound, states_few}
 
-pub limited-one : (b : ℕ) → Limited (b ^ 0) 1
-limited-one b = rw (pow-zero b) (record { exact = λ h. refl; above = λ h. absurd (omega arith); bound = omega arith })
+pub limited_one : (b : ℕ) → Limited (b ^ 0) 1
+limited_one b = rw (pow-zero b) (record { exact = λ h. refl; above = λ h. absurd (omega arith); bound = omega arith })
 
 module _ (b : ℕ) (some : 1 ≤ b) (few : b ≤ 2001) where
-  pub limited-more : (j p : ℕ) → Limited (b ^ j) p → Limited (b ^ (j + 1)) (cond (ltb 1048576 p) p (p * b))
-  limited-more j p h = rw (add-one j, pow-suc b j) (go (dec_lt 1048576 p) (dec_lt 1048576 (b ^ j)))
+  pub limited_more : (j p : ℕ) → Limited (b ^ j) p → Limited (b ^ (j + 1)) (cond (ltb 1048576 p) p (p * b))
+  limited_more j p h = rw (add-one j, pow-suc b j) (go (dec_lt 1048576 p) (dec_lt 1048576 (b ^ j)))
     where
       go : Dec (1048576 < p) → Dec (1048576 < b ^ j) → Limited (b ^ j * b) (cond (ltb 1048576 p) p (p * b))
       go (yes k) (yes l) =
@@ -37,41 +37,41 @@ module _ (b : ℕ) (some : 1 ≤ b) (few : b ≤ 2001) where
 
 -- ---- the room for all states
 module _ (w : Walker) (L k : ℕ) (fit : Fit w L k) where
-  pub candidates-fit : (n : ℕ) → n ≡ width L w.n_free → (k * n ≤ 2 ^ 20 * 2001) × (k * n * w.n_edges ≤ 2 ^ 20 * 2001 * 63)
-  candidates-fit n e =
-      let narrow : n ≤ 2001 = rw e (width-bound L w.n_free fit.walkable.cycles-fit.truncation) in
+  pub candidates_fit : (n : ℕ) → n ≡ width L w.n_free → (k * n ≤ 2 ^ 20 * 2001) × (k * n * w.n_edges ≤ 2 ^ 20 * 2001 * 63)
+  candidates_fit n e =
+      let narrow : n ≤ 2001 = rw e (width_bound L w.n_free fit.walkable.cycles_fit.truncation) in
       let few : k * n ≤ 2 ^ 20 * 2001 = mul-le-mul fit.walkable.few narrow in
       (few, mul-le-mul few fit.edges)
 
-  pub states-within : length (states-of w L k) ≤ k * width L w.n_free
-  unfolding states-of
-  states-within = states-few w.free (row w.n_edges w.cycles) L w.n_free (begin-of w) k
+  pub states_within : length (states_of w L k) ≤ k * width L w.n_free
+  unfolding states_of
+  states_within = states_few w.free (row w.n_edges w.cycles) L w.n_free (begin_of w) k
 
-  pub states-fit : length (states-of w L k) * w.n_edges ≤ 2 ^ 20 * 2001 * 63
-  states-fit =
-      let few = candidates-fit (width L w.n_free) refl in
-      omega (arith, few.1, mul-le-mul_right w.n_edges states-within)
+  pub states_fit : length (states_of w L k) * w.n_edges ≤ 2 ^ 20 * 2001 * 63
+  states_fit =
+      let few = candidates_fit (width L w.n_free) refl in
+      omega (arith, few.1, mul-le-mul_right w.n_edges states_within)
 
   -- a list that has room for all candidates is not too short
-  pub roomy : (n room : ℕ) → n ≡ width L w.n_free → k * n * w.n_edges ≤ room → false ≡ ltb room (length (states-of w L k) * w.n_edges)
+  pub roomy : (n room : ℕ) → n ≡ width L w.n_free → k * n * w.n_edges ≤ room → false ≡ ltb room (length (states_of w L k) * w.n_edges)
   roomy n room e h =
       let enough : k * width L w.n_free * w.n_edges ≤ room = rw e at h in
-      sym (le-ltb room (length (states-of w L k) * w.n_edges) (omega (arith, mul-le-mul_right w.n_edges states-within)))
+      sym (le-ltb room (length (states_of w L k) * w.n_edges) (omega (arith, mul-le-mul_right w.n_edges states_within)))
 
 -- a limited power is above the limit just where the power is
-pub limited-test : (number p : ℕ) → Limited number p → ltb 1048576 p ≡ ltb 1048576 number
-limited-test number p h = go (dec_lt 1048576 number)
+pub limited_test : (number p : ℕ) → Limited number p → ltb 1048576 p ≡ ltb 1048576 number
+limited_test number p h = go (dec_lt 1048576 number)
   where
     go : Dec (1048576 < number) → ltb 1048576 p ≡ ltb 1048576 number
     go (yes k) = rw (lt-ltb 1048576 number k, lt-ltb 1048576 p (h.above k))
     go (no k) = rw (h.exact (omega arith))
 
 -- a lower power is no larger
-pub power-less : (L n : ℕ) → (2 * L + 1) ^ (n - 1) ≤ (2 * L + 1) ^ n
-power-less L n = pow-le-pow_right (omega arith) (omega arith)
+pub power_less : (L n : ℕ) → (2 * L + 1) ^ (n - 1) ≤ (2 * L + 1) ^ n
+power_less L n = pow-le-pow_right (omega arith) (omega arith)
 
 -- the candidates of all blocks are all candidates
-pub all-candidates : (L n : ℕ) → (2 * L + 1) ^ (n - 1) * width L n ≡ (2 * L + 1) ^ n
+pub all_candidates : (L n : ℕ) → (2 * L + 1) ^ (n - 1) * width L n ≡ (2 * L + 1) ^ n
 unfolding width
-all-candidates L zero = let e : (2 * L + 1) ^ 0 * 1 ≡ (2 * L + 1) ^ 0 = omega arith in e
-all-candidates L (suc n) = let e : suc n - 1 ≡ n = omega arith in rw e (sym (pow-suc (2 * L + 1) n))
+all_candidates L zero = let e : (2 * L + 1) ^ 0 * 1 ≡ (2 * L + 1) ^ 0 = omega arith in e
+all_candidates L (suc n) = let e : suc n - 1 ≡ n = omega arith in rw e (sym (pow-suc (2 * L + 1) n))

@@ -5,34 +5,34 @@ use Rattle.mathematics.specs.Writing.{front}
 use Rattle.mathematics.specs.Refusals.{first, value}
 use Rattle.mathematics.specs.Calls.{Call, NoneLent, none_lent}
 use Rattle.complex.specs.Complex.{Complex}
-use Rattle.complex.specs.Judge.{Accepted, truncated-tests}
-use Rattle.gauss_law.specs.Listing.{free-edges, Complete, states, limit}
-use Rattle.answers.specs.Answer.{numberAnswer}
+use Rattle.complex.specs.Judge.{Accepted, truncated_tests}
+use Rattle.gauss_law.specs.Listing.{free_edges, Complete, states, limit}
+use Rattle.answers.specs.Answer.{number_answer}
 use Rattle.answers.specs.declared.Answer.{Answer}
 use Rattle.walker.specs.declared.tables.Walker.{Walker}
 use Rattle.enumeration.specs.declared.Prepared.{Prepared}
-use Rattle.walker.specs.Tables.{Walks, states-of, Fit}
+use Rattle.walker.specs.Tables.{Walks, states_of, Fit}
 
 -- the candidates are over the limit
-abbrev pub limit-test : Complex → ℕ → ℕ × Bool
-limit-test c L = (10, ltb limit ((2 * L + 1) ^ length (free-edges c)))
+abbrev pub limit_test : Complex → ℕ → ℕ × Bool
+limit_test c L = (10, ltb limit ((2 * L + 1) ^ length (free_edges c)))
 
 -- what is judged before a basis is listed: 4, 5, and 7 to 10
-abbrev pub basis-tests : Complex → ℕ → List (ℕ × Bool)
-basis-tests c L = truncated-tests c L ++ (limit-test c L ∷ [])
+abbrev pub basis_tests : Complex → ℕ → List (ℕ × Bool)
+basis_tests c L = truncated_tests c L ++ (limit_test c L ∷ [])
 
 -- a list has too few entries for the basis
 unfoldable pub short : Complex → ℕ → ℕ → Bool
 short c L room = ltb room (length (states c L) * length c.edges)
 
 -- what a list holds that begins with the basis
-unfoldable pub basis-first : Complex → ℕ → List ℤ → List ℤ
-basis-first c L old = front (flatten (states c L)) old
+unfoldable pub basis_first : Complex → ℕ → List ℤ → List ℤ
+basis_first c L old = front (flatten (states c L)) old
 
 -- 4, 5, 7 to 10, then 15 for a list that has too few entries
-abbrev pub enumerated-tests : Complex → ℕ → ℕ → List (ℕ × Bool)
-enumerated-tests c L room =
-    basis-tests c L ++ ((15, short c L room) ∷ [])
+abbrev pub enumerated_tests : Complex → ℕ → ℕ → List (ℕ × Bool)
+enumerated_tests c L room =
+    basis_tests c L ++ ((15, short c L room) ∷ [])
 
 -- what is known of the basis where it is listed: it is complete, and no longer than the limit
 pub record BasisKnown (c : Complex) (L : ℕ) : Type 0 where
@@ -40,21 +40,21 @@ pub record BasisKnown (c : Complex) (L : ℕ) : Type 0 where
   pub few : length (states c L) ≤ limit
 
 -- enumerate_gauge_invariant: the number of states is told, and the list begins with them, state after state.
-unfoldable pub enumerated-call : Complex → ℕ → List ℤ → Call ℕ (List ℤ)
-enumerated-call c L old =
+unfoldable pub enumerated_call : Complex → ℕ → List ℤ → Call ℕ (List ℤ)
+enumerated_call c L old =
     record {
-      tests = enumerated-tests c L (length old);
+      tests = enumerated_tests c L (length old);
       value = length (states c L);
       before = old;
-      after = basis-first c L old;
+      after = basis_first c L old;
       known = BasisKnown c L;
     }
 
 -- count_states: the number of states is told, without a list.
-unfoldable pub counted-call : Complex → ℕ → Call ℕ NoneLent
-counted-call c L =
+unfoldable pub counted_call : Complex → ℕ → Call ℕ NoneLent
+counted_call c L =
     record {
-      tests = basis-tests c L;
+      tests = basis_tests c L;
       value = length (states c L);
       before = none_lent;
       after = none_lent;
@@ -66,14 +66,14 @@ counted-call c L =
 pub record Answerable (c : Complex) (L : ℕ) : Type 0 where
   pub accepted : Accepted c
   pub truncation : L ≤ 1000
-  pub candidates : (2 * L + 1) ^ length (free-edges c) ≤ limit
+  pub candidates : (2 * L + 1) ^ length (free_edges c) ≤ limit
 
 -- A run of enumerate_gauge_invariant there: no vertex carries a charge, so a state's Gauss sum is zero at each vertex; the list of states is complete. With a list that is long enough for them their number is told, and
 -- the list begins with them, state after state, and keeps what stood after them.
 pub record ListingDemand (c : Complex) (L : ℕ) (old new : List ℤ) (r : Answer) : Type 0 where
   pub zero : (v : ℕ) → c.charges v ≡ pos 0
   pub complete : Answerable c L → Complete c c.charges L (states c L)
-  pub answer : Answerable c L → length (states c L) * length c.edges ≤ length old → numberAnswer r ≡ value (length (states c L))
+  pub answer : Answerable c L → length (states c L) * length c.edges ≤ length old → number_answer r ≡ value (length (states c L))
   pub list : Answerable c L → length (states c L) * length c.edges ≤ length old → new ≡ front (flatten (states c L)) old
 
 -- ---- as the code keeps it
@@ -88,10 +88,10 @@ pub record BasisWalks (c : Complex) (L : ℕ) (w : Walker) (blocks : ℕ) : Type
   pub truncation : L ≤ 1000
   pub walks : Walks c L w
   pub fit : Fit w L blocks
-  pub listed : states-of w L blocks ≡ states c L
+  pub listed : states_of w L blocks ≡ states c L
   pub few : length (states c L) ≤ limit
 
 -- the refusal of a basis, or what walks it
 pub record PreparedFor (c : Complex) (L : ℕ) (r : Prepared) : Type 0 where
-  pub refusal : r.refusal ≡ first (basis-tests c L)
+  pub refusal : r.refusal ≡ first (basis_tests c L)
   pub basis : r.refusal ≡ 0 → BasisWalks c L r.walker r.blocks

@@ -1,8 +1,8 @@
 // How many states a complex has.
 ghost use Rattle.mathematics.specs.Calls.{Answered, none_lent};
-ghost use Rattle.answers.specs.Answer.{numberAnswer};
-ghost use Rattle.complex.specs.Complex.{complexOf};
-ghost use Rattle.enumeration.specs.Enumeration.{counted-call};
+ghost use Rattle.answers.specs.Answer.{number_answer};
+ghost use Rattle.complex.specs.Complex.{complex_of};
+ghost use Rattle.enumeration.specs.Enumeration.{counted_call};
 
 use crate::prepare_basis;
 use answers::Answer;
@@ -10,7 +10,7 @@ use complex::SimplicialComplex;
 
 // How many states a record has within -lambda to lambda, without a list of them. The record is judged first.
 pub fn count_states(c: SimplicialComplex, lambda: usize) -> Answer
-    ensures { Answered (counted-call (complexOf c) lambda) (numberAnswer result) none_lent }
+    ensures { Answered (counted_call (complex_of c) lambda) (number_answer result) none_lent }
 {
     let basis = prepare_basis(c, lambda);
     let number = basis.refusal;

@@ -3,11 +3,11 @@
 pub mod count;
 
 ghost use Rattle.std.specs.Prelude.{◌≡◌, cond, ◌+◌, ◌*◌, ◌-◌, ◌^◌, ◌≤◌, ltb, length};
-ghost use Rattle.complex.specs.Complex.{complexOf};
-ghost use Rattle.walker.specs.Tables.{states-of, Fit};
+ghost use Rattle.complex.specs.Complex.{complex_of};
+ghost use Rattle.walker.specs.Tables.{states_of, Fit};
 ghost use Rattle.mathematics.specs.Calls.{Answered};
-ghost use Rattle.answers.specs.Answer.{numberAnswer};
-ghost use Rattle.enumeration.specs.Enumeration.{Limited, PreparedFor, enumerated-call, ListingDemand};
+ghost use Rattle.answers.specs.Answer.{number_answer};
+ghost use Rattle.enumeration.specs.Enumeration.{Limited, PreparedFor, enumerated_call, ListingDemand};
 
 use acceptance::judge_truncated;
 use answers::Answer;
@@ -63,7 +63,7 @@ pub fn count_of_blocks(n_free: usize, lambda: usize) -> usize
 // Whether a list of a length is too short for all states. They are counted only where it could be.
 pub fn too_short(w: Walker, lambda: usize, blocks: usize, room: usize) -> bool
     requires { Fit w lambda blocks }
-    ensures { result ≡ ltb room (length (states-of w lambda blocks) * w.n_edges) }
+    ensures { result ≡ ltb room (length (states_of w lambda blocks) * w.n_edges) }
 {
     let m = w.n_edges;
     let candidates = blocks * width(w.n_free, lambda);
@@ -100,7 +100,7 @@ fn unprepared(refusal: u8) -> Prepared
 
 // The record, the truncation and the number of candidates are judged, and the walk is prepared.
 pub fn prepare_basis(c: SimplicialComplex, lambda: usize) -> Prepared
-    ensures { PreparedFor (complexOf c) lambda result }
+    ensures { PreparedFor (complex_of c) lambda result }
 {
     let number = judge_truncated(c, lambda);
     if number != 0 {
@@ -120,8 +120,8 @@ pub fn prepare_basis(c: SimplicialComplex, lambda: usize) -> Prepared
 
 // All states of a record within -lambda to lambda go to the beginning of the list. The record is judged first.
 pub fn enumerate_gauge_invariant(c: SimplicialComplex, lambda: usize, states: &mut [i32]) -> Answer
-    ensures answered { Answered (enumerated-call (complexOf c) lambda states.old) (numberAnswer result) states.new }
-    ensures listing_demand { ListingDemand (complexOf c) lambda states.old states.new result }
+    ensures answered { Answered (enumerated_call (complex_of c) lambda states.old) (number_answer result) states.new }
+    ensures listing_demand { ListingDemand (complex_of c) lambda states.old states.new result }
 {
     let basis = prepare_basis(c, lambda);
     let number = basis.refusal;

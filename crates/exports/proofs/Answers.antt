@@ -5,63 +5,63 @@ use borrow.Author.Tests.{ne_eqb}
 use lib.IntN.{ℤ, pos, neg_ℤ}
 use Rattle.mathematics.specs.Refusals.{Outcome, value, refused, first, outcome, written}
 use Rattle.mathematics.specs.Calls.{Call, Answered, NoneLent, none_lent}
-use Rattle.mathematics.proofs.Refusals.{refused-kept}
+use Rattle.mathematics.proofs.Refusals.{refused_kept}
 use Rattle.mathematics.proofs.Calls.{refuses, ends, both, written_both}
-use Rattle.exports.specs.Exports.{signed, stored, value_lent, second-lent, zero_of, value-or}
-use Rattle.exports.proofs.Signs.{refused-number, refused-some, value_none, zero-outcome}
+use Rattle.exports.specs.Exports.{signed, stored, value_lent, second_lent, zero_of, value_or}
+use Rattle.exports.proofs.Signs.{refused_number, refused_some, value_none, zero_outcome}
 
 -- ---- the value goes to what is lent
 module _ {A B : Type 0} (call : Call A NoneLent) (store : A → B → B) (old : B) where
-  pub stored-refuses : {k : ℕ} → Answered call (refused k) none_lent → Answered (stored call store old) (refused k) old
+  pub stored_refuses : {k : ℕ} → Answered call (refused k) none_lent → Answered (stored call store old) (refused k) old
   unfolding stored
-  stored-refuses {k} h =
-      refuses (stored call store old) (record { number = sym (refused-number k _ _ h.answer) }) (ne_eqb k 0 (refused-some k _ _ h.answer))
+  stored_refuses {k} h =
+      refuses (stored call store old) (record { number = sym (refused_number k _ _ h.answer) }) (ne_eqb k 0 (refused_some k _ _ h.answer))
 
-  pub stored-ends : {a : A} → Answered call (value a) none_lent → {new : B} → new ≡ store a old → Answered (stored call store old) (value 0) new
+  pub stored_ends : {a : A} → Answered call (value a) none_lent → {new : B} → new ≡ store a old → Answered (stored call store old) (value 0) new
   unfolding stored
-  stored-ends {a} h is =
+  stored_ends {a} h is =
       let told = value_none a _ _ h.answer in
       ends (stored call store old) (record { number = told.0 }) refl (is ∙ ap (λ b. store b old) told.1) (h.known told.0)
 
 -- ---- the value goes to a place beside the lists
-value_written : {A : Type 0} (n : ℕ) (a old : A) → value-or (outcome n a) old ≡ written n a old
-unfolding value-or outcome written
+value_written : {A : Type 0} (n : ℕ) (a old : A) → value_or (outcome n a) old ≡ written n a old
+unfolding value_or outcome written
 value_written zero a old = refl
 value_written (suc n) a old = refl
 
-pub lent-answers : {A B : Type 0} {call : Call A B} {a : Outcome A} {l : B} → Answered call a l → (old : A) {new : A} → new ≡ value-or a old → Answered (value_lent call old) (zero_of a) (l, new)
+pub lent_answers : {A B : Type 0} {call : Call A B} {a : Outcome A} {l : B} → Answered call a l → (old : A) {new : A} → new ≡ value_or a old → Answered (value_lent call old) (zero_of a) (l, new)
 unfolding value_lent
-lent-answers {A} {B} {call} h old is =
+lent_answers {A} {B} {call} h old is =
     let n = first call.tests in
     record {
-      answer = ap zero_of h.answer ∙ zero-outcome n call.value;
-      lists = both h.lists (is ∙ ap (λ o. value-or o old) h.answer ∙ value_written n call.value old) ∙ sym (written_both n call.after call.before call.value old);
+      answer = ap zero_of h.answer ∙ zero_outcome n call.value;
+      lists = both h.lists (is ∙ ap (λ o. value_or o old) h.answer ∙ value_written n call.value old) ∙ sym (written_both n call.after call.before call.value old);
       known = h.known;
     }
 
 -- what is told and what stands there, by the outcome
-pub lent-value : {A : Type 0} {a : Outcome A} {x : A} (old : A) → a ≡ value x → (pos 0 ≡ signed (zero_of a)) × (x ≡ value-or a old)
-unfolding signed zero_of value-or
-lent-value old is = rw is (refl, refl)
+pub lent_value : {A : Type 0} {a : Outcome A} {x : A} (old : A) → a ≡ value x → (pos 0 ≡ signed (zero_of a)) × (x ≡ value_or a old)
+unfolding signed zero_of value_or
+lent_value old is = rw is (refl, refl)
 
-pub lent-kept : {A : Type 0} {a : Outcome A} {k : ℕ} {r : ℤ} (old : A) → a ≡ refused k → r ≡ neg_ℤ (pos k) → (r ≡ signed (zero_of a)) × (old ≡ value-or a old)
-unfolding signed zero_of value-or
-lent-kept old is told = rw is (told, refl)
+pub lent_kept : {A : Type 0} {a : Outcome A} {k : ℕ} {r : ℤ} (old : A) → a ≡ refused k → r ≡ neg_ℤ (pos k) → (r ≡ signed (zero_of a)) × (old ≡ value_or a old)
+unfolding signed zero_of value_or
+lent_kept old is told = rw is (told, refl)
 
 -- ---- the second of two numbers does
 module _ {B C : Type 0} (call : Call (ℕ × ℕ) (B × C)) (old : ℕ) {b : B} {c : C} where
-  pub second-refuses : {k : ℕ} → Answered call (refused k) (b, c) → Answered (second-lent call old) (refused k) (b, c, old)
-  unfolding second-lent
-  second-refuses {k} h =
-      let number = sym (refused-number k _ _ h.answer) in
-      let some = refused-some k _ _ h.answer in
-      let kept : (b, c) ≡ call.before = h.lists ∙ sym (refused-kept (first call.tests) call.after call.before (λ z. some (sym number ∙ z))) in
-      rw (ap (λ p. p.0) kept, ap (λ p. p.1) kept) (refuses (second-lent call old) (record { number = number }) (ne_eqb k 0 some))
+  pub second_refuses : {k : ℕ} → Answered call (refused k) (b, c) → Answered (second_lent call old) (refused k) (b, c, old)
+  unfolding second_lent
+  second_refuses {k} h =
+      let number = sym (refused_number k _ _ h.answer) in
+      let some = refused_some k _ _ h.answer in
+      let kept : (b, c) ≡ call.before = h.lists ∙ sym (refused_kept (first call.tests) call.after call.before (λ z. some (sym number ∙ z))) in
+      rw (ap (λ p. p.0) kept, ap (λ p. p.1) kept) (refuses (second_lent call old) (record { number = number }) (ne_eqb k 0 some))
 
-  pub second-ends : {m n : ℕ} → Answered call (value (m, n)) (b, c) → Answered (second-lent call old) (value m) (b, c, n)
-  unfolding second-lent written
-  second-ends {m} {n} h =
+  pub second_ends : {m n : ℕ} → Answered call (value (m, n)) (b, c) → Answered (second_lent call old) (value m) (b, c, n)
+  unfolding second_lent written
+  second_ends {m} {n} h =
       let told = value_none (m, n) _ _ h.answer in
       let new : (b, c) ≡ call.after = rw told.0 at h.lists in
-      ends (second-lent call old) (record { number = told.0 }) (ap (λ p. p.0) told.1)
+      ends (second_lent call old) (record { number = told.0 }) (ap (λ p. p.0) told.1)
       (λ i. ((new i).0, (new i).1, (told.1 i).1)) (h.known told.0)

@@ -12,25 +12,25 @@ use mir.Facts.{to_z_pos}
 use Rattle.mathematics.specs.Refusals.{Outcome, value, refused, outcome}
 use Rattle.mathematics.specs.Calls.{Call, Answered}
 use Rattle.exports.specs.declared.Told.{Told}
-use Rattle.exports.specs.Exports.{signed, toldOf, signed_of, yes_of, zero_of, Exported}
+use Rattle.exports.specs.Exports.{signed, outcome_told, signed_of, yes_of, zero_of, Exported}
 
-pub small-mag : (n : ℕ) → n < 256 → mag (neg_ℤ (pos n)) < 2 ^ 63
-small-mag zero h = omega arith
-small-mag (suc n) h = omega arith
+pub small_mag : (n : ℕ) → n < 256 → mag (neg_ℤ (pos n)) < 2 ^ 63
+small_mag zero h = omega arith
+small_mag (suc n) h = omega arith
 
 pub minus : (n : ℕ) → n < 256 → pos 0 -ℤ to_z w64 n ≡ neg_ℤ (pos n)
 minus n h = rw (to_z_pos w64 {n = n} (omega arith)) (+ℤ_idl (neg_ℤ (pos n)))
 
 -- an outcome that is a refusal is one of the number that refuses, and that is not 0
-pub refused-number : {A : Type 0} (k n : ℕ) (a : A) → refused k ≡ outcome n a → k ≡ n
+pub refused_number : {A : Type 0} (k n : ℕ) (a : A) → refused k ≡ outcome n a → k ≡ n
 unfolding outcome
-refused-number k zero a h = let z : ◌≡◌ {A = ℕ} 0 1 = cc in absurd (omega arith)
-refused-number k (suc n) a h = cc
+refused_number k zero a h = let z : ◌≡◌ {A = ℕ} 0 1 = cc in absurd (omega arith)
+refused_number k (suc n) a h = cc
 
-pub refused-some : {A : Type 0} (k n : ℕ) (a : A) → refused k ≡ outcome n a → k ≡ 0 → ⊥
+pub refused_some : {A : Type 0} (k n : ℕ) (a : A) → refused k ≡ outcome n a → k ≡ 0 → ⊥
 unfolding outcome
-refused-some k zero a h z = let y : ◌≡◌ {A = ℕ} 0 1 = cc in omega arith
-refused-some k (suc n) a h z = let y : k ≡ suc n = cc in omega arith
+refused_some k zero a h z = let y : ◌≡◌ {A = ℕ} 0 1 = cc in omega arith
+refused_some k (suc n) a h z = let y : k ≡ suc n = cc in omega arith
 
 -- an outcome that is a value refuses nothing
 pub value_none : {A : Type 0} (b : A) (n : ℕ) (a : A) → value b ≡ outcome n a → (n ≡ 0) × (b ≡ a)
@@ -43,39 +43,39 @@ pub exports : {B : Type 0} {call : Call ℕ B} {a : Outcome ℕ} {l : B} → Ans
 exports h is = record { answer = is ∙ ap signed h.answer; lists = h.lists; known = h.known }
 
 -- what was told has the signed number of the answer, and a small value stays small
-signed-of : (a : Outcome ℕ) → signed_of (toldOf a) ≡ signed a
-unfolding signed_of toldOf signed
-signed-of (value n) = refl
-signed-of (refused zero) = refl
-signed-of (refused (suc n)) = rw (ne_eqb (suc n) 0 (λ z. omega arith))
+signed_of_lem : (a : Outcome ℕ) → signed_of (outcome_told a) ≡ signed a
+unfolding signed_of outcome_told signed
+signed_of_lem (value n) = refl
+signed_of_lem (refused zero) = refl
+signed_of_lem (refused (suc n)) = rw (ne_eqb (suc n) 0 (λ z. omega arith))
 
-pub signed-told : (a : Outcome ℕ) {t : Told} → t ≡ toldOf a → signed_of t ≡ signed a
-signed-told a e = ap signed_of e ∙ signed-of a
+pub signed_told : (a : Outcome ℕ) {t : Told} → t ≡ outcome_told a → signed_of t ≡ signed a
+signed_told a e = ap signed_of e ∙ signed_of_lem a
 
-pub small-told : (t : Told) (o : Outcome ℕ) (n a : ℕ) → t ≡ toldOf o → o ≡ outcome n a → (n ≡ 0 → a < 2 ^ 31) → t.value < 2 ^ 31
-unfolding toldOf outcome
-small-told t o zero a e f small =
-    let k : t.value ≡ a = ap (λ (q : Told). q.value) (e ∙ ap toldOf f) in
+pub small_told : (t : Told) (o : Outcome ℕ) (n a : ℕ) → t ≡ outcome_told o → o ≡ outcome n a → (n ≡ 0 → a < 2 ^ 31) → t.value < 2 ^ 31
+unfolding outcome_told outcome
+small_told t o zero a e f small =
+    let k : t.value ≡ a = ap (λ (q : Told). q.value) (e ∙ ap outcome_told f) in
     let s = small refl in
     omega arith
-small-told t o (suc n) a e f small =
-    let k : t.value ≡ 0 = ap (λ (q : Told). q.value) (e ∙ ap toldOf f) in
+small_told t o (suc n) a e f small =
+    let k : t.value ≡ 0 = ap (λ (q : Told). q.value) (e ∙ ap outcome_told f) in
     omega arith
 
-pub yes-outcome : (n : ℕ) (b : Bool) → yes_of (outcome n b) ≡ outcome n (cond b 1 0)
+pub yes_outcome : (n : ℕ) (b : Bool) → yes_of (outcome n b) ≡ outcome n (cond b 1 0)
 unfolding yes_of outcome
-yes-outcome zero b = refl
-yes-outcome (suc n) b = refl
+yes_outcome zero b = refl
+yes_outcome (suc n) b = refl
 
-pub zero-outcome : {A : Type 0} (n : ℕ) (a : A) → zero_of (outcome n a) ≡ outcome n 0
+pub zero_outcome : {A : Type 0} (n : ℕ) (a : A) → zero_of (outcome n a) ≡ outcome n 0
 unfolding zero_of outcome
-zero-outcome zero a = refl
-zero-outcome (suc n) a = refl
+zero_outcome zero a = refl
+zero_outcome (suc n) a = refl
 
-pub yes-small : (b : Bool) → cond b 1 0 < 2 ^ 31
-yes-small true = omega arith
-yes-small false = omega arith
+pub yes_small : (b : Bool) → cond b 1 0 < 2 ^ 31
+yes_small true = omega arith
+yes_small false = omega arith
 
-pub yes-number : (b : Bool) → bool_byte b ≡ cond b 1 0
-yes-number true = refl
-yes-number false = refl
+pub yes_number : (b : Bool) → bool_byte b ≡ cond b 1 0
+yes_number true = refl
+yes_number false = refl

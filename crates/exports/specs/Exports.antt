@@ -7,8 +7,8 @@ use Rattle.sheet.specs.declared.Reading.TheVariants.{Accepted, Refused}
 use Rattle.matrices.specs.declared.coupling.KSParams.{KSParams}
 use Rattle.exports.specs.declared.Told.{Told}
 use Rattle.exports.specs.declared.Opened.{Opened}
-use Rattle.complex.specs.Complex.{Complex, complexOf}
-use Rattle.sheet.specs.Sheet.{sheetIn, reading-tests, reading-refusal}
+use Rattle.complex.specs.Complex.{Complex, complex_of}
+use Rattle.sheet.specs.Sheet.{sheet_in, reading_tests, reading_refusal}
 
 -- the value, or minus the refusal
 unfoldable pub signed : Outcome ℕ → ℤ
@@ -23,22 +23,22 @@ pub record Exported {B : Type 0} (call : Call ℕ B) (r : ℤ) (l : B) : Type 0 
   pub known : first call.tests ≡ 0 → call.known
 
 -- the complex that a sheet's bytes hold
-abbrev pub complexIn : List ℕ → Complex
-complexIn b = complexOf (sheetIn b).complex
+abbrev pub complex_in : List ℕ → Complex
+complex_in b = complex_of (sheet_in b).complex
 
 -- the truncation that they hold
-abbrev pub lambdaIn : List ℕ → ℕ
-lambdaIn b = (sheetIn b).lambda
+abbrev pub lambda_in : List ℕ → ℕ
+lambda_in b = (sheet_in b).lambda
 
 -- A call on what a sheet holds: the sheet is judged first, then the call's own tests, on the complex and the truncation that it holds.
-unfoldable pub on-sheet : {A B : Type 0} → List ℕ → (Complex → ℕ → Call A B) → Call A B
-on-sheet b call =
+unfoldable pub on_sheet : {A B : Type 0} → List ℕ → (Complex → ℕ → Call A B) → Call A B
+on_sheet b call =
     record {
-      tests = reading-tests b ++ (call (complexIn b) (lambdaIn b)).tests;
-      value = (call (complexIn b) (lambdaIn b)).value;
-      before = (call (complexIn b) (lambdaIn b)).before;
-      after = (call (complexIn b) (lambdaIn b)).after;
-      known = (call (complexIn b) (lambdaIn b)).known;
+      tests = reading_tests b ++ (call (complex_in b) (lambda_in b)).tests;
+      value = (call (complex_in b) (lambda_in b)).value;
+      before = (call (complex_in b) (lambda_in b)).before;
+      after = (call (complex_in b) (lambda_in b)).after;
+      known = (call (complex_in b) (lambda_in b)).known;
     }
 
 -- yes is 1, no is 0
@@ -50,16 +50,16 @@ unfoldable pub stored : {A B : Type 0} → Call A NoneLent → (A → B → B) �
 stored call store old = record { tests = call.tests; value = 0; before = old; after = store call.value old; known = call.known }
 
 -- The value of a call is not told: 0 is, beside what goes to its lists.
-unfoldable pub zero-told : {A B : Type 0} → Call A B → Call ℕ B
-zero-told call = record { tests = call.tests; value = 0; before = call.before; after = call.after; known = call.known }
+unfoldable pub zero_told : {A B : Type 0} → Call A B → Call ℕ B
+zero_told call = record { tests = call.tests; value = 0; before = call.before; after = call.after; known = call.known }
 
 -- The value of a call goes to a place that is lent beside its lists, and 0 is told.
 unfoldable pub value_lent : {A B : Type 0} → Call A B → A → Call ℕ (B × A)
 value_lent call old = record { tests = call.tests; value = 0; before = (call.before, old); after = (call.after, call.value); known = call.known }
 
 -- Of two numbers the first is told, and the second goes to a number that is lent.
-unfoldable pub second-lent : {B C : Type 0} → Call (ℕ × ℕ) (B × C) → ℕ → Call ℕ (B × C × ℕ)
-second-lent call old =
+unfoldable pub second_lent : {B C : Type 0} → Call (ℕ × ℕ) (B × C) → ℕ → Call ℕ (B × C × ℕ)
+second_lent call old =
     record {
       tests = call.tests;
       value = call.value.0;
@@ -79,9 +79,9 @@ three_floats p old = p.g_squared ∷ p.electric ∷ p.magnetic ∷ []
 
 -- ---- as the code keeps it
 -- a value with no refusal, or a refusal and 0
-unfoldable pub toldOf : Outcome ℕ → Told
-toldOf (value n) = record { refusal = 0; value = n }
-toldOf (refused n) = record { refusal = n; value = 0 }
+unfoldable pub outcome_told : Outcome ℕ → Told
+outcome_told (value n) = record { refusal = 0; value = n }
+outcome_told (refused n) = record { refusal = n; value = 0 }
 
 unfoldable pub signed_of : Told → ℤ
 signed_of t = cond (eqb t.refusal 0) (pos t.value) (neg_ℤ (pos t.refusal))
@@ -97,16 +97,16 @@ zero_of (value a) = value 0
 zero_of (refused n) = refused n
 
 -- a value, or where there is none what stood in its place
-unfoldable pub value-or : {A : Type 0} → Outcome A → A → A
-value-or (value a) old = a
-value-or (refused n) old = old
+unfoldable pub value_or : {A : Type 0} → Outcome A → A → A
+value_or (value a) old = a
+value_or (refused n) old = old
 
 -- the refusal of a reading, or 0
-unfoldable pub readingNumber : Reading → ℕ
-readingNumber Accepted = 0
-readingNumber (Refused n) = n
+unfoldable pub reading_number : Reading → ℕ
+reading_number Accepted = 0
+reading_number (Refused n) = n
 
 -- the refusal of the sheet's bytes, and where there is none the sheet
 pub record OpenedOf (b : List ℕ) (o : Opened) : Type 0 where
-  pub number : o.refusal ≡ reading-refusal b
-  pub holds : reading-refusal b ≡ 0 → o.sheet ≡ sheetIn b
+  pub number : o.refusal ≡ reading_refusal b
+  pub holds : reading_refusal b ≡ 0 → o.sheet ≡ sheet_in b

@@ -1,11 +1,11 @@
 // What the exported functions of every mode have in common: a sheet is opened, and an answer becomes one signed number.
 ghost use Rattle.std.specs.Prelude.{◌≡◌, ◌<◌, ◌^◌, pos, neg_ℤ, Float};
 ghost use Rattle.mathematics.specs.Calls.{Answered, none_lent};
-ghost use Rattle.answers.specs.Answer.{numberAnswer};
-ghost use Rattle.answers.specs.Expectation.{expectationAnswer};
+ghost use Rattle.answers.specs.Answer.{number_answer};
+ghost use Rattle.answers.specs.Expectation.{expectation_answer};
 ghost use Rattle.matrices.specs.declared.coupling.KSParams.{KSParams};
-ghost use Rattle.matrices.specs.Coupling.{couplingAnswer, coupling-call};
-ghost use Rattle.exports.specs.Exports.{signed, toldOf, signed_of, zero_of, value-or, readingNumber, OpenedOf, stored, three_floats, Exported};
+ghost use Rattle.matrices.specs.Coupling.{coupling_answer, coupling_call};
+ghost use Rattle.exports.specs.Exports.{signed, outcome_told, signed_of, zero_of, value_or, reading_number, OpenedOf, stored, three_floats, Exported};
 
 use answers::Answer;
 use answers::expectation::Expectation;
@@ -45,7 +45,7 @@ pub fn signed(told: Told) -> i64
 }
 
 pub fn told_number(answer: Answer) -> Told
-    ensures { result ≡ toldOf (numberAnswer answer) }
+    ensures { result ≡ outcome_told (number_answer answer) }
 {
     match answer {
         Answer::Number(count) => Told {
@@ -61,7 +61,7 @@ pub fn told_number(answer: Answer) -> Told
 
 // The refusal of a reading, or 0.
 pub fn refusal(answer: Reading) -> u8
-    ensures { result ≡ readingNumber answer }
+    ensures { result ≡ reading_number answer }
 {
     match answer {
         Reading::Accepted => 0,
@@ -91,7 +91,7 @@ pub fn open(sheet: &[u8]) -> Opened
 
 // The coupling of an answer goes to three floats: 0.
 pub fn store(answer: Coupling, params: &mut [f64; 3]) -> i64
-    ensures { (g : Float) (own : KSParams) → Answered (coupling-call g own) (couplingAnswer answer) none_lent → Exported (stored (coupling-call g own) three_floats params.old) result params.new }
+    ensures { (g : Float) (own : KSParams) → Answered (coupling_call g own) (coupling_answer answer) none_lent → Exported (stored (coupling_call g own) three_floats params.old) result params.new }
 {
     match answer {
         Coupling::Params(p) => {
@@ -104,7 +104,7 @@ pub fn store(answer: Coupling, params: &mut [f64; 3]) -> i64
 
 // The expectation of an answer goes to a float: 0.
 pub fn store_expectation(answer: Expectation, expectation: &mut f64) -> i64
-    ensures { (result ≡ signed (zero_of (expectationAnswer answer))) × (expectation.new ≡ value-or (expectationAnswer answer) expectation.old) }
+    ensures { (result ≡ signed (zero_of (expectation_answer answer))) × (expectation.new ≡ value_or (expectation_answer answer) expectation.old) }
 {
     match answer {
         Expectation::Value(x) => {

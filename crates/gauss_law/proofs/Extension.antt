@@ -9,14 +9,14 @@ use Rattle.mathematics.specs.Integers.{sum_below}
 use Rattle.mathematics.specs.Counting.{below}
 use Rattle.mathematics.specs.Entries.{Each}
 use Rattle.mathematics.proofs.Ordered.{Member, each_member}
-use Rattle.mathematics.proofs.Below.{length-below, map-below-at, listed-member}
+use Rattle.mathematics.proofs.Below.{length_below, map_below_at, listed_member}
 use Rattle.complex.specs.Complex.{Simplex, Complex}
 use Rattle.gauss_law.specs.Gauss.{gauss, Lawful}
-use Rattle.gauss_law.specs.Listing.{tree-edges, free-edges, Free}
-use Rattle.gauss_law.proofs.Solving.{Step, Solved, SolvingOrder, solve, solve-length, solve-off, solve-law}
+use Rattle.gauss_law.specs.Listing.{tree_edges, free_edges, Free}
+use Rattle.gauss_law.proofs.Solving.{Step, Solved, SolvingOrder, solve, solve_length, solve_off, solve_law}
 use Rattle.gauss_law.proofs.Tree.{Solvable}
-use Rattle.gauss_law.proofs.Free.{free-below, free-not-tree, determined}
-use Rattle.gauss_law.proofs.Roots.{Level, law-at-root}
+use Rattle.gauss_law.proofs.Free.{free_below, free_not_tree, determined}
+use Rattle.gauss_law.proofs.Roots.{Level, law_at_root}
 
 -- r is the root of a part whose charges add to zero. The part's weight is 1 at the root and equal at both ends of each edge; where it is
 -- not zero all other vertices are solved.
@@ -31,22 +31,22 @@ pub record Root (q : ℕ → ℤ) (n : ℕ) (es : List Simplex) (order : List St
 abbrev pub Rooted : Complex → (ℕ → ℤ) → List Step → Type 0
 Rooted c q order = (v : ℕ) → v < c.vertices → Solved v order ⊎ Root q c.vertices c.edges order v
 
-pub solve-lawful : (c : Complex) (q : ℕ → ℤ) {order : List Step} → SolvingOrder c.edges order → Rooted c q order
+pub solve_lawful : (c : Complex) (q : ℕ → ℤ) {order : List Step} → SolvingOrder c.edges order → Rooted c q order
     → (s : List ℤ) → length s ≡ length c.edges → Lawful c q (solve q c.edges order s)
-solve-lawful c q {order} solving rooted s l v h = at (rooted v h)
+solve_lawful c q {order} solving rooted s l v h = at (rooted v h)
   where
-    at-solved : (u : ℕ) → Solved u order → gauss c.edges (solve q c.edges order s) u ≡ q u
-    at-solved u m = each_member (solve-law q c.edges solving s l) m.1
+    at_solved : (u : ℕ) → Solved u order → gauss c.edges (solve q c.edges order s) u ≡ q u
+    at_solved u m = each_member (solve_law q c.edges solving s l) m.1
 
     at : Solved v order ⊎ Root q c.vertices c.edges order v → gauss c.edges (solve q c.edges order s) v ≡ q v
-    at (inl m) = at-solved v m
+    at (inl m) = at_solved v m
     at (inr r) =
-        law-at-root q r.weight c.vertices (solve q c.edges order s) v r.level h r.root r.charges
+        law_at_root q r.weight c.vertices (solve q c.edges order s) v r.level h r.root r.charges
         (λ u k m. other u (r.others u k m))
       where
         other : (u : ℕ) → (r.weight u ≡ pos 0) ⊎ Solved u order → (r.weight u ≡ pos 0) ⊎ (gauss c.edges (solve q c.edges order s) u ≡ q u)
         other u (inl k) = inl k
-        other u (inr m) = inr (at-solved u m)
+        other u (inr m) = inr (at_solved u m)
 
 -- s is lawful, and has the value x e on each free edge e
 pub record Extends (c : Complex) (q x : ℕ → ℤ) (s : List ℤ) : Type 0 where
@@ -54,27 +54,27 @@ pub record Extends (c : Complex) (q x : ℕ → ℤ) (s : List ℤ) : Type 0 whe
   pub free : (e : ℕ) → Free c e → get_or s e (pos 0) ≡ x e
   pub law : Lawful c q s
 
-module _ (c : Complex) (q x : ℕ → ℤ) (tree : Solvable c.edges c.vertices (tree-edges c)) where
-  pub extends-once : (s t : List ℤ) → Extends c q x s → Extends c q x t → s ≡ t
-  extends-once s t a b =
+module _ (c : Complex) (q x : ℕ → ℤ) (tree : Solvable c.edges c.vertices (tree_edges c)) where
+  pub extends_once : (s t : List ℤ) → Extends c q x s → Extends c q x t → s ≡ t
+  extends_once s t a b =
       determined c tree s t a.sized b.sized (λ e f. a.free e f ∙ sym (b.free e f)) (λ v h. a.law v h ∙ sym (b.law v h))
 
   -- all edges take their values from x, then the tree edges are solved
   pub extension : Rooted c q tree.order → Extends c q x (solve q c.edges tree.order (map x (below (length c.edges))))
   extension rooted =
       record {
-        sized = solve-length q c.edges tree.order start ∙ long;
-        free = λ e f. chosen e (listed-member e (free-edges c) f);
-        law = solve-lawful c q tree.solving rooted start long;
+        sized = solve_length q c.edges tree.order start ∙ long;
+        free = λ e f. chosen e (listed_member e (free_edges c) f);
+        law = solve_lawful c q tree.solving rooted start long;
       }
     where
       start : List ℤ
       start = map x (below (length c.edges))
 
       long : length start ≡ length c.edges
-      long = length-map (below (length c.edges)) x ∙ length-below (length c.edges)
+      long = length-map (below (length c.edges)) x ∙ length_below (length c.edges)
 
-      chosen : (e : ℕ) → Member e (free-edges c) → get_or (solve q c.edges tree.order start) e (pos 0) ≡ x e
+      chosen : (e : ℕ) → Member e (free_edges c) → get_or (solve q c.edges tree.order start) e (pos 0) ≡ x e
       chosen e m =
-          solve-off q c.edges start e ((tree.off e).1 (each_member (free-not-tree c) m))
-          ∙ map-below-at x (length c.edges) e (pos 0) (each_member (free-below c) m)
+          solve_off q c.edges start e ((tree.off e).1 (each_member (free_not_tree c) m))
+          ∙ map_below_at x (length c.edges) e (pos 0) (each_member (free_below c) m)

@@ -13,40 +13,40 @@ use borrow.Author.Tests.{not-true}
 use Rattle.mathematics.specs.Lists.{listed}
 use Rattle.mathematics.specs.Counting.{below}
 use Rattle.mathematics.specs.Entries.{Each}
-use Rattle.mathematics.proofs.Ordered.{Member, Ordered, each_to, ordered-to, keep-passes, keep-each, keep-ordered, keep-member}
-use Rattle.mathematics.proofs.Below.{below_each, below-ordered, below-member, member-listed, not_listed, member-not-listed}
+use Rattle.mathematics.proofs.Ordered.{Member, Ordered, each_to, ordered_to, keep_passes, keep_each, keep_ordered, keep_member}
+use Rattle.mathematics.proofs.Below.{below_each, below_ordered, below_member, member_listed, not_listed, member_not_listed}
 use Rattle.complex.specs.Complex.{Complex}
 use Rattle.gauss_law.specs.Gauss.{gauss}
-use Rattle.gauss_law.specs.Listing.{tree-edges, free-edges, Free}
+use Rattle.gauss_law.specs.Listing.{tree_edges, free_edges, Free}
 use Rattle.gauss_law.proofs.Solving.{Off, unique}
 use Rattle.gauss_law.proofs.Tree.{Solvable}
 
 module _ (c : Complex) where
-  pub free-below : Each (λ e. e < length c.edges) (free-edges c)
-  unfolding free-edges
-  free-below = keep-each (λ e. not (listed eqb e (tree-edges c))) (below_each (length c.edges))
+  pub free_below : Each (λ e. e < length c.edges) (free_edges c)
+  unfolding free_edges
+  free_below = keep_each (λ e. not (listed eqb e (tree_edges c))) (below_each (length c.edges))
 
-  pub free-rising : Ordered (λ d e. d < e) (free-edges c)
-  unfolding free-edges
-  free-rising = keep-ordered (λ e. not (listed eqb e (tree-edges c))) (below-ordered (length c.edges))
+  pub free_rising : Ordered (λ d e. d < e) (free_edges c)
+  unfolding free_edges
+  free_rising = keep_ordered (λ e. not (listed eqb e (tree_edges c))) (below_ordered (length c.edges))
 
-  pub free-once : Ordered (λ d e. d ≢ e) (free-edges c)
-  free-once = ordered-to (λ d e a b h. apart d e h) free-below free-rising
+  pub free_once : Ordered (λ d e. d ≢ e) (free_edges c)
+  free_once = ordered_to (λ d e a b h. apart d e h) free_below free_rising
     where
       apart : (d e : ℕ) → d < e → d ≢ e
       apart d e h k = absurd (omega arith)
 
-  pub free-not-tree : Each (λ e. Member e (tree-edges c) → ⊥) (free-edges c)
-  unfolding free-edges
-  free-not-tree =
-      each_to (λ e h. not_listed (not-true (listed eqb e (tree-edges c)) h)) (keep-passes (λ e. not (listed eqb e (tree-edges c))) (below (length c.edges)))
+  pub free_not_tree : Each (λ e. Member e (tree_edges c) → ⊥) (free_edges c)
+  unfolding free_edges
+  free_not_tree =
+      each_to (λ e h. not_listed (not-true (listed eqb e (tree_edges c)) h)) (keep_passes (λ e. not (listed eqb e (tree_edges c))) (below (length c.edges)))
 
-  pub not-tree-free : (e : ℕ) → e < length c.edges → (Member e (tree-edges c) → ⊥) → Member e (free-edges c)
-  unfolding free-edges
-  not-tree-free e h f = keep-member (λ e. not (listed eqb e (tree-edges c))) (rw (member-not-listed e (tree-edges c) f)) (below-member (length c.edges) e h)
+  pub not_tree_free : (e : ℕ) → e < length c.edges → (Member e (tree_edges c) → ⊥) → Member e (free_edges c)
+  unfolding free_edges
+  not_tree_free e h f = keep_member (λ e. not (listed eqb e (tree_edges c))) (rw (member_not_listed e (tree_edges c) f)) (below_member (length c.edges) e h)
 
 -- Two assignments with the same Gauss sum at every vertex that agree on the free edges are equal.
-pub determined : (c : Complex) → Solvable c.edges c.vertices (tree-edges c) → (s t : List ℤ) → length s ≡ length c.edges → length t ≡ length c.edges
+pub determined : (c : Complex) → Solvable c.edges c.vertices (tree_edges c) → (s t : List ℤ) → length s ≡ length c.edges → length t ≡ length c.edges
     → ((e : ℕ) → Free c e → get_or s e (pos 0) ≡ get_or t e (pos 0))
     → ((v : ℕ) → v < c.vertices → gauss c.edges s v ≡ gauss c.edges t v)
     → s ≡ t
@@ -56,5 +56,5 @@ determined c tree s t ls lt agree same = unique c.edges s t ls lt tree.solving e
     each e o = go (dec_lt e (length c.edges))
       where
         go : Dec (e < length c.edges) → get_or s e (pos 0) ≡ get_or t e (pos 0)
-        go (yes l) = agree e (member-listed (not-tree-free c e l ((tree.off e).0 o)))
+        go (yes l) = agree e (member_listed (not_tree_free c e l ((tree.off e).0 o)))
         go (no l) = get_or-eq_default s (pos 0) (omega arith) ∙ sym (get_or-eq_default t (pos 0) (omega arith))

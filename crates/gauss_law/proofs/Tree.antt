@@ -7,7 +7,7 @@ use native.Mathlib.Omega.{arith}
 use native.Mathlib.Decide.{ℕ_discrete}
 use lib.ListN.{length, get_or}
 use Rattle.mathematics.specs.Entries.{Each, none, also}
-use Rattle.mathematics.proofs.Ordered.{Member, front, behind, Ordered, at_each, member-place, place-member, at-ordered}
+use Rattle.mathematics.proofs.Ordered.{Member, front, behind, Ordered, at_each, member_place, place_member, at_ordered}
 use Rattle.complex.specs.Complex.{Simplex, Joins}
 use Rattle.complex.specs.Search.{Search, SpansReached}
 use Rattle.gauss_law.proofs.Gauss.{Meets, ends, starts, Misses}
@@ -54,57 +54,57 @@ module _ (es : List Simplex) (n : ℕ) (s : Search) (spans : SpansReached es n s
   untouched zero k h l = none
   untouched (suc j) k h l = also (misses j k h l) (untouched j k (omega arith) l)
 
-  solving-order : (k : ℕ) → k ≤ length s.tree → SolvingOrder es (backwards s k)
+  solving_order : (k : ℕ) → k ≤ length s.tree → SolvingOrder es (backwards s k)
   unfolding backwards
-  solving-order zero h = done
-  solving-order (suc k) h = next (spans.numbered k h) (meets k h) (untouched k k (omega arith) h) (solving-order k (omega arith))
+  solving_order zero h = done
+  solving_order (suc k) h = next (spans.numbered k h) (meets k h) (untouched k k (omega arith) h) (solving_order k (omega arith))
 
-  vertices-below : (k : ℕ) → k ≤ length s.tree → Each (λ p. p.0 < n) (backwards s k)
+  vertices_below : (k : ℕ) → k ≤ length s.tree → Each (λ p. p.0 < n) (backwards s k)
   unfolding backwards
-  vertices-below zero h = none
-  vertices-below (suc k) h = also (spans.below (suc k) (omega (arith, spans.sizes))) (vertices-below k (omega arith))
+  vertices_below zero h = none
+  vertices_below (suc k) h = also (spans.below (suc k) (omega (arith, spans.sizes))) (vertices_below k (omega arith))
 
-  off-tree : (e k : ℕ) → k ≤ length s.tree → (Member e s.tree → ⊥) → Off e (backwards s k)
+  off_tree : (e k : ℕ) → k ≤ length s.tree → (Member e s.tree → ⊥) → Off e (backwards s k)
   unfolding backwards
-  off-tree e zero h f = none
-  off-tree e (suc k) h f = also (λ q. f (rw q (place-member 0 s.tree k h))) (off-tree e k (omega arith) f)
+  off_tree e zero h f = none
+  off_tree e (suc k) h f = also (λ q. f (rw q (place_member 0 s.tree k h))) (off_tree e k (omega arith) f)
 
-  tree-off : (i k : ℕ) → i < k → Off (get_or s.tree i 0) (backwards s k) → ⊥
+  tree_off : (i k : ℕ) → i < k → Off (get_or s.tree i 0) (backwards s k) → ⊥
   unfolding backwards
-  tree-off i zero h o = absurd (omega arith)
-  tree-off i (suc k) h (also n o) = go (ℕ_discrete i k) (λ l. tree-off i k l o)
+  tree_off i zero h o = absurd (omega arith)
+  tree_off i (suc k) h (also n o) = go (ℕ_discrete i k) (λ l. tree_off i k l o)
     where
       go : Dec (i ≡ k) → (i < k → ⊥) → ⊥
       go (yes e) ih = n (ap (λ j. get_or s.tree j 0) e)
       go (no e) ih = ih (omega arith)
 
-  off-not-tree : (e : ℕ) → Off e (backwards s (length s.tree)) → Member e s.tree → ⊥
-  off-not-tree e o m =
-      let r = member-place 0 m in
-      tree-off r.0 (length s.tree) r.1 (rw r.2 o)
+  off_not_tree : (e : ℕ) → Off e (backwards s (length s.tree)) → Member e s.tree → ⊥
+  off_not_tree e o m =
+      let r = member_place 0 m in
+      tree_off r.0 (length s.tree) r.1 (rw r.2 o)
 
-  tree-once : (i j : ℕ) → i < j → j < length s.tree → get_or s.tree i 0 ≢ get_or s.tree j 0
-  tree-once i j h l e = go (meets j l) (rw e at (misses i j h l))
+  tree_once : (i j : ℕ) → i < j → j < length s.tree → get_or s.tree i 0 ≢ get_or s.tree j 0
+  tree_once i j h l e = go (meets j l) (rw e at (misses i j h l))
     where
       go : {d : Simplex} {v : ℕ} → Meets d v → Misses d v → ⊥
       go (ends a b) m = m.1 a
       go (starts a b) m = m.0 a
 
-  pub spans-solvable : Solvable es n s.tree
-  spans-solvable =
+  pub spans_solvable : Solvable es n s.tree
+  spans_solvable =
       record {
         order = backwards s (length s.tree);
-        solving = solving-order (length s.tree) (omega arith);
-        below = vertices-below (length s.tree) (omega arith);
-        off = λ e. (off-not-tree e, off-tree e (length s.tree) (omega arith));
-        once = at-ordered 0 s.tree tree-once;
+        solving = solving_order (length s.tree) (omega arith);
+        below = vertices_below (length s.tree) (omega arith);
+        off = λ e. (off_not_tree e, off_tree e (length s.tree) (omega arith));
+        once = at_ordered 0 s.tree tree_once;
         numbered = at_each 0 s.tree spans.numbered;
       }
 
-  backwards-member : (i k : ℕ) → i < k → Member (get_or s.seen (suc i) 0, get_or s.tree i 0) (backwards s k)
+  backwards_member : (i k : ℕ) → i < k → Member (get_or s.seen (suc i) 0, get_or s.tree i 0) (backwards s k)
   unfolding backwards
-  backwards-member i zero h = absurd (omega arith)
-  backwards-member i (suc k) h = go (ℕ_discrete i k) (λ l. backwards-member i k l)
+  backwards_member i zero h = absurd (omega arith)
+  backwards_member i (suc k) h = go (ℕ_discrete i k) (λ l. backwards_member i k l)
     where
       go : Dec (i ≡ k) → (i < k → Member (get_or s.seen (suc i) 0, get_or s.tree i 0) (backwards s k))
           → Member (get_or s.seen (suc i) 0, get_or s.tree i 0) ((get_or s.seen (suc k) 0, get_or s.tree k 0) ∷ backwards s k)
@@ -112,10 +112,10 @@ module _ (es : List Simplex) (n : ℕ) (s : Search) (spans : SpansReached es n s
       go (no e) ih = behind (ih (omega arith))
 
   -- every vertex that was found, but the root, is solved
-  pub spans-solved : (v : ℕ) → Member v s.seen → v ≢ 0 → Solved v spans-solvable.order
-  unfolding spans-solvable
-  spans-solved v m n = go (member-place 0 m)
+  pub spans_solved : (v : ℕ) → Member v s.seen → v ≢ 0 → Solved v spans_solvable.order
+  unfolding spans_solvable
+  spans_solved v m n = go (member_place 0 m)
     where
       go : (i : ℕ) × (i < length s.seen) × (get_or s.seen i 0 ≡ v) → Solved v (backwards s (length s.tree))
       go (zero, h, e) = absurd (n (sym e ∙ spans.root))
-      go (suc i, h, e) = (get_or s.tree i 0, rw e at (backwards-member i (length s.tree) (omega (arith, spans.sizes))))
+      go (suc i, h, e) = (get_or s.tree i 0, rw e at (backwards_member i (length s.tree) (omega (arith, spans.sizes))))

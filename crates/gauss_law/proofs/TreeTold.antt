@@ -7,32 +7,32 @@ use borrow.Author.Tests.{ltb-false}
 use lib.Dec.{ltb}
 use lib.ListN.{length, take, drop}
 use Rattle.mathematics.specs.Writing.{front}
-use Rattle.mathematics.proofs.Tests.{or-fell}
+use Rattle.mathematics.proofs.Tests.{or_fell}
 use Rattle.complex.specs.declared.SimplicialComplex.{SimplicialComplex}
 use Rattle.complex.specs.declared.search.SpanningTree.{SpanningTree}
-use Rattle.complex.specs.Complex.{complexOf}
+use Rattle.complex.specs.Complex.{complex_of}
 use Rattle.gauss_law.specs.declared.spanning.FreeEdges.{FreeEdges}
-use Rattle.gauss_law.specs.Listing.{tree-edges, free-edges}
+use Rattle.gauss_law.specs.Listing.{tree_edges, free_edges}
 use Rattle.gauss_law.specs.Spanning.{Spanned, FreeOf}
-use Rattle.gauss_law.proofs.Spanned.{spanned-tree, spanned-found}
+use Rattle.gauss_law.proofs.Spanned.{spanned_tree, spanned_found}
 
 -- one of two lists has too few entries
 abbrev pub short : ℕ → ℕ → ℕ → ℕ → Bool
 short tree free found count = ltb tree found || ltb free count
 
-pub long-enough : (tree free found count : ℕ) → short tree free found count ≡ false → (found ≤ tree) × (count ≤ free)
-long-enough tree free found count h =
-    let p = or-fell (ltb tree found) (ltb free count) h in
+pub long_enough : (tree free found count : ℕ) → short tree free found count ≡ false → (found ≤ tree) × (count ≤ free)
+long_enough tree free found count h =
+    let p = or_fell (ltb tree found) (ltb free count) h in
     (ltb-false _ _ p.0, ltb-false _ _ p.1)
 
-module _ (c : SimplicialComplex) (t : SpanningTree) (s : Spanned c t) (f : FreeEdges) (h : FreeOf (complexOf c) f) where
+module _ (c : SimplicialComplex) (t : SpanningTree) (s : Spanned c t) (f : FreeEdges) (h : FreeOf (complex_of c) f) where
   -- the lists are measured by what the search has found
-  pub room-told : (tree free : ℕ) → short tree free (length (tree-edges (complexOf c))) (length (free-edges (complexOf c))) ≡ short tree free t.found f.count
-  room-told tree free = rw (spanned-found c t s, h.count)
+  pub room_told : (tree free : ℕ) → short tree free (length (tree_edges (complex_of c))) (length (free_edges (complex_of c))) ≡ short tree free t.found f.count
+  room_told tree free = rw (spanned_found c t s, h.count)
 
   -- and begin with it
-  pub tree-written : (tree : List ℕ) → take t.found t.tree_edges ++ drop t.found tree ≡ front (tree-edges (complexOf c)) tree
-  tree-written tree = rw (spanned-tree c t s, spanned-found c t s)
+  pub tree_written : (tree : List ℕ) → take t.found t.tree_edges ++ drop t.found tree ≡ front (tree_edges (complex_of c)) tree
+  tree_written tree = rw (spanned_tree c t s, spanned_found c t s)
 
-  pub free-written : (free : List ℕ) → take f.count f.list ++ drop f.count free ≡ front (free-edges (complexOf c)) free
-  free-written free = rw (h.stands, h.count)
+  pub free_written : (free : List ℕ) → take f.count f.list ++ drop f.count free ≡ front (free_edges (complex_of c)) free
+  free_written free = rw (h.stands, h.count)

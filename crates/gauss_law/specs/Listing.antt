@@ -3,15 +3,15 @@ use Rattle.std.specs.Prelude.{ℕ, ◌+◌, ◌*◌, ◌<◌, List, [], ◌++◌
 use Rattle.mathematics.specs.Lists.{listed, position, In, Once}
 use Rattle.mathematics.specs.Counting.{below, keep, counted}
 use Rattle.complex.specs.Complex.{Complex}
-use Rattle.complex.specs.Search.{search}
+use Rattle.complex.specs.Search.{whole_search}
 use Rattle.gauss_law.specs.Gauss.{State, lawful}
 
 -- the tree edges as the search finds them, and all other edges by rising number
-unfoldable pub tree-edges : Complex → List ℕ
-tree-edges c = (search c.edges c.vertices).tree
+unfoldable pub tree_edges : Complex → List ℕ
+tree_edges c = (whole_search c.edges c.vertices).tree
 
-unfoldable pub free-edges : Complex → List ℕ
-free-edges c = keep (λ e. not (listed eqb e (tree-edges c))) (below (length c.edges))
+unfoldable pub free_edges : Complex → List ℕ
+free_edges c = keep (λ e. not (listed eqb e (tree_edges c))) (below (length c.edges))
 
 -- the values -L to L
 unfoldable pub values : ℕ → List ℤ
@@ -24,7 +24,7 @@ placed order xs = map (λ e. get_or xs (position eqb e order) (pos 0)) (below (l
 -- All assignments of -L to L to the edges, counted in base 2L + 1 with the free edges as the more significant digits, the last the most
 -- significant; of these the lawful ones.
 unfoldable pub listing : Complex → (ℕ → ℤ) → ℕ → List (List ℤ)
-listing c q L = keep (lawful c q) (map (placed (tree-edges c ++ free-edges c)) (counted (values L) (length c.edges)))
+listing c q L = keep (lawful c q) (map (placed (tree_edges c ++ free_edges c)) (counted (values L) (length c.edges)))
 
 -- the states, with the charges of the complex
 unfoldable pub states : Complex → ℕ → List (List ℤ)
@@ -35,7 +35,7 @@ abbrev pub limit : ℕ
 limit = 1048576
 
 abbrev pub Free : Complex → ℕ → Type 0
-Free c e = listed eqb e (free-edges c) ≡ true
+Free c e = listed eqb e (free_edges c) ≡ true
 
 -- s comes before t: it has the smaller value on the highest-numbered free edge where they differ
 pub record Before (c : Complex) (s t : List ℤ) : Type 0 where

@@ -12,8 +12,8 @@ unfoldable pub shifted : List ℤ → ℕ → ℤ → List ℤ
 shifted s e delta = set s e (raised s e delta)
 
 -- u, -u and u are added on the edges (a, b), (a, c) and (b, c) of triangle t
-unfoldable pub triangle-move : Complex → ℕ → ℤ → List ℤ → List ℤ
-triangle-move c t u s = shifted (shifted (shifted s (side c t 0) u) (side c t 1) (neg_ℤ u)) (side c t 2) u
+unfoldable pub triangle_move : Complex → ℕ → ℤ → List ℤ → List ℤ
+triangle_move c t u s = shifted (shifted (shifted s (side c t 0) u) (side c t 1) (neg_ℤ u)) (side c t 2) u
 
 -- s' is s with u more on the edge (a, b) of triangle t, u less on (a, c) and u more on (b, c)
 pub record TriangleMoved (c : Complex) (t : ℕ) (u : ℤ) (s s' : List ℤ) : Type 0 where

@@ -1,9 +1,9 @@
 // The spanning tree of a complex, and the edges that it leaves free.
 ghost use Rattle.std.specs.Prelude.{◌≡◌, ◌++◌, ℕ, ◌+◌, ◌<◌, ◌≤◌, get_or, length, take, drop};
-ghost use Rattle.complex.specs.Complex.{complexOf};
+ghost use Rattle.complex.specs.Complex.{complex_of};
 ghost use Rattle.mathematics.specs.Calls.{Answered};
-ghost use Rattle.answers.specs.Answer.{numberAnswer};
-ghost use Rattle.gauss_law.specs.Spanning.{Spanned, Flagged, Unflagged, FreeOf, tree-call};
+ghost use Rattle.answers.specs.Answer.{number_answer};
+ghost use Rattle.gauss_law.specs.Spanning.{Spanned, Flagged, Unflagged, FreeOf, tree_call};
 
 use acceptance::judge;
 use answers::Answer;
@@ -63,7 +63,7 @@ fn unflagged(flags: &[u8; MOST_EDGES], n_edges: usize) -> FreeEdges
 // The free edges of an accepted record, by the tree that its search found.
 pub fn free_edges(c: SimplicialComplex, tree: SpanningTree) -> FreeEdges
     requires { Spanned c tree }
-    ensures { FreeOf (complexOf c) result }
+    ensures { FreeOf (complex_of c) result }
 {
     let flags = tree_flags(&tree.tree_edges, tree.found);
     unflagged(&flags, c.n_edges)
@@ -81,7 +81,7 @@ fn copy_first(from: &[u8; MOST_EDGES], count: usize, to: &mut [u32])
 
 // The tree edges of a record as the search finds them, and its free edges by rising number. The record is judged first.
 pub fn spanning_tree(c: SimplicialComplex, tree: &mut [u32], free: &mut [u32]) -> Answer
-    ensures { Answered (tree-call (complexOf c) tree.old free.old) (numberAnswer result) (tree.new, free.new) }
+    ensures { Answered (tree_call (complex_of c) tree.old free.old) (number_answer result) (tree.new, free.new) }
 {
     let number = judge(c);
     if number != 0 {

@@ -2,12 +2,12 @@
 ghost use Rattle.std.specs.Prelude.{◌≡◌, ℕ, ◌*◌, ◌≤◌, Float, List, length};
 ghost use Rattle.mathematics.specs.Writing.{front};
 ghost use Rattle.mathematics.specs.Calls.{Answered};
-ghost use Rattle.answers.specs.Answer.{numberAnswer};
-ghost use Rattle.complex.specs.Complex.{complexOf};
+ghost use Rattle.answers.specs.Answer.{number_answer};
+ghost use Rattle.complex.specs.Complex.{complex_of};
 ghost use Rattle.matrices.specs.Weights.{weight, Weighed};
 ghost use Rattle.matrices.specs.Matrix.{Matrix, passed};
-ghost use Rattle.hamiltonian.specs.Dense.{u1-entry, u1-dense, u1-dense-call};
-ghost use Rattle.plaquettes.specs.Rows.{SmallRows, electric-term};
+ghost use Rattle.hamiltonian.specs.Dense.{u1_entry, u1_dense, u1_dense_call};
+ghost use Rattle.plaquettes.specs.Rows.{SmallRows, electric_term};
 ghost use Rattle.plaquettes.specs.Targets.{BasisList};
 
 use crate::walk::add_plaquette;
@@ -26,7 +26,7 @@ use triangles::{all_sides, sides_at};
 // A factor times each row's sum of squares is added on the diagonal.
 fn add_electric(list: &[i32], n: usize, m: usize, factor: f64, h: &mut [f64])
     requires { SmallRows list.now n m × (n * n ≤ length h.old) }
-    ensures { (f : ℕ → ℕ → Float) (old : List Float) → Matrix f n old h.old → Matrix (passed f (λ i. i) (electric-term factor m list.now) n) n old h.new }
+    ensures { (f : ℕ → ℕ → Float) (old : List Float) → Matrix f n old h.old → Matrix (passed f (λ i. i) (electric_term factor m list.now) n) n old h.new }
 {
     for i in 0..n {
         add_entry(h, n, i, i, row_energy(list, m, i, factor));
@@ -43,8 +43,8 @@ fn add_magnetic(
     s: Sizes,
     h: &mut [f64],
 )
-    requires { (free : List ℕ) × BasisList (complexOf c) list.now s free × Weighed (length (complexOf c).triangles) given weights.now × (s.states * s.states ≤ length h.old) }
-    ensures { (old : List Float) → Matrix (u1-entry (complexOf c) s.lambda p (weight given weights.now) 0) s.states old h.old → Matrix (u1-entry (complexOf c) s.lambda p (weight given weights.now) c.n_triangles) s.states old h.new }
+    requires { (free : List ℕ) × BasisList (complex_of c) list.now s free × Weighed (length (complex_of c).triangles) given weights.now × (s.states * s.states ≤ length h.old) }
+    ensures { (old : List Float) → Matrix (u1_entry (complex_of c) s.lambda p (weight given weights.now) 0) s.states old h.old → Matrix (u1_entry (complex_of c) s.lambda p (weight given weights.now) c.n_triangles) s.states old h.new }
 {
     let all = all_sides(c);
     for t in 0..c.n_triangles {
@@ -63,8 +63,8 @@ fn write_dense(
     s: Sizes,
     h: &mut [f64],
 )
-    requires { (free : List ℕ) × BasisList (complexOf c) list.now s free × Weighed (length (complexOf c).triangles) given weights.now × (s.states * s.states ≤ length h.old) }
-    ensures { h.new ≡ front (u1-dense (complexOf c) s.lambda p (weight given weights.now)) h.old }
+    requires { (free : List ℕ) × BasisList (complex_of c) list.now s free × Weighed (length (complex_of c).triangles) given weights.now × (s.states * s.states ≤ length h.old) }
+    ensures { h.new ≡ front (u1_dense (complex_of c) s.lambda p (weight given weights.now)) h.old }
 {
     clear_matrix(h, s.states);
     add_electric(list, s.states, s.edges, p.electric, h);
@@ -82,7 +82,7 @@ pub fn build_hamiltonian(
     states: &mut [i32],
     res: &mut [f64],
 ) -> Answer
-    ensures { Answered (u1-dense-call (complexOf c) lambda p given weights.now states.old res.old) (numberAnswer result) (states.new, res.new) }
+    ensures { Answered (u1_dense_call (complex_of c) lambda p given weights.now states.old res.old) (number_answer result) (states.new, res.new) }
 {
     let basis = prepare_basis(c, lambda);
     let number = basis.refusal;

@@ -1,8 +1,8 @@
 // The row lists of a matrix, held as one record that borrows them.
 ghost use Rattle.std.specs.Prelude.{◌≡◌, length};
 ghost use Rattle.mathematics.specs.Calls.{Answered, none_lent};
-ghost use Rattle.matvec.specs.Product.{productAnswer, product-call};
-ghost use Rattle.held_rows.specs.Lists.{row_count, lists-call};
+ghost use Rattle.matvec.specs.Product.{product_answer, product_call};
+ghost use Rattle.held_rows.specs.Lists.{row_count, lists_call};
 
 use matvec::product::{Product, columns_right, matvec, starts_right, values_right};
 
@@ -19,7 +19,7 @@ pub fn count_rows(starts: &[u32]) -> usize
 
 // What can be told of row lists without a vector: the number of rows, or the refusal of every product.
 pub fn judge_lists(starts: &[u32], columns: &[u32], values: &[f64]) -> Product
-    ensures { Answered (lists-call starts.now columns.now values.now) (productAnswer result) none_lent }
+    ensures { Answered (lists_call starts.now columns.now values.now) (product_answer result) none_lent }
 {
     if (starts.len() == 0) | (columns.len() != values.len()) {
         return Product::Refused(12);
@@ -70,14 +70,14 @@ impl<'s, 'c, 'v> RowLists<'s, 'c, 'v> {
 
     // The number of rows, or why a product with any vector is refused.
     pub fn judge(self) -> Product
-        ensures { Answered (lists-call self.entry.starts.now self.entry.columns.now self.entry.values.now) (productAnswer result) none_lent }
+        ensures { Answered (lists_call self.entry.starts.now self.entry.columns.now self.entry.values.now) (product_answer result) none_lent }
     {
         judge_lists(self.starts, self.columns, self.values)
     }
 
     // The product with a vector.
     pub fn matvec<'x, 'y>(self, vector: &'x [f64], res: &'y mut [f64]) -> Product
-        ensures { Answered (product-call self.entry.starts.now self.entry.columns.now self.entry.values.now vector.now res.old) (productAnswer result) res.new }
+        ensures { Answered (product_call self.entry.starts.now self.entry.columns.now self.entry.values.now vector.now res.old) (product_answer result) res.new }
     {
         matvec(self.starts, self.columns, self.values, vector, res)
     }
@@ -91,7 +91,7 @@ pub fn held_matvec(
     vector: &[f64],
     res: &mut [f64],
 ) -> Product
-    ensures { Answered (product-call starts.now columns.now values.now vector.now res.old) (productAnswer result) res.new }
+    ensures { Answered (product_call starts.now columns.now values.now vector.now res.old) (product_answer result) res.new }
 {
     RowLists::new(starts, columns, values).matvec(vector, res)
 }

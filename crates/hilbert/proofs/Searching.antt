@@ -9,44 +9,44 @@ use native.Mathlib.Omega.{arith}
 use lib.IntN.{ℤ, pos}
 use lib.Signed.{lt_z}
 use lib.ListN.{get_or, length, take, drop, length-take, length-drop}
-use Rattle.mathematics.proofs.Integers.{by_parts, not-less-test, test-not-less}
+use Rattle.mathematics.proofs.Integers.{by_parts, not_less_test, test_not_less}
 use Rattle.hilbert.specs.Basis.{decided, smaller}
 use Rattle.hilbert.specs.Search.{row, Rows}
 
 -- ---- one value decides
 module _ (b : Bool) (x y : ℤ) where
-  pub decided-less : lt_z x y ≡ true → decided b x y ≡ true
+  pub decided_less : lt_z x y ≡ true → decided b x y ≡ true
   unfolding decided
-  decided-less h = rw h
+  decided_less h = rw h
 
-  pub decided-equal : x ≡ y → decided b x y ≡ b
+  pub decided_equal : x ≡ y → decided b x y ≡ b
   unfolding decided
-  decided-equal h = rw (h, not-less-test y y (omega arith))
+  decided_equal h = rw (h, not_less_test y y (omega arith))
 
-  decided-apart : x ≢ y → decided b x y ≡ lt_z x y
+  decided_apart : x ≢ y → decided b x y ≡ lt_z x y
   unfolding decided
-  decided-apart d = go (lt_z x y) (lt_z y x) refl refl
+  decided_apart d = go (lt_z x y) (lt_z y x) refl refl
     where
       go : (p q : Bool) → lt_z x y ≡ p → lt_z y x ≡ q → cond p true (cond q false b) ≡ p
       go true q e f = refl
       go false true e f = refl
-      go false false e f = absurd (d (by_parts x y (omega (arith, test-not-less x y e, test-not-less y x f))))
+      go false false e f = absurd (d (by_parts x y (omega (arith, test_not_less x y e, test_not_less y x f))))
 
 -- ---- the last of the first j free edges
 module _ (free : List ℕ) (s t : List ℤ) (j : ℕ) (some : 0 < j) (e : ℕ) (is : e ≡ get_or free (j - 1) 0) where
-  last-decides : smaller free s t j ≡ decided (smaller free s t (j - 1)) (get_or s e (pos 0)) (get_or t e (pos 0))
+  last_decides : smaller free s t j ≡ decided (smaller free s t (j - 1)) (get_or s e (pos 0)) (get_or t e (pos 0))
   unfolding smaller
-  last-decides = let one_less : j ≡ suc (j - 1) = omega arith in ap (smaller free s t) one_less ∙ rw (is)
+  last_decides = let one_less : j ≡ suc (j - 1) = omega arith in ap (smaller free s t) one_less ∙ rw (is)
 
   -- where the values differ, the smaller decides; where they are equal, it is decided below
-  pub smaller-differs : get_or s e (pos 0) ≢ get_or t e (pos 0) → lt_z (get_or s e (pos 0)) (get_or t e (pos 0)) ≡ smaller free s t j
-  smaller-differs d = sym (last-decides ∙ decided-apart (smaller free s t (j - 1)) (get_or s e (pos 0)) (get_or t e (pos 0)) d)
+  pub smaller_differs : get_or s e (pos 0) ≢ get_or t e (pos 0) → lt_z (get_or s e (pos 0)) (get_or t e (pos 0)) ≡ smaller free s t j
+  smaller_differs d = sym (last_decides ∙ decided_apart (smaller free s t (j - 1)) (get_or s e (pos 0)) (get_or t e (pos 0)) d)
 
-  pub smaller-equals : get_or s e (pos 0) ≡ get_or t e (pos 0) → smaller free s t j ≡ smaller free s t (j - 1)
-  smaller-equals same = last-decides ∙ decided-equal (smaller free s t (j - 1)) (get_or s e (pos 0)) (get_or t e (pos 0)) same
+  pub smaller_equals : get_or s e (pos 0) ≡ get_or t e (pos 0) → smaller free s t j ≡ smaller free s t (j - 1)
+  smaller_equals same = last_decides ∙ decided_equal (smaller free s t (j - 1)) (get_or s e (pos 0)) (get_or t e (pos 0)) same
 
 -- ---- a row of the list
-module _ (list : List ℤ) (n : ℕ) (config : List ℤ) (free : List ℕ) (n-free : ℕ) (rows : Rows list n config free n-free) (i : ℕ) (inside : i < n) where
+module _ (list : List ℤ) (n : ℕ) (config : List ℤ) (free : List ℕ) (n_free : ℕ) (rows : Rows list n config free n_free) (i : ℕ) (inside : i < n) where
   pub row_inside : i * length config + length config ≤ length list
   row_inside = omega (arith, rows.long, mul-le-mul_right (length config) inside)
 
@@ -54,9 +54,9 @@ module _ (list : List ℤ) (n : ℕ) (config : List ℤ) (free : List ℕ) (n-fr
   pub row_small : i * length config ≤ 2 ^ 20 * 63
   row_small = let few : i ≤ 2 ^ 20 = omega (arith, rows.few) in mul-le-mul few rows.edges_few
 
-  pub row-long : length (row (length config) list i) ≡ length config
-  row-long = rw (length-take, length-drop) (omega (arith, row_inside))
+  pub row_long : length (row (length config) list i) ≡ length config
+  row_long = rw (length-take, length-drop) (omega (arith, row_inside))
 
 -- the entries from a row's start to its end
-pub row-part : (list : List ℤ) (m i : ℕ) → take (i * m + m - i * m) (drop (i * m) list) ≡ row m list i
-row-part list m i = let e : i * m + m - i * m ≡ m = omega arith in rw e
+pub row_part : (list : List ℤ) (m i : ℕ) → take (i * m + m - i * m) (drop (i * m) list) ≡ row m list i
+row_part list m i = let e : i * m + m - i * m ≡ m = omega arith in rw e

@@ -1,15 +1,15 @@
 -- Which configurations are in the basis, and at which place.
 use Rattle.std.specs.Prelude.{ℕ, zero, suc, ◌<◌, ◌≤◌, List, [], Bool, true, false, ◌&&◌, cond, ◌≡◌, ℤ, pos, get_or, length}
 use Rattle.std.specs.Int.Signed.{lt_z}
-use Rattle.mathematics.specs.Tests.{every-entry}
+use Rattle.mathematics.specs.Tests.{every_entry}
 use Rattle.mathematics.specs.Counting.{keep}
 use Rattle.complex.specs.Complex.{Complex}
 use Rattle.gauss_law.specs.Gauss.{lawful, within}
-use Rattle.gauss_law.specs.Listing.{free-edges, states, limit}
+use Rattle.gauss_law.specs.Listing.{free_edges, states, limit}
 
 -- a configuration with one value for each edge is in the basis: every value within -L to L, and every Gauss sum zero
-unfoldable pub in-basis : Complex → ℕ → List ℤ → Bool
-in-basis c L s = every-entry (within L) s && lawful c c.charges s
+unfoldable pub in_basis : Complex → ℕ → List ℤ → Bool
+in_basis c L s = every_entry (within L) s && lawful c c.charges s
 
 -- true where x is the smaller, false where y is, and b where they are equal
 unfoldable pub decided : Bool → ℤ → ℤ → Bool
@@ -21,12 +21,12 @@ smaller free s t zero = false
 smaller free s t (suc n) = decided (smaller free s t n) (get_or s (get_or free n 0) (pos 0)) (get_or t (get_or free n 0) (pos 0))
 
 -- s comes before t in the order of the basis
-unfoldable pub comes-before : Complex → List ℤ → List ℤ → Bool
-comes-before c s t = smaller (free-edges c) s t (length (free-edges c))
+unfoldable pub comes_before : Complex → List ℤ → List ℤ → Bool
+comes_before c s t = smaller (free_edges c) s t (length (free_edges c))
 
 -- the place of a configuration: the number of listed states before it
 unfoldable pub place : Complex → ℕ → List ℤ → ℕ
-place c L s = length (keep (λ t. comes-before c t s) (states c L))
+place c L s = length (keep (λ t. comes_before c t s) (states c L))
 
 -- the state at place p is s
 pub record At (c : Complex) (L : ℕ) (s : List ℤ) (p : ℕ) : Type 0 where

@@ -1,13 +1,13 @@
 // The place of a configuration in the basis.
 ghost use Rattle.std.specs.Prelude.{◌≡◌, ◌≤◌, length};
-ghost use Rattle.mathematics.specs.Tests.{every-entry};
-ghost use Rattle.complex.specs.Complex.{Complex, complexOf};
+ghost use Rattle.mathematics.specs.Tests.{every_entry};
+ghost use Rattle.complex.specs.Complex.{Complex, complex_of};
 ghost use Rattle.complex.specs.Judge.{refusal};
 ghost use Rattle.enumeration.specs.Enumeration.{BasisWalks};
-ghost use Rattle.hilbert.specs.Basis.{in-basis};
+ghost use Rattle.hilbert.specs.Basis.{in_basis};
 ghost use Rattle.gauss_law.specs.Gauss.{within};
 ghost use Rattle.hilbert.specs.Search.{Sought, FoundIn};
-ghost use Rattle.hilbert.specs.Index.{index-call, Indexed};
+ghost use Rattle.hilbert.specs.Index.{index_call, Indexed};
 
 use crate::search::find_place;
 use complex::SimplicialComplex;
@@ -20,7 +20,7 @@ use walker::tables::Walker;
 // Whether every value is within -lambda to lambda.
 fn in_band(configuration: &[i32], lambda: usize) -> bool
     requires { lambda ≤ 1000 }
-    ensures { result ≡ every-entry (within lambda) configuration.now }
+    ensures { result ≡ every_entry (within lambda) configuration.now }
 {
     let mut so_far = true;
     for e in 0..configuration.len() {
@@ -31,8 +31,8 @@ fn in_band(configuration: &[i32], lambda: usize) -> bool
 
 // Whether a configuration of an accepted record is in its basis: by the lowest unlawful vertex, and by the band.
 pub fn in_basis(c: SimplicialComplex, lambda: usize, configuration: &[i32]) -> bool
-    requires { (refusal (complexOf c) ≡ 0) × (lambda ≤ 1000) × (length configuration.now ≡ c.n_edges) }
-    ensures { result ≡ in-basis (complexOf c) lambda configuration.now }
+    requires { (refusal (complex_of c) ≡ 0) × (lambda ≤ 1000) × (length configuration.now ≡ c.n_edges) }
+    ensures { result ≡ in_basis (complex_of c) lambda configuration.now }
 {
     let finding = find_unlawful(c, configuration);
     in_band(configuration, lambda) & !finding.found
@@ -70,7 +70,7 @@ pub fn config_to_index(
     configuration: &[i32],
     states: &mut [i32],
 ) -> Index
-    ensures { Indexed (index-call (complexOf c) lambda configuration.now states.old) result states.new }
+    ensures { Indexed (index_call (complex_of c) lambda configuration.now states.old) result states.new }
 {
     let basis = prepare_basis(c, lambda);
     let number = basis.refusal;

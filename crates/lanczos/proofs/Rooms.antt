@@ -14,7 +14,7 @@ use lib.ListN.{get_or, length, set, length-set}
 use lib.Seq.{get_or-set_same, get_or-set_other}
 use mir.Val.{bool_byte}
 use Rattle.mathematics.specs.Integers.{equal}
-use Rattle.mathematics.proofs.Integers.{positive, negative, parts, parts-size, one-part, the, ◌⊞◌, ◌⊟◌, ⊖◌, times-one, times-minus-one, equal-true}
+use Rattle.mathematics.proofs.Integers.{positive, negative, parts, parts_size, one_part, the, ◌⊞◌, ◌⊟◌, ⊖◌, times_one, times_minus_one, equal_true}
 use Rattle.mathematics.proofs.Tests.{and_parts}
 use Rattle.gauss_law.specs.Gauss.{within}
 use Rattle.hilbert.specs.Search.{row}
@@ -29,35 +29,35 @@ below_top L (pos n) h = lt-ltb n (L + 1) (omega arith)
 below_top L (negsuc n) h = refl
 
 module _ (L : ℕ) (x : ℤ) (small : nat_abs x ≤ L) where
-  room-some : (s : ℤ) → nat_abs s ≤ 1 → 1 ≤ nat_abs (pos (L + 1) -ℤ x *ℤ s)
+  room_some : (s : ℤ) → nat_abs s ≤ 1 → 1 ≤ nat_abs (pos (L + 1) -ℤ x *ℤ s)
   unfolding positive negative
-  room-some (pos zero) h = rw (*ℤ-zero x) (omega (arith, parts-size (pos (L + 1) -ℤ pos 0), one-part (pos (L + 1) -ℤ pos 0), parts (the (pos (L + 1)) ⊟ the (pos 0))))
-  room-some (pos (suc zero)) h = rw (times-one x) (omega (arith, parts-size x, one-part x, parts-size (pos (L + 1) -ℤ x), one-part (pos (L + 1) -ℤ x), parts (the (pos (L + 1)) ⊟ the x)))
-  room-some (pos (suc (suc n))) h = absurd (omega arith)
-  room-some (negsuc zero) h = rw (times-minus-one x) (omega (arith, parts-size x, one-part x, parts-size (pos (L + 1) -ℤ neg_ℤ x), one-part (pos (L + 1) -ℤ neg_ℤ x), parts (the (pos (L + 1)) ⊟ (⊖ the x))))
-  room-some (negsuc (suc n)) h = absurd (omega arith)
+  room_some (pos zero) h = rw (*ℤ-zero x) (omega (arith, parts_size (pos (L + 1) -ℤ pos 0), one_part (pos (L + 1) -ℤ pos 0), parts (the (pos (L + 1)) ⊟ the (pos 0))))
+  room_some (pos (suc zero)) h = rw (times_one x) (omega (arith, parts_size x, one_part x, parts_size (pos (L + 1) -ℤ x), one_part (pos (L + 1) -ℤ x), parts (the (pos (L + 1)) ⊟ the x)))
+  room_some (pos (suc (suc n))) h = absurd (omega arith)
+  room_some (negsuc zero) h = rw (times_minus_one x) (omega (arith, parts_size x, one_part x, parts_size (pos (L + 1) -ℤ neg_ℤ x), one_part (pos (L + 1) -ℤ neg_ℤ x), parts (the (pos (L + 1)) ⊟ (⊖ the x))))
+  room_some (negsuc (suc n)) h = absurd (omega arith)
 
-  room-inside : (s : ℤ) → nat_abs s ≤ 1 → (d : ℕ) → d < nat_abs (pos (L + 1) -ℤ x *ℤ s) → nat_abs (x +ℤ pos d *ℤ s) ≤ L
+  room_inside : (s : ℤ) → nat_abs s ≤ 1 → (d : ℕ) → d < nat_abs (pos (L + 1) -ℤ x *ℤ s) → nat_abs (x +ℤ pos d *ℤ s) ≤ L
   unfolding positive negative
-  room-inside (pos zero) h d l = rw (*ℤ-zero (pos d), +ℤ_idr x) small
-  room-inside (pos (suc zero)) h d l =
-      let k = rw (times-one x) at l in
-      rw (times-one (pos d))
-      (omega (arith, k, parts-size x, one-part x, parts-size (pos (L + 1) -ℤ x), one-part (pos (L + 1) -ℤ x), parts (the (pos (L + 1)) ⊟ the x), parts-size (x +ℤ pos d), one-part (x +ℤ pos d), parts (the x ⊞ the (pos d))))
-  room-inside (pos (suc (suc n))) h d l = absurd (omega arith)
-  room-inside (negsuc zero) h d l =
-      let k = rw (times-minus-one x) at l in
-      rw (times-minus-one (pos d))
-      (omega (arith, k, parts-size x, one-part x, parts-size (pos (L + 1) -ℤ neg_ℤ x), one-part (pos (L + 1) -ℤ neg_ℤ x), parts (the (pos (L + 1)) ⊟ (⊖ the x)), parts-size (x -ℤ pos d), one-part (x -ℤ pos d), parts (the x ⊟ the (pos d))))
-  room-inside (negsuc (suc n)) h d l = absurd (omega arith)
+  room_inside (pos zero) h d l = rw (*ℤ-zero (pos d), +ℤ_idr x) small
+  room_inside (pos (suc zero)) h d l =
+      let k = rw (times_one x) at l in
+      rw (times_one (pos d))
+      (omega (arith, k, parts_size x, one_part x, parts_size (pos (L + 1) -ℤ x), one_part (pos (L + 1) -ℤ x), parts (the (pos (L + 1)) ⊟ the x), parts_size (x +ℤ pos d), one_part (x +ℤ pos d), parts (the x ⊞ the (pos d))))
+  room_inside (pos (suc (suc n))) h d l = absurd (omega arith)
+  room_inside (negsuc zero) h d l =
+      let k = rw (times_minus_one x) at l in
+      rw (times_minus_one (pos d))
+      (omega (arith, k, parts_size x, one_part x, parts_size (pos (L + 1) -ℤ neg_ℤ x), one_part (pos (L + 1) -ℤ neg_ℤ x), parts (the (pos (L + 1)) ⊟ (⊖ the x)), parts_size (x -ℤ pos d), one_part (x -ℤ pos d), parts (the x ⊟ the (pos d))))
+  room_inside (negsuc (suc n)) h d l = absurd (omega arith)
 
-  pub room-is : (s : ℤ) → nat_abs s ≤ 1 → (most r : ℕ) → 1 ≤ most → r ≡ min most (nat_abs (pos (L + 1) -ℤ x *ℤ s)) → Room L x s most r
-  room-is s h most r positive e = record { some = omega (arith, e, room-some s h); limited = omega (arith, e); inside = λ d l. room-inside s h d (omega (arith, e)) }
+  pub room_is : (s : ℤ) → nat_abs s ≤ 1 → (most r : ℕ) → 1 ≤ most → r ≡ min most (nat_abs (pos (L + 1) -ℤ x *ℤ s)) → Room L x s most r
+  room_is s h most r positive e = record { some = omega (arith, e, room_some s h); limited = omega (arith, e); inside = λ d l. room_inside s h d (omega (arith, e)) }
 
 -- nothing is added
-pub room-still : (L : ℕ) (x s : ℤ) → nat_abs x ≤ L → equal s (pos 0) ≡ true → (most : ℕ) → 1 ≤ most → Room L x s most most
-room-still L x s small zero-there most h =
-    record { some = h; limited = omega arith; inside = λ d l. rw (equal-true s (pos 0) zero-there, *ℤ-zero (pos d), +ℤ_idr x) small }
+pub room_still : (L : ℕ) (x s : ℤ) → nat_abs x ≤ L → equal s (pos 0) ≡ true → (most : ℕ) → 1 ≤ most → Room L x s most most
+room_still L x s small zero-there most h =
+    record { some = h; limited = omega arith; inside = λ d l. rw (equal_true s (pos 0) zero-there, *ℤ-zero (pos d), +ℤ_idr x) small }
 
 -- ---- the edges of a cycle, one after the other
 module _ (L : ℕ) (row z : List ℤ) (edges : List ℕ) (most : ℕ) where
@@ -83,11 +83,11 @@ pub record Covering (edges : List ℕ) (count : ℕ) (z : List ℤ) (n : ℕ) : 
   pub below : (q : ℕ) → q < count → get_or edges q 0 < n
   pub all : (e : ℕ) → e < n → get_or z e (pos 0) ≢ pos 0 → (q : ℕ) × (q < count) × (get_or edges q 0 ≡ e)
 
-pub covering-none : (edges : List ℕ) (z : List ℤ) → length edges ≡ 63 → Covering edges 0 z 0
-covering-none edges z h = record { long = h; few = omega arith; below = λ q l. absurd (omega arith); all = λ e l. absurd (omega arith) }
+pub covering_none : (edges : List ℕ) (z : List ℤ) → length edges ≡ 63 → Covering edges 0 z 0
+covering_none edges z h = record { long = h; few = omega arith; below = λ q l. absurd (omega arith); all = λ e l. absurd (omega arith) }
 
-pub covering-all : (edges : List ℕ) (count : ℕ) (z : List ℤ) (n : ℕ) → n ≡ length z → Covering edges count z n → Covers edges count z
-covering-all edges count z n e h = record { long = h.long; few = rw (← e) h.few; below = λ q l. rw (← e) (h.below q l); all = λ f l. h.all f (rw e l) }
+pub covering_all : (edges : List ℕ) (count : ℕ) (z : List ℤ) (n : ℕ) → n ≡ length z → Covering edges count z n → Covers edges count z
+covering_all edges count z n e h = record { long = h.long; few = rw (← e) h.few; below = λ q l. rw (← e) (h.below q l); all = λ f l. h.all f (rw e l) }
 
 module _ (edges : List ℕ) (count : ℕ) (z : List ℤ) (n : ℕ) (h : Covering edges count z n) (room : n < 63) where
   abbrev more : List ℕ
@@ -100,8 +100,8 @@ module _ (edges : List ℕ) (count : ℕ) (z : List ℤ) (n : ℕ) (h : Covering
   new = get_or-set_same edges count n 0 (omega (arith, h.long, h.few))
 
   -- an edge of the cycle is kept, another is written over next
-  pub covering-more : (b : Bool) → equal (get_or z n (pos 0)) (pos 0) ≡ b → Covering more (count + bool_byte (not b)) z (n + 1)
-  covering-more true zero-there =
+  pub covering_more : (b : Bool) → equal (get_or z n (pos 0)) (pos 0) ≡ b → Covering more (count + bool_byte (not b)) z (n + 1)
+  covering_more true zero-there =
       record {
         long = length-set edges count n ∙ h.long;
         few = omega (arith, h.few);
@@ -110,9 +110,9 @@ module _ (edges : List ℕ) (count : ℕ) (z : List ℤ) (n : ℕ) (h : Covering
       }
     where
       go : (e : ℕ) → e < n + 1 → get_or z e (pos 0) ≢ pos 0 → Dec (e ≡ n) → (q : ℕ) × (q < count + 0) × (get_or more q 0 ≡ e)
-      go e l apart (yes is) = absurd (apart (ap (λ k. get_or z k (pos 0)) is ∙ equal-true _ _ zero-there))
+      go e l apart (yes is) = absurd (apart (ap (λ k. get_or z k (pos 0)) is ∙ equal_true _ _ zero-there))
       go e l apart (no is) = let w = h.all e (omega arith) apart in (w.0, omega (arith, w.1), kept w.0 w.1 ∙ w.2)
-  covering-more false there =
+  covering_more false there =
       record {
         long = length-set edges count n ∙ h.long;
         few = omega (arith, h.few);
@@ -130,16 +130,16 @@ module _ (edges : List ℕ) (count : ℕ) (z : List ℤ) (n : ℕ) (h : Covering
 
 -- ---- a row and its moves
 -- a test of three values that holds
-pub three-kept : (L : ℕ) (r : List ℤ) (edges : List ℕ) (u : ℤ) → stays L r edges u ≡ true
+pub three_kept : (L : ℕ) (r : List ℤ) (edges : List ℕ) (u : ℤ) → stays L r edges u ≡ true
     → (nat_abs (get_or r (get_or edges 0 0) (pos 0) +ℤ u) ≤ L) × (nat_abs (get_or r (get_or edges 1 0) (pos 0) +ℤ neg_ℤ u) ≤ L) × (nat_abs (get_or r (get_or edges 2 0) (pos 0) +ℤ u) ≤ L)
 unfolding stays within
-three-kept L r edges u h =
+three_kept L r edges u h =
     let one = and_parts _ _ h in
     let two = and_parts _ _ one.1 in
     (leb-true _ _ one.0, leb-true _ _ two.0, leb-true _ _ two.1)
 
-pub run-banded : (list : List ℤ) (s : Sizes) (sides : Sides) (edges : List ℕ) (count : ℕ) (z : List ℤ) → RunRows list s sides edges count z → (k : ℕ) → k < s.states → Banded s.lambda (row s.edges list k) z
-run-banded list s sides edges count z rows k h =
+pub run_banded : (list : List ℤ) (s : Sizes) (sides : Sides) (edges : List ℕ) (count : ℕ) (z : List ℤ) → RunRows list s sides edges count z → (k : ℕ) → k < s.states → Banded s.lambda (row s.edges list k) z
+run_banded list s sides edges count z rows k h =
     let sized = row_sized list s.states s.edges rows.movable.rows k h in
     record {
       truncation = rows.movable.truncation;
@@ -150,5 +150,5 @@ run-banded list s sides edges count z rows k h =
     }
 
 -- one of two rows is missing
-pub one-missing : (n a b : ℕ) → (leb n a || leb n b) ≡ true → a < n → n ≤ b
-one-missing n a b h l = leb-true n b (rw (lt-leb n a l) at h)
+pub one_missing : (n a b : ℕ) → (leb n a || leb n b) ≡ true → a < n → n ≤ b
+one_missing n a b h l = leb-true n b (rw (lt-leb n a l) at h)

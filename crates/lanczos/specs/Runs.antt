@@ -1,7 +1,7 @@
 -- Runs of states, as the code keeps them.
 use Rattle.std.specs.Prelude.{ℕ, ◌-◌, ◌<◌, ◌≤◌, List, ◌≡◌, ◌≢◌, ℤ, pos, negsuc, nat_abs, ◌+ℤ◌, ◌*ℤ◌, neg_ℤ, get_or, length}
 use Rattle.complex.specs.Complex.{Complex}
-use Rattle.gauss_law.specs.Listing.{free-edges}
+use Rattle.gauss_law.specs.Listing.{free_edges}
 use Rattle.cycles.specs.Cycles.{Cycle}
 use Rattle.hilbert.specs.Search.{row}
 use Rattle.triangles.specs.declared.Sides.{Sides}
@@ -63,8 +63,8 @@ pub record RunGoes (list : List ℤ) (s : Sizes) (sides : Sides) (edges : List �
   pub back : NextStaying list s sides (negsuc 0) j r.to
   pub below : r.to < s.states
   pub some : 1 ≤ r.length
-  pub forth-run : RunLength list s sides edges count z (pos 1) r.from r.length
-  pub back-run : RunLength list s sides edges count z (negsuc 0) r.to r.length
+  pub forth_run : RunLength list s sides edges count z (pos 1) r.from r.length
+  pub back_run : RunLength list s sides edges count z (negsuc 0) r.to r.length
 
 -- no run is left: one of the two rows is missing
 pub record RunOver (list : List ℤ) (s : Sizes) (sides : Sides) (i j : ℕ) (r : Run) : Type 0 where
@@ -85,4 +85,4 @@ pub record RunFound (list : List ℤ) (s : Sizes) (sides : Sides) (edges : List 
 pub record FirstCycle (c : Complex) (z : List ℤ) : Type 0 where
   pub sized : length z ≡ length c.edges
   pub signs : (e : ℕ) → nat_abs (get_or z e (pos 0)) ≤ 1
-  pub is : 0 < length (free-edges c) → Cycle c (get_or (free-edges c) 0 0) z
+  pub is : 0 < length (free_edges c) → Cycle c (get_or (free_edges c) 0 0) z

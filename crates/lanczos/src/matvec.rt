@@ -2,13 +2,13 @@
 ghost use Rattle.std.specs.Prelude.{◌≡◌, List, ℕ, ◌≤◌, length};
 ghost use Rattle.mathematics.specs.Writing.{front};
 ghost use Rattle.mathematics.specs.Calls.{Answered};
-ghost use Rattle.answers.specs.Answer.{numberAnswer};
-ghost use Rattle.complex.specs.Complex.{complexOf};
+ghost use Rattle.answers.specs.Answer.{number_answer};
+ghost use Rattle.complex.specs.Complex.{complex_of};
 ghost use Rattle.matrices.specs.Weights.{weight, Weighed};
 ghost use Rattle.plaquettes.specs.Rows.{SmallRows};
 ghost use Rattle.plaquettes.specs.Targets.{BasisList};
-ghost use Rattle.lanczos.specs.Matvec.{triangles-added, u1-product, u1-product-call};
-ghost use Rattle.lanczos.specs.Walk.{electric-parts};
+ghost use Rattle.lanczos.specs.Matvec.{triangles_added, u1_product, u1_product_call};
+ghost use Rattle.lanczos.specs.Walk.{electric_parts};
 ghost use Rattle.lanczos.specs.Runs.{FirstCycle};
 
 use crate::state_runs::cycle_edges;
@@ -27,7 +27,7 @@ use triangles::{all_sides, sides_at};
 // The electric part goes to the beginning of the result.
 fn write_electric(list: &[i32], n: usize, m: usize, factor: f64, vector: &[f64], res: &mut [f64])
     requires { SmallRows list.now n m × (n ≤ length vector.now) × (n ≤ length res.old) }
-    ensures { res.new ≡ front (electric-parts factor m list.now vector.now n) res.old }
+    ensures { res.new ≡ front (electric_parts factor m list.now vector.now n) res.old }
 {
     for i in 0..n {
         let x = vector[i];
@@ -47,8 +47,8 @@ fn add_magnetic(
     cycle: &[i8],
     res: &mut [f64],
 )
-    requires { (free : List ℕ) × BasisList (complexOf c) list.now s free × Weighed (length (complexOf c).triangles) given weights.now × (s.states ≤ length vector.now) × (s.states ≤ length res.old) × FirstCycle (complexOf c) cycle.now }
-    ensures { res.new ≡ triangles-added (complexOf c) s.lambda p (weight given weights.now) vector.now c.n_triangles res.old }
+    requires { (free : List ℕ) × BasisList (complex_of c) list.now s free × Weighed (length (complex_of c).triangles) given weights.now × (s.states ≤ length vector.now) × (s.states ≤ length res.old) × FirstCycle (complex_of c) cycle.now }
+    ensures { res.new ≡ triangles_added (complex_of c) s.lambda p (weight given weights.now) vector.now c.n_triangles res.old }
 {
     let all = all_sides(c);
     let found = cycle_edges(cycle);
@@ -73,8 +73,8 @@ fn write_product(
     cycle: &[i8],
     res: &mut [f64],
 )
-    requires { (free : List ℕ) × BasisList (complexOf c) list.now s free × Weighed (length (complexOf c).triangles) given weights.now × (s.states ≤ length vector.now) × (s.states ≤ length res.old) × FirstCycle (complexOf c) cycle.now }
-    ensures { res.new ≡ front (u1-product (complexOf c) s.lambda p (weight given weights.now) vector.now) res.old }
+    requires { (free : List ℕ) × BasisList (complex_of c) list.now s free × Weighed (length (complex_of c).triangles) given weights.now × (s.states ≤ length vector.now) × (s.states ≤ length res.old) × FirstCycle (complex_of c) cycle.now }
+    ensures { res.new ≡ front (u1_product (complex_of c) s.lambda p (weight given weights.now) vector.now) res.old }
 {
     write_electric(list, s.states, s.edges, p.electric, vector, res);
     add_magnetic(c, p, given, weights, vector, list, s, cycle, res);
@@ -92,7 +92,7 @@ pub fn hamiltonian_matvec(
     states: &mut [i32],
     res: &mut [f64],
 ) -> Answer
-    ensures { Answered (u1-product-call (complexOf c) lambda p given weights.now vector.now states.old res.old) (numberAnswer result) (states.new, res.new) }
+    ensures { Answered (u1_product_call (complex_of c) lambda p given weights.now vector.now states.old res.old) (number_answer result) (states.new, res.new) }
 {
     let basis = prepare_basis(c, lambda);
     let number = basis.refusal;

@@ -1,8 +1,8 @@
 // The plaquettes of a triangle in a product: one walk over the runs of states finds all hits.
 ghost use Rattle.std.specs.Prelude.{◌≡◌, List, ℕ, ◌+◌, ◌≤◌, length};
 ghost use Rattle.complex.specs.Complex.{Complex};
-ghost use Rattle.lanczos.specs.Matvec.{states-added};
-ghost use Rattle.lanczos.specs.Walk.{run-added};
+ghost use Rattle.lanczos.specs.Matvec.{states_added};
+ghost use Rattle.lanczos.specs.Walk.{run_added};
 ghost use Rattle.lanczos.specs.Runs.{RunRows, FirstCycle};
 ghost use Rattle.plaquettes.specs.Targets.{BasisList};
 ghost use Rattle.triangles.specs.Indices.{SidesOf};
@@ -15,7 +15,7 @@ use triangles::Sides;
 // x times the amplitude of each of two states is added at the other, for the states of a run and their targets, one after the other.
 fn add_run(res: &mut [f64], vector: &[f64], i: usize, j: usize, count: usize, x: f64)
     requires { (i + count ≤ length res.old) × (i + count ≤ length vector.now) × (j + count ≤ length res.old) × (j + count ≤ length vector.now) × (i + count ≤ 1048576) × (j + count ≤ 1048576) }
-    ensures { res.new ≡ run-added x vector.now i j count res.old }
+    ensures { res.new ≡ run_added x vector.now i j count res.old }
 {
     for k in 0..count {
         let a = i + k;
@@ -38,7 +38,7 @@ pub fn add_plaquette(
     res: &mut [f64],
 )
     requires { RunRows list.now s sides edges.now count cycle.now × (s.states ≤ length vector.now) × (s.states ≤ length res.old) }
-    ensures { (c : Complex) (t : ℕ) (free : List ℕ) → BasisList c list.now s free → SidesOf c t sides → FirstCycle c cycle.now → res.new ≡ states-added c s.lambda t x vector.now s.states res.old }
+    ensures { (c : Complex) (t : ℕ) (free : List ℕ) → BasisList c list.now s free → SidesOf c t sides → FirstCycle c cycle.now → res.new ≡ states_added c s.lambda t x vector.now s.states res.old }
 {
     let n = s.states;
     let mut i = 0;

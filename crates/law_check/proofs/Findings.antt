@@ -9,16 +9,16 @@ use lib.IntN.{ℤ}
 use Rattle.mathematics.specs.Integers.{equal}
 use Rattle.mathematics.specs.Tests.{every}
 use Rattle.mathematics.specs.Counting.{below, keep}
-use Rattle.mathematics.proofs.Tests.{or-false}
-use Rattle.mathematics.proofs.Counting.{every-at}
+use Rattle.mathematics.proofs.Tests.{or_false}
+use Rattle.mathematics.proofs.Counting.{every_at}
 use Rattle.mathematics.specs.Entries.{Each, none, also}
-use Rattle.mathematics.proofs.Ordered.{each_to, keep-each}
-use Rattle.mathematics.proofs.Below.{below_each, keep-next, keep-skip, keep-agree}
-use Rattle.mathematics.proofs.Integers.{equal-true, equal-self}
+use Rattle.mathematics.proofs.Ordered.{each_to, keep_each}
+use Rattle.mathematics.proofs.Below.{below_each, keep_next, keep_skip, keep_agree}
+use Rattle.mathematics.proofs.Integers.{equal_true, equal_self}
 use Rattle.complex.specs.Complex.{Complex}
 use Rattle.law_check.specs.declared.Finding.{Finding}
 use Rattle.gauss_law.specs.Gauss.{gauss, lawful}
-use Rattle.law_check.specs.Law.{first_of, lowest-broken, finding, Found, noticed}
+use Rattle.law_check.specs.Law.{first_of, lowest_broken, finding, Found, noticed}
 
 -- ---- one vertex more
 module _ (sum q : ℕ → ℤ) where
@@ -27,9 +27,9 @@ module _ (sum q : ℕ → ℤ) where
   one_more [] n = refl
   one_more (v ∷ l) n = refl
 
-  pub lowest-next : (n : ℕ) → lowest-broken sum q (n + 1) ≡ noticed (lowest-broken sum q n) n (sum n) (q n)
-  unfolding lowest-broken noticed
-  lowest-next n = go (equal (sum n) (q n)) refl
+  pub lowest_next : (n : ℕ) → lowest_broken sum q (n + 1) ≡ noticed (lowest_broken sum q n) n (sum n) (q n)
+  unfolding lowest_broken noticed
+  lowest_next n = go (equal (sum n) (q n)) refl
     where
       wrong : ℕ → Bool
       wrong v = not (equal (sum v) (q v))
@@ -45,17 +45,17 @@ module _ (sum q : ℕ → ℤ) where
       always false = refl
 
       go : (b : Bool) → equal (sum n) (q n) ≡ b → first_of sum (keep wrong (below (n + 1))) ≡ cond (f.found || b) f here
-      go true e = ap (first_of sum) (keep-skip wrong n (rw e)) ∙ always f.found
-      go false e = ap (first_of sum) (keep-next wrong n (rw e)) ∙ one_more (keep wrong (below n)) n ∙ rw (or-false f.found)
+      go true e = ap (first_of sum) (keep_skip wrong n (rw e)) ∙ always f.found
+      go false e = ap (first_of sum) (keep_next wrong n (rw e)) ∙ one_more (keep wrong (below n)) n ∙ rw (or_false f.found)
 
-  lowest-suc : (n : ℕ) → lowest-broken sum q (suc n) ≡ noticed (lowest-broken sum q n) n (sum n) (q n)
-  lowest-suc n = rw (← add-one n) (lowest-next n)
+  lowest_suc : (n : ℕ) → lowest_broken sum q (suc n) ≡ noticed (lowest_broken sum q n) n (sum n) (q n)
+  lowest_suc n = rw (← add-one n) (lowest_next n)
 
   -- nothing is found exactly when every sum is the charge
-  pub found-wrong : (n : ℕ) → (lowest-broken sum q n).found ≡ not (every (λ v. equal (sum v) (q v)) n)
-  unfolding every lowest-broken first_of keep below noticed
-  found-wrong zero = refl
-  found-wrong (suc n) = ap (λ f. f.found) (lowest-suc n) ∙ go (lowest-broken sum q n) (every (λ v. equal (sum v) (q v)) n) (equal (sum n) (q n)) (found-wrong n)
+  pub found_wrong : (n : ℕ) → (lowest_broken sum q n).found ≡ not (every (λ v. equal (sum v) (q v)) n)
+  unfolding every lowest_broken first_of keep below noticed
+  found_wrong zero = refl
+  found_wrong (suc n) = ap (λ f. f.found) (lowest_suc n) ∙ go (lowest_broken sum q n) (every (λ v. equal (sum v) (q v)) n) (equal (sum n) (q n)) (found_wrong n)
     where
       go : (f : Finding) (b e : Bool) → f.found ≡ not b → (cond (f.found || e) f (record { found = true; vertex = n; sum = sum n })).found ≡ not (b && e)
       go f true true h = rw h
@@ -63,10 +63,10 @@ module _ (sum q : ℕ → ℤ) where
       go f false e h = rw h
 
   -- what is found is the lowest
-  found-next : (n : ℕ) (f : Finding) → f.found ≡ not (every (λ v. equal (sum v) (q v)) n) → (f.found ≡ true → Found sum q n f)
+  found_next : (n : ℕ) (f : Finding) → f.found ≡ not (every (λ v. equal (sum v) (q v)) n) → (f.found ≡ true → Found sum q n f)
       → (noticed f n (sum n) (q n)).found ≡ true → Found sum q (suc n) (noticed f n (sum n) (q n))
   unfolding noticed
-  found-next n f wrong ih h = go f.found refl (equal (sum n) (q n)) refl h
+  found_next n f wrong ih h = go f.found refl (equal (sum n) (q n)) refl h
     where
       here : Finding
       here = record { found = true; vertex = n; sum = sum n }
@@ -81,42 +81,42 @@ module _ (sum q : ℕ → ℤ) where
           record {
             below = omega arith;
             told = refl;
-            wrong = λ z. false≢true (sym r ∙ rw z (equal-self (q n)));
-            lower = λ v l. equal-true (sum v) (q v) (every-at (λ v. equal (sum v) (q v)) n (right (every (λ v. equal (sum v) (q v)) n) (sym p ∙ wrong)) v l);
+            wrong = λ z. false≢true (sym r ∙ rw z (equal_self (q n)));
+            lower = λ v l. equal_true (sum v) (q v) (every_at (λ v. equal (sum v) (q v)) n (right (every (λ v. equal (sum v) (q v)) n) (sym p ∙ wrong)) v l);
           }
         where
           right : (b : Bool) → false ≡ not b → b ≡ true
           right true z = refl
           right false z = absurd (false≢true z)
 
-  pub lowest-found : (n : ℕ) → (lowest-broken sum q n).found ≡ true → Found sum q n (lowest-broken sum q n)
-  unfolding lowest-broken first_of keep below
-  lowest-found zero h = absurd (false≢true h)
-  lowest-found (suc n) h =
-      rw (lowest-suc n) (found-next n (lowest-broken sum q n) (found-wrong n) (lowest-found n) (sym (ap (λ f. f.found) (lowest-suc n)) ∙ h))
+  pub lowest_found : (n : ℕ) → (lowest_broken sum q n).found ≡ true → Found sum q n (lowest_broken sum q n)
+  unfolding lowest_broken first_of keep below
+  lowest_found zero h = absurd (false≢true h)
+  lowest_found (suc n) h =
+      rw (lowest_suc n) (found_next n (lowest_broken sum q n) (found_wrong n) (lowest_found n) (sym (ap (λ f. f.found) (lowest_suc n)) ∙ h))
 
 -- ---- two sums that agree below n
-first-agree : (f g : ℕ → ℤ) {l : List ℕ} → Each (λ v. f v ≡ g v) l → first_of f l ≡ first_of g l
+first_agree : (f g : ℕ → ℤ) {l : List ℕ} → Each (λ v. f v ≡ g v) l → first_of f l ≡ first_of g l
 unfolding first_of
-first-agree f g none = refl
-first-agree f g (also h t) = rw h
+first_agree f g none = refl
+first_agree f g (also h t) = rw h
 
-pub lowest-agree : (f g q : ℕ → ℤ) (n : ℕ) → ((v : ℕ) → v < n → f v ≡ g v) → lowest-broken f q n ≡ lowest-broken g q n
-unfolding lowest-broken
-lowest-agree f g q n h =
-    first-agree f g (keep-each (λ v. not (equal (f v) (q v))) (each_to h (below_each n)))
-    ∙ ap (first_of g) (keep-agree (λ v. not (equal (f v) (q v))) (λ v. not (equal (g v) (q v))) n (λ v k. rw (h v k)))
+pub lowest_agree : (f g q : ℕ → ℤ) (n : ℕ) → ((v : ℕ) → v < n → f v ≡ g v) → lowest_broken f q n ≡ lowest_broken g q n
+unfolding lowest_broken
+lowest_agree f g q n h =
+    first_agree f g (keep_each (λ v. not (equal (f v) (q v))) (each_to h (below_each n)))
+    ∙ ap (first_of g) (keep_agree (λ v. not (equal (f v) (q v))) (λ v. not (equal (g v) (q v))) n (λ v k. rw (h v k)))
 
 -- ---- the finding of a configuration: nothing is found exactly when it is lawful
 module _ (c : Complex) (q : ℕ → ℤ) (s : List ℤ) where
-  pub finding-lawful : not (finding c q s).found ≡ lawful c q s
+  pub finding_lawful : not (finding c q s).found ≡ lawful c q s
   unfolding finding lawful
-  finding-lawful = rw (found-wrong (gauss c.edges s) q c.vertices) (twice (every (λ v. equal (gauss c.edges s v) (q v)) c.vertices))
+  finding_lawful = rw (found_wrong (gauss c.edges s) q c.vertices) (twice (every (λ v. equal (gauss c.edges s v) (q v)) c.vertices))
     where
       twice : (b : Bool) → not (not b) ≡ b
       twice true = refl
       twice false = refl
 
-  pub finding-found : (finding c q s).found ≡ true → Found (gauss c.edges s) q c.vertices (finding c q s)
+  pub finding_found : (finding c q s).found ≡ true → Found (gauss c.edges s) q c.vertices (finding c q s)
   unfolding finding
-  finding-found = lowest-found (gauss c.edges s) q c.vertices
+  finding_found = lowest_found (gauss c.edges s) q c.vertices

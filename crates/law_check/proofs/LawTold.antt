@@ -5,25 +5,25 @@ use native.Mathlib.Omega.{arith}
 use lib.IntN.{ℤ, pos}
 use lib.ListN.{get_or}
 use Rattle.complex.specs.declared.SimplicialComplex.{SimplicialComplex}
-use Rattle.complex.specs.Complex.{simplices, complexOf, uncharged}
+use Rattle.complex.specs.Complex.{simplices, complex_of, uncharged}
 use Rattle.complex.specs.Search.{Ends}
 use Rattle.complex.specs.Judge.{refusal}
 use Rattle.gauss_law.specs.Gauss.{gauss}
-use Rattle.law_check.specs.Law.{Summed, lowest-broken, finding}
-use Rattle.gauss_law.proofs.Spanned.{accepted-searchable}
-use Rattle.law_check.proofs.Findings.{lowest-agree}
+use Rattle.law_check.specs.Law.{Summed, lowest_broken, finding}
+use Rattle.gauss_law.proofs.Spanned.{accepted_searchable}
+use Rattle.law_check.proofs.Findings.{lowest_agree}
 
-module _ (c : SimplicialComplex) (accepted : refusal (complexOf c) ≡ 0) where
-  pub accepted-ends : Ends 64 (simplices 2 c.edges c.n_edges)
-  accepted-ends e h =
-      let a = accepted-searchable c accepted in
-      let few = a.vertices-fit in
+module _ (c : SimplicialComplex) (accepted : refusal (complex_of c) ≡ 0) where
+  pub accepted_ends : Ends 64 (simplices 2 c.edges c.n_edges)
+  accepted_ends e h =
+      let a = accepted_searchable c accepted in
+      let few = a.vertices_fit in
       let r = a.ends e h in
       (r.0, omega (arith, r.1))
 
-  pub summed-finding : (s sums : List ℤ) → Summed (simplices 2 c.edges c.n_edges) s sums
-      → lowest-broken (λ v. get_or sums v (pos 0)) uncharged c.n_vertices ≡ finding (complexOf c) (complexOf c).charges s
-  unfolding finding complexOf
-  summed-finding s sums h =
-      let few = (accepted-searchable c accepted).vertices-fit in
-      lowest-agree (λ v. get_or sums v (pos 0)) (gauss (complexOf c).edges s) uncharged c.n_vertices (λ v k. h.sum v (omega arith))
+  pub summed_finding : (s sums : List ℤ) → Summed (simplices 2 c.edges c.n_edges) s sums
+      → lowest_broken (λ v. get_or sums v (pos 0)) uncharged c.n_vertices ≡ finding (complex_of c) (complex_of c).charges s
+  unfolding finding complex_of
+  summed_finding s sums h =
+      let few = (accepted_searchable c accepted).vertices_fit in
+      lowest_agree (λ v. get_or sums v (pos 0)) (gauss (complex_of c).edges s) uncharged c.n_vertices (λ v k. h.sum v (omega arith))

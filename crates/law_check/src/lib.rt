@@ -1,10 +1,10 @@
 // Whether a configuration obeys Gauss's law, and where it first does not.
 ghost use Rattle.std.specs.Prelude.{◌≡◌, [], ◌∷◌, ◌*◌, ◌<◌, ◌≤◌, pos, get_or, length};
-ghost use Rattle.complex.specs.Complex.{entries, simplices, complexOf, uncharged};
+ghost use Rattle.complex.specs.Complex.{entries, simplices, complex_of, uncharged};
 ghost use Rattle.complex.specs.Search.{Ends};
 ghost use Rattle.complex.specs.Judge.{refusal};
 ghost use Rattle.mathematics.specs.Calls.{Answered, none_lent};
-ghost use Rattle.law_check.specs.Law.{sums-with, EdgeAddable, Summed, noticed, lowest-broken, finding, lawAnswer, law-call};
+ghost use Rattle.law_check.specs.Law.{sums_with, EdgeAddable, Summed, noticed, lowest_broken, finding, law_answer, law_call};
 
 use acceptance::judge;
 use complex::SimplicialComplex;
@@ -14,7 +14,7 @@ use numbers::{edge_end, edge_start, minus, plus};
 // The value x is taken off the sum at a and added to the sum at b.
 fn carry(sums: &mut [i64; MOST_VERTICES], a: usize, b: usize, x: i32)
     requires { EdgeAddable sums.old (a ∷ b ∷ []) }
-    ensures { sums.new ≡ sums-with (a ∷ b ∷ []) x sums.old }
+    ensures { sums.new ≡ sums_with (a ∷ b ∷ []) x sums.old }
 {
     let less = minus(sums[a], x);
     let more = plus(sums[b], x);
@@ -25,7 +25,7 @@ fn carry(sums: &mut [i64; MOST_VERTICES], a: usize, b: usize, x: i32)
 // The value x on edge e is taken off where it starts and added where it ends.
 fn add_edge(sums: &mut [i64; MOST_VERTICES], edges: &[u8; EDGE_ENTRIES], e: usize, x: i32)
     requires { (e < 63) × EdgeAddable sums.old (entries edges.now (2 * e) 2) }
-    ensures { sums.new ≡ sums-with (entries edges.now (2 * e) 2) x sums.old }
+    ensures { sums.new ≡ sums_with (entries edges.now (2 * e) 2) x sums.old }
 {
     let a = edge_start(edges, e);
     let b = edge_end(edges, e);
@@ -72,7 +72,7 @@ fn notice(f: Finding, v: usize, sum: i64) -> Finding
 
 fn first_unlawful(sums: &[i64; MOST_VERTICES], n_vertices: usize) -> Finding
     requires { n_vertices ≤ 64 }
-    ensures { result ≡ lowest-broken (λ v. get_or sums.now v (pos 0)) uncharged n_vertices }
+    ensures { result ≡ lowest_broken (λ v. get_or sums.now v (pos 0)) uncharged n_vertices }
 {
     let mut f = Finding {
         found: false,
@@ -87,8 +87,8 @@ fn first_unlawful(sums: &[i64; MOST_VERTICES], n_vertices: usize) -> Finding
 
 // The lowest vertex of an accepted record at which a configuration breaks the law.
 pub fn find_unlawful(c: SimplicialComplex, configuration: &[i32]) -> Finding
-    requires { (refusal (complexOf c) ≡ 0) × (length configuration.now ≡ c.n_edges) }
-    ensures { result ≡ finding (complexOf c) (complexOf c).charges configuration.now }
+    requires { (refusal (complex_of c) ≡ 0) × (length configuration.now ≡ c.n_edges) }
+    ensures { result ≡ finding (complex_of c) (complex_of c).charges configuration.now }
 {
     let sums = gauss_sums(&c.edges, c.n_edges, configuration);
     first_unlawful(&sums, c.n_vertices)
@@ -102,7 +102,7 @@ pub enum GaussCheck {
 
 // Whether a configuration obeys Gauss's law on a record, which is judged first.
 pub fn check_gauss_law(c: SimplicialComplex, configuration: &[i32]) -> GaussCheck
-    ensures { Answered (law-call (complexOf c) configuration.now) (lawAnswer result) none_lent }
+    ensures { Answered (law_call (complex_of c) configuration.now) (law_answer result) none_lent }
 {
     let number = judge(c);
     if number != 0 {

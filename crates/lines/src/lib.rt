@@ -1,6 +1,6 @@
 // The lines that `basis list` prints, each written at a place of a lent list; a writer answers the place behind what it wrote.
 ghost use Rattle.std.specs.Prelude.{◌≡◌, ◌∷◌, [], ◌++◌, ◌+◌, ◌<◌, ◌≤◌, length, nat_abs};
-ghost use Rattle.lines.specs.Lines.{decimal, signedText, valueText, stateLine, countsText, firstLine, refusedLine};
+ghost use Rattle.lines.specs.Lines.{decimal, signed_text, value_text, state_line, counts_text, first_line, refused_line};
 ghost use Rattle.lines.specs.Put.{Put};
 
 fn digit(d: usize) -> u8
@@ -50,8 +50,8 @@ fn absolute(n: i32) -> usize
 }
 
 pub fn write_signed(out: &mut [u8], at: usize, n: i32) -> usize
-    requires { at + length (signedText n) ≤ length out.old }
-    ensures { Put (signedText n) out.old at out.new result }
+    requires { at + length (signed_text n) ≤ length out.old }
+    ensures { Put (signed_text n) out.old at out.new result }
 {
     if n < 0 {
         let next = write_byte(out, at, b'-');
@@ -61,16 +61,16 @@ pub fn write_signed(out: &mut [u8], at: usize, n: i32) -> usize
 }
 
 fn write_value(out: &mut [u8], at: usize, n: i32) -> usize
-    requires { at + length (valueText n) ≤ length out.old }
-    ensures { Put (valueText n) out.old at out.new result }
+    requires { at + length (value_text n) ≤ length out.old }
+    ensures { Put (value_text n) out.old at out.new result }
 {
     let next = write_byte(out, at, b' ');
     write_signed(out, next, n)
 }
 
 pub fn write_state_line(out: &mut [u8], at: usize, place: usize, values: &[i32]) -> usize
-    requires { at + length (stateLine place values.now) ≤ length out.old }
-    ensures { Put (stateLine place values.now) out.old at out.new result }
+    requires { at + length (state_line place values.now) ≤ length out.old }
+    ensures { Put (state_line place values.now) out.old at out.new result }
 {
     let mut next = write_number(out, at, place);
     for k in 0..values.len() {
@@ -89,8 +89,8 @@ pub fn write_named(out: &mut [u8], at: usize, name: &[u8], n: usize) -> usize
 }
 
 pub fn write_counts(out: &mut [u8], at: usize, v: usize, e: usize, t: usize, lambda: usize) -> usize
-    requires { at + length (countsText v e t lambda) ≤ length out.old }
-    ensures { Put (countsText v e t lambda) out.old at out.new result }
+    requires { at + length (counts_text v e t lambda) ≤ length out.old }
+    ensures { Put (counts_text v e t lambda) out.old at out.new result }
 {
     let edges = write_named(out, at, b"vertices ", v);
     let triangles = write_named(out, edges, b" edges ", e);
@@ -107,8 +107,8 @@ pub fn write_first_line(
     lambda: usize,
     dim: usize,
 ) -> usize
-    requires { at + length (firstLine v e t lambda dim) ≤ length out.old }
-    ensures { Put (firstLine v e t lambda dim) out.old at out.new result }
+    requires { at + length (first_line v e t lambda dim) ≤ length out.old }
+    ensures { Put (first_line v e t lambda dim) out.old at out.new result }
 {
     let counted = write_counts(out, at, v, e, t, lambda);
     let next = write_named(out, counted, b" dim ", dim);
@@ -116,8 +116,8 @@ pub fn write_first_line(
 }
 
 pub fn write_refused_line(out: &mut [u8], at: usize, number: usize) -> usize
-    requires { at + length (refusedLine number) ≤ length out.old }
-    ensures { Put (refusedLine number) out.old at out.new result }
+    requires { at + length (refused_line number) ≤ length out.old }
+    ensures { Put (refused_line number) out.old at out.new result }
 {
     let next = write_named(out, at, b"refused ", number);
     write_byte(out, next, b'\n')

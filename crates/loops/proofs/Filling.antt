@@ -6,7 +6,7 @@ use native.Mathlib.Omega.{arith}
 use lib.ListN.{length, length-append, length-map, set, length-set, take, drop}
 use lib.Seq.{take-set-le, drop-set-lt, drop-cons, get_or-set_same, append_snoc}
 use Rattle.mathematics.specs.Writing.{put}
-use Rattle.mathematics.proofs.Puts.{put-none, put-more, put_one}
+use Rattle.mathematics.proofs.Puts.{put_none, put_more, put_one}
 use Rattle.loops.specs.Walks.{Step}
 
 -- a list written at its end first
@@ -26,23 +26,23 @@ pub record Filling {A : Type 0} (f : Step → A) (l : List Step) (at : ℕ) (fir
   pub same : put out front (map f m) ≡ put first at (map f l)
 
 module _ {A : Type 0} (f : Step → A) (l : List Step) (at : ℕ) (first : List A) where
-  pub nothing-filled : at + length l ≤ length first → Filling f l at first l at first
-  nothing-filled room = record { long = refl; room = room; same = refl }
+  pub nothing_filled : at + length l ≤ length first → Filling f l at first l at first
+  nothing_filled room = record { long = refl; room = room; same = refl }
 
   -- x is f of the first or of the last of them
   module _ (m : List Step) (front : ℕ) (out : List A) (s : Step) (x : A) (own : x ≡ f s) where
-    pub front-filled : Filling f l at first (s ∷ m) front out → Filling f l at first m (front + 1) (set out front x)
-    front-filled h =
+    pub front_filled : Filling f l at first (s ∷ m) front out → Filling f l at first m (front + 1) (set out front x)
+    front_filled h =
         let long = h.long in
         let room : suc (front + length m) ≤ length out = omega (arith, h.room) in
         record {
           long = length-set out front x ∙ long;
           room = rw (length-set out front x) (omega arith);
-          same = rw own (ap (λ o. put o (front + 1) (map f m)) (put_one out front (f s) (omega arith)) ∙ put-more out front (f s ∷ []) (map f m) (omega arith) ∙ h.same);
+          same = rw own (ap (λ o. put o (front + 1) (map f m)) (put_one out front (f s) (omega arith)) ∙ put_more out front (f s ∷ []) (map f m) (omega arith) ∙ h.same);
         }
 
-    pub back-filled : Filling f l at first (m ++ (s ∷ [])) front out → (k : ℕ) → k ≡ front + length m → Filling f l at first m front (set out k x)
-    back-filled h k is =
+    pub back_filled : Filling f l at first (m ++ (s ∷ [])) front out → (k : ℕ) → k ≡ front + length m → Filling f l at first m front (set out k x)
+    back_filled h k is =
         let long = h.long in
         let room : front + length m < length out = omega (arith, h.room, length-append m (s ∷ [])) in
         let last : k ≡ front + length (map f m) = rw (length-map m f) is in
@@ -52,5 +52,5 @@ module _ {A : Type 0} (f : Step → A) (l : List Step) (at : ℕ) (first : List 
           same = rw (own, last) (put_last out front (map f m) (f s) (rw (length-map m f) room)) ∙ ap (put out front) (sym (map-append f m (s ∷ []))) ∙ h.same;
         }
 
-  pub all-filled : (front : ℕ) (out : List A) → Filling f l at first [] front out → out ≡ put first at (map f l)
-  all-filled front out h = sym (put-none out front) ∙ h.same
+  pub all_filled : (front : ℕ) (out : List A) → Filling f l at first [] front out → out ≡ put first at (map f l)
+  all_filled front out h = sym (put_none out front) ∙ h.same

@@ -8,115 +8,115 @@ use lib.ListN.{get_or, set, length, length-append, length-map, take, drop, take-
 use lib.Seq.{take-take}
 use Rattle.mathematics.specs.Counting.{below}
 use Rattle.mathematics.specs.Writing.{put, front}
-use Rattle.mathematics.proofs.Below.{map_at, length-below}
-use Rattle.mathematics.proofs.Flat.{flatten-append, flatten-last}
+use Rattle.mathematics.proofs.Below.{map_at, length_below}
+use Rattle.mathematics.proofs.Flat.{flatten_append, flatten_last}
 use Rattle.mathematics.proofs.Front.{take_next, store}
-use Rattle.mathematics.proofs.Puts.{put-none, put-more, put-length, put_front}
+use Rattle.mathematics.proofs.Puts.{put_none, put_more, put_length, put_front}
 use Rattle.complex.specs.Complex.{Complex}
-use Rattle.gauss_law.specs.Listing.{free-edges}
+use Rattle.gauss_law.specs.Listing.{free_edges}
 use Rattle.loops.specs.Walks.{Step}
-use Rattle.loops.specs.Loops.{loop-of, fundamental-loops, loop-steps, all-steps, loop-starts}
+use Rattle.loops.specs.Loops.{loop_of, fundamental_loops, loop_steps, all_steps, loop_starts}
 
 -- ---- one loop more
-pub no_steps : (K : Complex) → loop-steps K 0 ≡ []
-unfolding loop-steps flatten
+pub no_steps : (K : Complex) → loop_steps K 0 ≡ []
+unfolding loop_steps flatten
 no_steps K = refl
 
 -- e is the j-th free edge
 pub record NextFree (K : Complex) (j e : ℕ) : Type 0 where
-  pub more : j < length (free-edges K)
-  pub is : e ≡ get_or (free-edges K) j 0
+  pub more : j < length (free_edges K)
+  pub is : e ≡ get_or (free_edges K) j 0
 
 module _ {K : Complex} {j e : ℕ} (n : NextFree K j e) where
-  steps_next : loop-steps K (j + 1) ≡ loop-steps K j ++ loop-of K e
-  unfolding loop-steps fundamental-loops
+  steps_next : loop_steps K (j + 1) ≡ loop_steps K j ++ loop_of K e
+  unfolding loop_steps fundamental_loops
   steps_next =
-      let loops = map (loop-of K) (free-edges K) in
-      ap flatten (take_next loops j [] (rw (length-map (free-edges K) (loop-of K)) n.more))
-      ∙ flatten-last (take j loops) (get_or loops j [])
-      ∙ ap (λ l. flatten (take j loops) ++ l) (map_at (loop-of K) (free-edges K) j 0 [] n.more ∙ ap (loop-of K) (sym n.is))
+      let loops = map (loop_of K) (free_edges K) in
+      ap flatten (take_next loops j [] (rw (length-map (free_edges K) (loop_of K)) n.more))
+      ∙ flatten_last (take j loops) (get_or loops j [])
+      ∙ ap (λ l. flatten (take j loops) ++ l) (map_at (loop_of K) (free_edges K) j 0 [] n.more ∙ ap (loop_of K) (sym n.is))
 
-  pub steps-count : length (loop-steps K (j + 1)) ≡ length (loop-steps K j) + length (loop-of K e)
-  steps-count = ap length steps_next ∙ length-append (loop-steps K j) (loop-of K e)
+  pub steps_count : length (loop_steps K (j + 1)) ≡ length (loop_steps K j) + length (loop_of K e)
+  steps_count = ap length steps_next ∙ length-append (loop_steps K j) (loop_of K e)
 
-steps-long : (K : Complex) (j m : ℕ) → j ≤ m → length (loop-steps K j) ≤ length (loop-steps K m)
-unfolding loop-steps
-steps-long K j m h =
-    let loops = take m (fundamental-loops K) in
-    let whole : flatten loops ≡ flatten (take j loops) ++ flatten (drop j loops) = sym (ap flatten (take-append-drop j loops)) ∙ flatten-append (take j loops) (drop j loops) in
+steps_long : (K : Complex) (j m : ℕ) → j ≤ m → length (loop_steps K j) ≤ length (loop_steps K m)
+unfolding loop_steps
+steps_long K j m h =
+    let loops = take m (fundamental_loops K) in
+    let whole : flatten loops ≡ flatten (take j loops) ++ flatten (drop j loops) = sym (ap flatten (take-append-drop j loops)) ∙ flatten_append (take j loops) (drop j loops) in
     let a : length (flatten loops) ≡ length (flatten (take j loops)) + length (flatten (drop j loops)) = ap length whole ∙ length-append (flatten (take j loops)) (flatten (drop j loops)) in
-    let b : length (flatten (take j loops)) ≡ length (flatten (take j (fundamental-loops K))) = ap (λ l. length (flatten l)) (take-take j m (fundamental-loops K) h) in
+    let b : length (flatten (take j loops)) ≡ length (flatten (take j (fundamental_loops K))) = ap (λ l. length (flatten l)) (take-take j m (fundamental_loops K) h) in
     omega arith
 
 -- loops of 63 steps at most
-pub steps-few : (K : Complex) → ((i : ℕ) → i < length (free-edges K) → length (loop-of K (get_or (free-edges K) i 0)) ≤ 63)
-    → (j : ℕ) → j ≤ length (free-edges K) → length (loop-steps K j) ≤ 63 * j
-steps-few K few zero h = rw (no_steps K) (omega arith)
-steps-few K few (suc j) h =
+pub steps_few : (K : Complex) → ((i : ℕ) → i < length (free_edges K) → length (loop_of K (get_or (free_edges K) i 0)) ≤ 63)
+    → (j : ℕ) → j ≤ length (free_edges K) → length (loop_steps K j) ≤ 63 * j
+steps_few K few zero h = rw (no_steps K) (omega arith)
+steps_few K few (suc j) h =
     let one = few j h in
-    let before = steps-few K few j (omega arith) in
-    rw (← add-one j) (omega (arith, steps-count (record { more = h; is = refl })))
+    let before = steps_few K few j (omega arith) in
+    rw (← add-one j) (omega (arith, steps_count (record { more = h; is = refl })))
 
 -- ---- g of the steps of the first j loops stands at the front of a list
 pub record Laid {A : Type 0} (K : Complex) (g : Step → A) (first : List A) (j : ℕ) (out : List A) : Type 0 where
   pub long : length out ≡ length first
-  pub is : out ≡ put first 0 (map g (loop-steps K j))
+  pub is : out ≡ put first 0 (map g (loop_steps K j))
 
-pub none-laid : {A : Type 0} (K : Complex) (g : Step → A) (first : List A) → Laid K g first 0 first
-none-laid K g first = record { long = refl; is = rw (no_steps K) (sym (put-none first 0)) }
+pub none_laid : {A : Type 0} (K : Complex) (g : Step → A) (first : List A) → Laid K g first 0 first
+none_laid K g first = record { long = refl; is = rw (no_steps K) (sym (put_none first 0)) }
 
-pub all_laid : {A : Type 0} {K : Complex} {g : Step → A} {first : List A} {j : ℕ} {out : List A} → Laid K g first j out → j ≡ length (free-edges K) → out ≡ front (map g (all-steps K)) first
-all_laid {K = K} {g = g} {first = first} {j = j} h q = h.is ∙ put_front first (map g (loop-steps K j)) ∙ ap (λ k. front (map g (loop-steps K k)) first) q
+pub all_laid : {A : Type 0} {K : Complex} {g : Step → A} {first : List A} {j : ℕ} {out : List A} → Laid K g first j out → j ≡ length (free_edges K) → out ≡ front (map g (all_steps K)) first
+all_laid {K = K} {g = g} {first = first} {j = j} h q = h.is ∙ put_front first (map g (loop_steps K j)) ∙ ap (λ k. front (map g (loop_steps K k)) first) q
 
 -- the loop of the j-th free edge e goes behind them, to place at
-module _ {A : Type 0} {K : Complex} {g : Step → A} {first out : List A} {j e at : ℕ} (n : NextFree K j e) (behind : at ≡ length (loop-steps K j))
-    (laid : Laid K g first j out) (room : 0 + length (all-steps K) ≤ length first) where
-  pub laid-room : at + length (loop-of K e) ≤ length out
-  laid-room =
+module _ {A : Type 0} {K : Complex} {g : Step → A} {first out : List A} {j e at : ℕ} (n : NextFree K j e) (behind : at ≡ length (loop_steps K j))
+    (laid : Laid K g first j out) (room : 0 + length (all_steps K) ≤ length first) where
+  pub laid_room : at + length (loop_of K e) ≤ length out
+  laid_room =
       let more = n.more in
-      let k = steps-long K (j + 1) (length (free-edges K)) (omega arith) in
-      omega (arith, steps-count n, laid.long)
+      let k = steps_long K (j + 1) (length (free_edges K)) (omega arith) in
+      omega (arith, steps_count n, laid.long)
 
-  pub one-laid : {out' : List A} → out' ≡ put out at (map g (loop-of K e)) → Laid K g first (j + 1) out'
-  one-laid written =
-      let s = map g (loop-steps K j) in
-      let t = map g (loop-of K e) in
-      let ls : length s ≡ length (loop-steps K j) = length-map (loop-steps K j) g in
-      let fits : at + length t ≤ length out = rw (length-map (loop-of K e) g) laid-room in
+  pub one_laid : {out' : List A} → out' ≡ put out at (map g (loop_of K e)) → Laid K g first (j + 1) out'
+  one_laid written =
+      let s = map g (loop_steps K j) in
+      let t = map g (loop_of K e) in
+      let ls : length s ≡ length (loop_steps K j) = length-map (loop_steps K j) g in
+      let fits : at + length t ≤ length out = rw (length-map (loop_of K e) g) laid_room in
       let held : 0 + length s ≤ length first = omega (arith, laid.long) in
       let place : at ≡ 0 + length s = omega arith in
       record {
-        long = ap length written ∙ put-length out at t fits ∙ laid.long;
+        long = ap length written ∙ put_length out at t fits ∙ laid.long;
         is =
-            written ∙ ap (λ o. put o at t) laid.is ∙ ap (λ n. put (put first 0 s) n t) place ∙ put-more first 0 s t held
-            ∙ ap (put first 0) (sym (ap (map g) (steps_next n) ∙ map-append g (loop-steps K j) (loop-of K e)));
+            written ∙ ap (λ o. put o at t) laid.is ∙ ap (λ n. put (put first 0 s) n t) place ∙ put_more first 0 s t held
+            ∙ ap (put first 0) (sym (ap (map g) (steps_next n) ∙ map-append g (loop_steps K j) (loop_of K e)));
       }
 
 -- ---- the first n starts stand at the front of a list
-abbrev start-at : Complex → ℕ → ℕ
-start-at K n = length (loop-steps K n)
+abbrev start_at : Complex → ℕ → ℕ
+start_at K n = length (loop_steps K n)
 
 pub record Started (K : Complex) (first : List ℕ) (n : ℕ) (starts : List ℕ) : Type 0 where
-  pub is : starts ≡ map (start-at K) (below n) ++ drop n first
+  pub is : starts ≡ map (start_at K) (below n) ++ drop n first
 
-starts-many : (K : Complex) (n : ℕ) → length (map (start-at K) (below n)) ≡ n
-starts-many K n = length-map (below n) (start-at K) ∙ length-below n
+starts_many : (K : Complex) (n : ℕ) → length (map (start_at K) (below n)) ≡ n
+starts_many K n = length-map (below n) (start_at K) ∙ length_below n
 
-pub none-started : (K : Complex) (first : List ℕ) → Started K first 0 first
+pub none_started : (K : Complex) (first : List ℕ) → Started K first 0 first
 unfolding below
-none-started K first = record { is = refl }
+none_started K first = record { is = refl }
 
-starts-next : (K : Complex) (j : ℕ) → map (start-at K) (below (j + 1)) ≡ map (start-at K) (below j) ++ (start-at K j ∷ [])
+starts_next : (K : Complex) (j : ℕ) → map (start_at K) (below (j + 1)) ≡ map (start_at K) (below j) ++ (start_at K j ∷ [])
 unfolding below
-starts-next K j = rw (add-one j) (map-append (start-at K) (below j) (j ∷ []))
+starts_next K j = rw (add-one j) (map-append (start_at K) (below j) (j ∷ []))
 
 module _ {K : Complex} {first starts : List ℕ} {j : ℕ} where
-  pub one-started : {at : ℕ} → Started K first j starts → at ≡ length (loop-steps K j) → j < length first → Started K first (j + 1) (set starts j at)
-  one-started h own room =
-      record { is = rw (h.is, own) (store (map (start-at K) (below j)) first j (start-at K j) 0 (starts-many K j) room ∙ ap (λ l. l ++ drop (j + 1) first) (sym (starts-next K j))) }
+  pub one_started : {at : ℕ} → Started K first j starts → at ≡ length (loop_steps K j) → j < length first → Started K first (j + 1) (set starts j at)
+  one_started h own room =
+      record { is = rw (h.is, own) (store (map (start_at K) (below j)) first j (start_at K j) 0 (starts_many K j) room ∙ ap (λ l. l ++ drop (j + 1) first) (sym (starts_next K j))) }
 
-  pub all-started : Started K first (j + 1) starts → j ≡ length (free-edges K) → starts ≡ front (loop-starts K) first
-  unfolding loop-starts
-  all-started h q =
-      let all = map (start-at K) (below (length (free-edges K) + 1)) in
-      h.is ∙ ap (λ k. map (start-at K) (below (k + 1)) ++ drop (k + 1) first) q ∙ ap (λ k. all ++ drop k first) (sym (starts-many K (length (free-edges K) + 1)))
+  pub all_started : Started K first (j + 1) starts → j ≡ length (free_edges K) → starts ≡ front (loop_starts K) first
+  unfolding loop_starts
+  all_started h q =
+      let all = map (start_at K) (below (length (free_edges K) + 1)) in
+      h.is ∙ ap (λ k. map (start_at K) (below (k + 1)) ++ drop (k + 1) first) q ∙ ap (λ k. all ++ drop k first) (sym (starts_many K (length (free_edges K) + 1)))

@@ -9,26 +9,26 @@ use borrow.Author.Tests.{ne_eqb, eqb-false, eqb-true}
 use lib.Dec.{eqb}
 use lib.ListN.{get_or, length}
 use Rattle.mathematics.specs.Lists.{listed, position, In}
-use Rattle.mathematics.proofs.Ordered.{Ordered, at-ordered, place-member}
-use Rattle.mathematics.proofs.Below.{listed-member, member-listed, place-right, place_at}
+use Rattle.mathematics.proofs.Ordered.{Ordered, at_ordered, place_member}
+use Rattle.mathematics.proofs.Below.{listed_member, member_listed, place_right, place_at}
 use Rattle.complex.specs.Complex.{Simplex, Joins}
 use Rattle.complex.specs.Search.{Search, SpansReached}
-use Rattle.complex.proofs.Looks.{joins-across}
-use Rattle.loops.specs.Parents.{ParentsOf, parent, Under, itself, above, Together, parentsOf}
-use Rattle.loops.proofs.Treads.{joins-back}
+use Rattle.complex.proofs.Looks.{joins_across}
+use Rattle.loops.specs.Parents.{ParentsOf, parent, Under, itself, above, Together, parents_of}
+use Rattle.loops.proofs.Treads.{joins_back}
 
 module _ (es : List Simplex) (n : ℕ) (s : Search) (spans : SpansReached es n s) where
   abbrev Seen : ℕ → Type 0
   Seen v = listed eqb v s.seen ≡ true
 
   once : Ordered (λ x y. x ≢ y) s.seen
-  once = at-ordered 0 s.seen spans.apart
+  once = at_ordered 0 s.seen spans.apart
 
   placed : (v : ℕ) → Seen v → (position eqb v s.seen < length s.seen) × (get_or s.seen (position eqb v s.seen) 0 ≡ v)
-  placed v h = place-right 0 (listed-member v s.seen h)
+  placed v h = place_right 0 (listed_member v s.seen h)
 
   seen_at : (i : ℕ) → i < length s.seen → Seen (get_or s.seen i 0)
-  seen_at i h = member-listed (place-member 0 s.seen i h)
+  seen_at i h = member_listed (place_member 0 s.seen i h)
 
   less : (q i : ℕ) → q ≡ suc i → get_or s.tree (q - 1) 0 ≡ get_or s.tree i 0
   less q i e = let k : q - 1 ≡ i = omega arith in ap (λ k. get_or s.tree k 0) k
@@ -40,12 +40,12 @@ module _ (es : List Simplex) (n : ℕ) (s : Search) (spans : SpansReached es n s
     at : position eqb v s.seen ≡ suc i
     inside : i < length s.tree
     older : h ≤ i
-    edge : (parentsOf s).edge v ≡ get_or s.tree i 0
-    from : parent es (parentsOf s) v ≡ get_or s.seen h 0
-    joins : Joins (get_or es ((parentsOf s).edge v) []) (get_or s.seen h 0) v
+    edge : (parents_of s).edge v ≡ get_or s.tree i 0
+    from : parent es (parents_of s) v ≡ get_or s.seen h 0
+    joins : Joins (get_or es ((parents_of s).edge v) []) (get_or s.seen h 0) v
 
-  led : (v : ℕ) → Seen v → (parentsOf s).root v ≡ false → Led v
-  unfolding parentsOf
+  led : (v : ℕ) → Seen v → (parents_of s).root v ≡ false → Led v
+  unfolding parents_of
   led v sv n = go (position eqb v s.seen) refl
     where
       go : (q : ℕ) → position eqb v s.seen ≡ q → Led v
@@ -67,25 +67,25 @@ module _ (es : List Simplex) (n : ℕ) (s : Search) (spans : SpansReached es n s
             inside = inside;
             older = j.1;
             edge = own;
-            from = joins-across (get_or es E []) v from (joins-back (get_or es E []) from v joins);
+            from = joins_across (get_or es E []) v from (joins_back (get_or es E []) from v joins);
             joins = joins;
           }
 
   filled : (v : ℕ) (l : Led v) → l.h < length s.seen
   filled v l = let z = spans.sizes in let a = l.inside in let b = l.older in omega arith
 
-  place-from : (v : ℕ) (l : Led v) → (parentsOf s).place (parent es (parentsOf s) v) ≡ l.h
-  unfolding parentsOf
-  place-from v l = ap (λ x. position eqb x s.seen) l.from ∙ place_at 0 once l.h (filled v l)
+  place_from : (v : ℕ) (l : Led v) → (parents_of s).place (parent es (parents_of s) v) ≡ l.h
+  unfolding parents_of
+  place_from v l = ap (λ x. position eqb x s.seen) l.from ∙ place_at 0 once l.h (filled v l)
 
-  pub search-parents : ParentsOf es s.seen s.tree (parentsOf s)
-  unfolding parentsOf
-  search-parents =
+  pub search_parents : ParentsOf es s.seen s.tree (parents_of s)
+  unfolding parents_of
+  search_parents =
       record {
         apart = λ v w sv sw q. sym (placed v sv).1 ∙ ap (λ k. get_or s.seen k 0) q ∙ (placed w sw).1;
         edge = λ v sv n. let l = led v sv n in (l.i, l.inside, sym l.edge);
-        parent-seen = λ v sv n. let l = led v sv n in rw l.from (seen_at l.h (filled v l));
-        earlier = λ v sv n. let l = led v sv n in let a = l.at in let b = l.older in let c = place-from v l in omega arith;
+        parent_seen = λ v sv n. let l = led v sv n in rw l.from (seen_at l.h (filled v l));
+        earlier = λ v sv n. let l = led v sv n in let a = l.at in let b = l.older in let c = place_from v l in omega arith;
         joins = λ v sv n. let l = led v sv n in rw l.from l.joins;
         led = leads;
       }
@@ -99,21 +99,21 @@ module _ (es : List Simplex) (n : ℕ) (s : Search) (spans : SpansReached es n s
           (v, seen_at (suc i) inside, ne_eqb (position eqb v s.seen) 0 (λ z. omega arith), less (position eqb v s.seen) i at ∙ q)
 
   -- all climb to the vertex found first
-  first_under : (v : ℕ) → Seen v → (parentsOf s).root v ≡ true → Under es (parentsOf s) v (get_or s.seen 0 0)
-  unfolding parentsOf
+  first_under : (v : ℕ) → Seen v → (parents_of s).root v ≡ true → Under es (parents_of s) v (get_or s.seen 0 0)
+  unfolding parents_of
   first_under v sv t =
       let is : get_or s.seen 0 0 ≡ v = ap (λ k. get_or s.seen k 0) (sym (eqb-true (position eqb v s.seen) 0 t)) ∙ (placed v sv).1 in
-      subst (λ x. Under es (parentsOf s) v x) (sym is) (itself t)
+      subst (λ x. Under es (parents_of s) v x) (sym is) (itself t)
 
-  search-under : (k v : ℕ) → Seen v → (parentsOf s).place v < k → Under es (parentsOf s) v (get_or s.seen 0 0)
-  search-under zero v sv h = absurd (omega arith)
-  search-under (suc k) v sv h = go ((parentsOf s).root v) refl (search-under k (parent es (parentsOf s) v))
+  search_under : (k v : ℕ) → Seen v → (parents_of s).place v < k → Under es (parents_of s) v (get_or s.seen 0 0)
+  search_under zero v sv h = absurd (omega arith)
+  search_under (suc k) v sv h = go ((parents_of s).root v) refl (search_under k (parent es (parents_of s) v))
     where
-      go : (b : Bool) → (parentsOf s).root v ≡ b
-          → (Seen (parent es (parentsOf s) v) → (parentsOf s).place (parent es (parentsOf s) v) < k → Under es (parentsOf s) (parent es (parentsOf s) v) (get_or s.seen 0 0))
-          → Under es (parentsOf s) v (get_or s.seen 0 0)
+      go : (b : Bool) → (parents_of s).root v ≡ b
+          → (Seen (parent es (parents_of s) v) → (parents_of s).place (parent es (parents_of s) v) < k → Under es (parents_of s) (parent es (parents_of s) v) (get_or s.seen 0 0))
+          → Under es (parents_of s) v (get_or s.seen 0 0)
       go true t ih = first_under v sv t
-      go false t ih = let low = search-parents.earlier v sv t in above t (ih (search-parents.parent-seen v sv t) (omega arith))
+      go false t ih = let low = search_parents.earlier v sv t in above t (ih (search_parents.parent_seen v sv t) (omega arith))
 
-  pub search-together : (a b : ℕ) → Seen a → Seen b → Together es (parentsOf s) a b
-  search-together a b sa sb = (get_or s.seen 0 0, search-under (suc ((parentsOf s).place a)) a sa (omega arith), search-under (suc ((parentsOf s).place b)) b sb (omega arith))
+  pub search_together : (a b : ℕ) → Seen a → Seen b → Together es (parents_of s) a b
+  search_together a b sa sb = (get_or s.seen 0 0, search_under (suc ((parents_of s).place a)) a sa (omega arith), search_under (suc ((parents_of s).place b)) b sb (omega arith))

@@ -25,13 +25,13 @@ Simple w = Ordered (λ s t. s.0 ≢ t.0) w
 abbrev pub Free-of : ℕ → List Step → Type 0
 Free-of e w = Each (λ t. e ≢ t.0) w
 
-pub joins-back : (s : Simplex) (u v : ℕ) → Joins s u v → Joins s v u
-joins-back s u v (inl j) = inr j
-joins-back s u v (inr j) = inl j
+pub joins_back : (s : Simplex) (u v : ℕ) → Joins s u v → Joins s v u
+joins_back s u v (inl j) = inr j
+joins_back s u v (inr j) = inl j
 
-pub walk-append : {es : List Simplex} {tree : List ℕ} {a b c : ℕ} {l m : List Step} → Walk es tree a l b → Walk es tree b m c → Walk es tree a (l ++ m) c
-walk-append stay k = k
-walk-append (onward i g r) k = onward i g (walk-append r k)
+pub walk_append : {es : List Simplex} {tree : List ℕ} {a b c : ℕ} {l m : List Step} → Walk es tree a l b → Walk es tree b m c → Walk es tree a (l ++ m) c
+walk_append stay k = k
+walk_append (onward i g r) k = onward i g (walk_append r k)
 
 module _ (es : List Simplex) (seen tree : List ℕ) (p : Parents) (good : ParentsOf es seen tree p) where
   abbrev pub Seen : ℕ → Type 0
@@ -47,22 +47,22 @@ module _ (es : List Simplex) (seen tree : List ℕ) (p : Parents) (good : Parent
   direction s d u v n (inl g) = rw (eq-eqb (start s) u g.1) g.0
   direction s d u v n (inr g) = rw (ne_eqb (start s) u (λ q. n (sym q ∙ g.1))) g.0
 
-  goes-ends : (s : Simplex) (d : ℤ) (u v x y : ℕ) → Goes s d u v → Joins s y x → ((u ≡ x) × (v ≡ y)) ⊎ ((u ≡ y) × (v ≡ x))
-  goes-ends s d u v x y (inl g) (inl j) = inr (sym g.1 ∙ j.0, sym g.2 ∙ j.1)
-  goes-ends s d u v x y (inl g) (inr j) = inl (sym g.1 ∙ j.0, sym g.2 ∙ j.1)
-  goes-ends s d u v x y (inr g) (inl j) = inl (sym g.2 ∙ j.1, sym g.1 ∙ j.0)
-  goes-ends s d u v x y (inr g) (inr j) = inr (sym g.2 ∙ j.1, sym g.1 ∙ j.0)
+  goes_ends : (s : Simplex) (d : ℤ) (u v x y : ℕ) → Goes s d u v → Joins s y x → ((u ≡ x) × (v ≡ y)) ⊎ ((u ≡ y) × (v ≡ x))
+  goes_ends s d u v x y (inl g) (inl j) = inr (sym g.1 ∙ j.0, sym g.2 ∙ j.1)
+  goes_ends s d u v x y (inl g) (inr j) = inl (sym g.1 ∙ j.0, sym g.2 ∙ j.1)
+  goes_ends s d u v x y (inr g) (inl j) = inl (sym g.2 ∙ j.1, sym g.1 ∙ j.0)
+  goes_ends s d u v x y (inr g) (inr j) = inr (sym g.2 ∙ j.1, sym g.1 ∙ j.0)
 
   pub record Trodden (u : ℕ) (s : Step) (v : ℕ) : Type 0 where
-    pub from-seen : Seen u
-    pub to-seen : Seen v
+    pub from_seen : Seen u
+    pub to_seen : Seen v
     pub tread : Tread u s v
 
   pub trodden : (u v e : ℕ) (d : ℤ) → In 0 e tree → Goes (get_or es e []) d u v → Trodden u (e, d) v
   trodden u v e d i g = go (good.led e i)
     where
       go : (x : ℕ) × Seen x × (p.root x ≡ false) × (p.edge x ≡ e) → Trodden u (e, d) v
-      go (x, sx, nx, ex) = cases (goes-ends (get_or es e []) d u v x (parent es p x) g (subst (λ k. Joins (get_or es k []) (parent es p x) x) ex (good.joins x sx nx)))
+      go (x, sx, nx, ex) = cases (goes_ends (get_or es e []) d u v x (parent es p x) g (subst (λ k. Joins (get_or es k []) (parent es p x) x) ex (good.joins x sx nx)))
         where
           apart : parent es p x ≢ x
           apart q = let low = good.earlier x sx nx in let z : p.place (parent es p x) ≡ p.place x = ap p.place q in omega arith
@@ -72,8 +72,8 @@ module _ (es : List Simplex) (seen tree : List ℕ) (p : Parents) (good : Parent
               let way = direction (get_or es e []) d u v (λ q. apart (sym b ∙ sym q ∙ a)) g in
               let own : e ≡ p.edge u = sym (ap p.edge a ∙ ex) in
               record {
-                from-seen = rw a sx;
-                to-seen = rw b (good.parent-seen x sx nx);
+                from_seen = rw a sx;
+                to_seen = rw b (good.parent_seen x sx nx);
                 tread = up (rw a nx) (λ k. (own k, (way ∙ ap (λ n. leaving (get_or es n []) u) own) k)) (b ∙ ap (parent es p) (sym a));
               }
           cases (inr (a, b)) =
@@ -81,8 +81,8 @@ module _ (es : List Simplex) (seen tree : List ℕ) (p : Parents) (good : Parent
               let own : e ≡ p.edge v = sym (ap p.edge b ∙ ex) in
               let above : u ≡ parent es p v = a ∙ ap (parent es p) (sym b) in
               record {
-                from-seen = rw a (good.parent-seen x sx nx);
-                to-seen = rw b sx;
+                from_seen = rw a (good.parent_seen x sx nx);
+                to_seen = rw b sx;
                 tread =
                     down (rw b nx)
                     (λ k. (own k, (way ∙ ap (λ n. leaving (get_or es n []) u) own ∙ ap (leaving (get_or es (p.edge v) [])) above) k))
@@ -100,7 +100,7 @@ module _ (es : List Simplex) (seen tree : List ℕ) (p : Parents) (good : Parent
           cases : Tread x (e, d) v → p.place x ≤ p.place b
           cases (up a q b) = absurd (f (sym (ap (λ t. t.0) q)))
           cases (down a q u) =
-              let low = good.earlier v t.to-seen a in
+              let low = good.earlier v t.to_seen a in
               let e : p.place x ≡ p.place (parent es p v) = ap p.place u in
               let far = ih a (subst (λ k. Free-of k l) (ap (λ t. t.0) q) h) o in
               omega arith
@@ -110,14 +110,14 @@ module _ (es : List Simplex) (seen tree : List ℕ) (p : Parents) (good : Parent
     far : Trodden u (e, d) v → p.root v ≡ false → (e, d) ≡ step_from es (p.edge v) (parent es p v) → u ≡ parent es p v
         → (p.place u < p.place v) × (p.place v ≤ p.place b)
     far t a q z =
-        let low = good.earlier v t.to-seen a in
+        let low = good.earlier v t.to_seen a in
         let e : p.place u ≡ p.place (parent es p v) = ap p.place z in
         let far = goes_down r a (subst (λ k. Free-of k l) (ap (λ t. t.0) q) f) o in
         (omega arith, far)
 
     -- toward a vertex that was not found later it goes up
-    pub first-up : p.place b ≤ p.place u → (p.root u ≡ false) × ((e, d) ≡ step_from es (p.edge u) u) × (v ≡ parent es p u)
-    first-up h = go (trodden u v e d i g)
+    pub first_up : p.place b ≤ p.place u → (p.root u ≡ false) × ((e, d) ≡ step_from es (p.edge u) u) × (v ≡ parent es p u)
+    first_up h = go (trodden u v e d i g)
       where
         go : Trodden u (e, d) v → (p.root u ≡ false) × ((e, d) ≡ step_from es (p.edge u) u) × (v ≡ parent es p u)
         go t = cases t.tread
@@ -134,17 +134,17 @@ module _ (es : List Simplex) (seen tree : List ℕ) (p : Parents) (good : Parent
     pub is : w ≡ walk ++ (step_from es (p.edge b) (parent es p b) ∷ [])
 
   -- a walk without repeats that has a step, to a vertex that was not found earlier, ends with a step down
-  pub last-down : {v b : ℕ} {l : List Step} (u e : ℕ) (d : ℤ) → In 0 e tree → Goes (get_or es e []) d u v → Walk es tree v l b → Free-of e l → Simple l
+  pub last_down : {v b : ℕ} {l : List Step} (u e : ℕ) (d : ℤ) → In 0 e tree → Goes (get_or es e []) d u v → Walk es tree v l b → Free-of e l → Simple l
       → p.place u ≤ p.place b → EndsDown u b ((e, d) ∷ l)
-  last-down {v} u e d i g stay f o h = go (trodden u v e d i g)
+  last_down {v} u e d i g stay f o h = go (trodden u v e d i g)
     where
       go : Trodden u (e, d) v → EndsDown u v ((e, d) ∷ [])
       go t = cases t.tread
         where
           cases : Tread u (e, d) v → EndsDown u v ((e, d) ∷ [])
-          cases (up a q z) = let low = good.earlier u t.from-seen a in let e : p.place v ≡ p.place (parent es p u) = ap p.place z in absurd (omega arith)
+          cases (up a q z) = let low = good.earlier u t.from_seen a in let e : p.place v ≡ p.place (parent es p u) = ap p.place z in absurd (omega arith)
           cases (down a q z) = record { walk = []; under = a; leads = rw z stay; is = ap (λ t. t ∷ []) q }
-  last-down {v} {b} u e d i g (onward {e = e'} {d = d'} {l = m} i' g' r) f (before fs o) h = go (dec_lt (p.place b) (p.place v)) (last-down v e' d' i' g' r fs o)
+  last_down {v} {b} u e d i g (onward {e = e'} {d = d'} {l = m} i' g' r) f (before fs o) h = go (dec_lt (p.place b) (p.place v)) (last_down v e' d' i' g' r fs o)
     where
       go : Dec (p.place b < p.place v) → (p.place v ≤ p.place b → EndsDown v b ((e', d') ∷ m)) → EndsDown u b ((e, d) ∷ (e', d') ∷ m)
       go (no n) ih =
@@ -156,5 +156,5 @@ module _ (es : List Simplex) (seen tree : List ℕ) (p : Parents) (good : Parent
           cases t = ends t.tread
             where
               ends : Tread u (e, d) v → EndsDown u b ((e, d) ∷ (e', d') ∷ m)
-              ends (up a q z) = let low = good.earlier u t.from-seen a in let e : p.place v ≡ p.place (parent es p u) = ap p.place z in absurd (omega arith)
+              ends (up a q z) = let low = good.earlier u t.from_seen a in let e : p.place v ≡ p.place (parent es p u) = ap p.place z in absurd (omega arith)
               ends (down a q z) = absurd (let y = far u v b e d ((e', d') ∷ m) i g (onward i' g' r) f (before fs o) t a q z in omega (arith, y.1))

@@ -32,12 +32,12 @@ climb es p (suc k) a b =
     (step_from es (p.edge a) a ∷ climb es p k (parent es p a) b)
     (climb es p k a (parent es p b) ++ (step_from es (p.edge b) (parent es p b) ∷ [])))
 
-unfoldable pub tree-path : List Simplex → Parents → ℕ → ℕ → List Step
-tree-path es p a b = climb es p (p.place a + p.place b) a b
+unfoldable pub tree_path : List Simplex → Parents → ℕ → ℕ → List Step
+tree_path es p a b = climb es p (p.place a + p.place b) a b
 
 -- the parents of the search from one root
-unfoldable pub parentsOf : Search → Parents
-parentsOf s =
+unfoldable pub parents_of : Search → Parents
+parents_of s =
     record {
       place = λ v. position eqb v s.seen;
       root = λ v. eqb (position eqb v s.seen) 0;
@@ -50,7 +50,7 @@ parentsOf s =
 pub record ParentsOf (es : List Simplex) (seen tree : List ℕ) (p : Parents) : Type 0 where
   pub apart : (v w : ℕ) → listed eqb v seen ≡ true → listed eqb w seen ≡ true → p.place v ≡ p.place w → v ≡ w
   pub edge : (v : ℕ) → listed eqb v seen ≡ true → p.root v ≡ false → In 0 (p.edge v) tree
-  pub parent-seen : (v : ℕ) → listed eqb v seen ≡ true → p.root v ≡ false → listed eqb (parent es p v) seen ≡ true
+  pub parent_seen : (v : ℕ) → listed eqb v seen ≡ true → p.root v ≡ false → listed eqb (parent es p v) seen ≡ true
   pub earlier : (v : ℕ) → listed eqb v seen ≡ true → p.root v ≡ false → p.place (parent es p v) < p.place v
   pub joins : (v : ℕ) → listed eqb v seen ≡ true → p.root v ≡ false → Joins (get_or es (p.edge v) []) (parent es p v) v
   pub led : (e : ℕ) → In 0 e tree → (v : ℕ) × (listed eqb v seen ≡ true) × (p.root v ≡ false) × (p.edge v ≡ e)

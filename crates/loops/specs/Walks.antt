@@ -11,8 +11,8 @@ Step = ℕ × ℤ
 abbrev pub edge_of : Step → ℕ
 edge_of s = s.0
 
-abbrev pub direction-of : Step → ℤ
-direction-of s = s.1
+abbrev pub direction_of : Step → ℤ
+direction_of s = s.1
 
 -- direction d takes the edge from u to v
 abbrev pub Goes : Simplex → ℤ → ℕ → ℕ → Type 0
@@ -34,6 +34,6 @@ pub record IsPath (es : List Simplex) (tree : List ℕ) (a b : ℕ) (path : List
   pub only : (w : List Step) → Walk es tree a w b → EdgesOnce w → w ≡ path
 
 -- the values on the edges, shifted along a walk: each step adds its direction on its edge
-unfoldable pub shifted-along : List Step → List ℤ → List ℤ
-shifted-along [] s = s
-shifted-along (t ∷ l) s = shifted-along l (shifted s (edge_of t) (direction-of t))
+unfoldable pub shifted_along : List Step → List ℤ → List ℤ
+shifted_along [] s = s
+shifted_along (t ∷ l) s = shifted_along l (shifted s (edge_of t) (direction_of t))

@@ -1,6 +1,6 @@
 // The path in the spanning tree between two vertices: the one found later climbs to its parent until they meet.
 ghost use Rattle.std.specs.Prelude.{◌≡◌, cond, ◌*◌, ◌<◌, eqb, pos, negsuc, get_or, length};
-ghost use Rattle.complex.specs.Complex.{entries, complexOf};
+ghost use Rattle.complex.specs.Complex.{entries, complex_of};
 ghost use Rattle.complex.specs.Search.{across};
 ghost use Rattle.loops.specs.Loops.{path};
 ghost use Rattle.loops.specs.Climbing.{Orderly, Noted, Parented, StepsFit, StepsPut};
@@ -53,7 +53,7 @@ fn direction(edges: &[u8; EDGE_ENTRIES], e: usize, v: usize) -> i8
 
 pub fn path_length(c: SimplicialComplex, parents: TreeParents, a: usize, b: usize) -> usize
     requires { Parented c parents × (a < c.n_vertices) × (b < c.n_vertices) }
-    ensures { result ≡ length (path (complexOf c) a b) }
+    ensures { result ≡ length (path (complex_of c) a b) }
 {
     let mut x = a;
     let mut y = b;
@@ -81,8 +81,8 @@ pub fn write_path(
     edges: &mut [u8],
     directions: &mut [i8],
 )
-    requires { Parented c parents × (a < c.n_vertices) × (b < c.n_vertices) × (count ≡ length (path (complexOf c) a b)) × StepsFit (path (complexOf c) a b) at edges.old directions.old }
-    ensures { StepsPut (path (complexOf c) a b) at edges.old directions.old edges.new directions.new }
+    requires { Parented c parents × (a < c.n_vertices) × (b < c.n_vertices) × (count ≡ length (path (complex_of c) a b)) × StepsFit (path (complex_of c) a b) at edges.old directions.old }
+    ensures { StepsPut (path (complex_of c) a b) at edges.old directions.old edges.new directions.new }
 {
     let mut x = a;
     let mut y = b;

@@ -1,11 +1,11 @@
 // The fundamental loops of a record.
 ghost use Rattle.std.specs.Prelude.{◌≡◌, ◌+◌, ◌<◌, ◌≤◌, length};
 ghost use Rattle.mathematics.specs.Calls.{Answered};
-ghost use Rattle.answers.specs.Answer.{numberAnswer};
-ghost use Rattle.complex.specs.Complex.{complexOf};
-ghost use Rattle.gauss_law.specs.Listing.{free-edges};
+ghost use Rattle.answers.specs.Answer.{number_answer};
+ghost use Rattle.complex.specs.Complex.{complex_of};
+ghost use Rattle.gauss_law.specs.Listing.{free_edges};
 ghost use Rattle.gauss_law.specs.Spanning.{FreeOf};
-ghost use Rattle.loops.specs.Loops.{loop-of, all-steps, loops-call, su2-loops-call};
+ghost use Rattle.loops.specs.Loops.{loop_of, all_steps, loops_call, su2_loops_call};
 ghost use Rattle.loops.specs.Climbing.{Parented, StepsFit, LoopPut, LoopsPut};
 
 use crate::climbing::{TreeParents, path_length, tree_parents, write_path};
@@ -23,7 +23,7 @@ pub const MOST_STEPS: usize = MOST_EDGES * MOST_EDGES;
 // The number of steps of the loop of edge f.
 fn loop_length(c: SimplicialComplex, parents: TreeParents, f: usize) -> usize
     requires { Parented c parents × (f < c.n_edges) }
-    ensures { result ≡ length (loop-of (complexOf c) f) }
+    ensures { result ≡ length (loop_of (complex_of c) f) }
 {
     let a = edge_start(&c.edges, f);
     let b = edge_end(&c.edges, f);
@@ -32,8 +32,8 @@ fn loop_length(c: SimplicialComplex, parents: TreeParents, f: usize) -> usize
 
 // The number of steps of all loops.
 fn total_steps(c: SimplicialComplex, parents: TreeParents, free: FreeEdges) -> usize
-    requires { Parented c parents × FreeOf (complexOf c) free }
-    ensures { result ≡ length (all-steps (complexOf c)) }
+    requires { Parented c parents × FreeOf (complex_of c) free }
+    ensures { result ≡ length (all_steps (complex_of c)) }
 {
     let mut total = 0;
     for j in 0..free.count {
@@ -51,8 +51,8 @@ fn put_loop(
     edges: &mut [u8],
     directions: &mut [i8],
 ) -> usize
-    requires { Parented c parents × (f < c.n_edges) × StepsFit (loop-of (complexOf c) f) at edges.old directions.old }
-    ensures { LoopPut (loop-of (complexOf c) f) at edges.old directions.old result edges.new directions.new }
+    requires { Parented c parents × (f < c.n_edges) × StepsFit (loop_of (complex_of c) f) at edges.old directions.old }
+    ensures { LoopPut (loop_of (complex_of c) f) at edges.old directions.old result edges.new directions.new }
 {
     let a = edge_start(&c.edges, f);
     let b = edge_end(&c.edges, f);
@@ -73,8 +73,8 @@ fn write_loops(
     edges: &mut [u8],
     directions: &mut [i8],
 )
-    requires { Parented c parents × FreeOf (complexOf c) free × (length (free-edges (complexOf c)) + 1 ≤ length starts.old) × StepsFit (all-steps (complexOf c)) 0 edges.old directions.old }
-    ensures { LoopsPut (complexOf c) starts.old edges.old directions.old starts.new edges.new directions.new }
+    requires { Parented c parents × FreeOf (complex_of c) free × (length (free_edges (complex_of c)) + 1 ≤ length starts.old) × StepsFit (all_steps (complex_of c)) 0 edges.old directions.old }
+    ensures { LoopsPut (complex_of c) starts.old edges.old directions.old starts.new edges.new directions.new }
 {
     let mut at = 0;
     for j in 0..free.count {
@@ -93,7 +93,7 @@ pub fn fundamental_loops(
     edges: &mut [u8],
     directions: &mut [i8],
 ) -> Answer
-    ensures { Answered (loops-call (complexOf c) starts.old edges.old directions.old) (numberAnswer result) (starts.new, edges.new, directions.new) }
+    ensures { Answered (loops_call (complex_of c) starts.old edges.old directions.old) (number_answer result) (starts.new, edges.new, directions.new) }
 {
     let number = judge(c);
     if number != 0 {
@@ -113,7 +113,7 @@ pub fn fundamental_loops(
 
 // The same without directions: they go to a list of its own, which has room for those of every record.
 pub fn su2_fundamental_loops(c: SimplicialComplex, starts: &mut [u32], edges: &mut [u8]) -> Answer
-    ensures { Answered (su2-loops-call (complexOf c) starts.old edges.old) (numberAnswer result) (starts.new, edges.new) }
+    ensures { Answered (su2_loops_call (complex_of c) starts.old edges.old) (number_answer result) (starts.new, edges.new) }
 {
     let mut directions = [0i8; MOST_STEPS];
     fundamental_loops(c, starts, edges, &mut directions)

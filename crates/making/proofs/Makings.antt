@@ -11,66 +11,66 @@ use lib.Dec.{eqb, ltb}
 use Rattle.mathematics.specs.Refusals.{Outcome, first}
 use Rattle.mathematics.specs.Calls.{Answered}
 use Rattle.mathematics.proofs.Tests.{and_parts}
-use Rattle.mathematics.proofs.Refusals.{first-none}
+use Rattle.mathematics.proofs.Refusals.{first_none}
 use Rattle.mathematics.proofs.Calls.{Tells, among}
-use Rattle.complex.specs.Complex.{simplices, complexOf}
-use Rattle.complex.specs.Judge.{counts-right, shape-tests, truncated-tests}
-use Rattle.complex.proofs.Simplices.{simplices-length}
-use Rattle.complex.proofs.Flattened.{simplices-front}
+use Rattle.complex.specs.Complex.{simplices, complex_of}
+use Rattle.complex.specs.Judge.{counts_right, shape_tests, truncated_tests}
+use Rattle.complex.proofs.Simplices.{simplices_length}
+use Rattle.complex.proofs.Flattened.{simplices_front}
 use Rattle.sheet.specs.declared.Sheet.{Sheet}
-use Rattle.sheet.specs.Sheet.{padded, sheetBytes, writing-tests, writing-call}
-use Rattle.sheet.proofs.RoundTrips.{read-written}
-use Rattle.making.specs.Making.{flatComplex, size-tests, making-tests, making-call, MadeThenRead}
+use Rattle.sheet.specs.Sheet.{padded, sheet_bytes, writing_tests, writing_call}
+use Rattle.sheet.proofs.RoundTrips.{read_written}
+use Rattle.making.specs.Making.{flat_complex, size_tests, making_tests, making_call, MadeThenRead}
 
-three-pass : (p q r : Bool) → ◌≡◌ {A = ℕ} (cond (not p) 4 (cond q 5 (cond (not r) 6 0))) 0 → (p ≡ true) × (q ≡ false) × (r ≡ true)
-three-pass false q r h = absurd (omega arith)
-three-pass true true r h = absurd (omega arith)
-three-pass true false false h = absurd (omega arith)
-three-pass true false true h = (refl, refl, refl)
+three_pass : (p q r : Bool) → ◌≡◌ {A = ℕ} (cond (not p) 4 (cond q 5 (cond (not r) 6 0))) 0 → (p ≡ true) × (q ≡ false) × (r ≡ true)
+three_pass false q r h = absurd (omega arith)
+three_pass true true r h = absurd (omega arith)
+three_pass true false false h = absurd (omega arith)
+three_pass true false true h = (refl, refl, refl)
 
 -- sizes that passed their tests
 pub record Sizes (n : ℕ) (edges triangles : List ℕ) (lambda : ℕ) : Type 0 where
-  pub counts-pass : counts-right n (length edges / 2) (length triangles / 3) ≡ true
+  pub counts_pass : counts_right n (length edges / 2) (length triangles / 3) ≡ true
   pub truncation : ltb 1000 lambda ≡ false
   pub multiples : (eqb (length edges % 2) 0 && eqb (length triangles % 3) 0) ≡ true
   pub pairs : length edges ≡ 2 * (length edges / 2)
   pub triples : length triangles ≡ 3 * (length triangles / 3)
 
-pub sizes-of : (n : ℕ) (edges triangles : List ℕ) (lambda : ℕ) → first (size-tests n edges triangles lambda) ≡ 0 → Sizes n edges triangles lambda
-unfolding first size-tests
-sizes-of n edges triangles lambda h =
-    let p = three-pass (counts-right n (length edges / 2) (length triangles / 3)) (ltb 1000 lambda) (eqb (length edges % 2) 0 && eqb (length triangles % 3) 0) h in
+pub sizes_of : (n : ℕ) (edges triangles : List ℕ) (lambda : ℕ) → first (size_tests n edges triangles lambda) ≡ 0 → Sizes n edges triangles lambda
+unfolding first size_tests
+sizes_of n edges triangles lambda h =
+    let p = three_pass (counts_right n (length edges / 2) (length triangles / 3)) (ltb 1000 lambda) (eqb (length edges % 2) 0 && eqb (length triangles % 3) 0) h in
     let q = and_parts (eqb (length edges % 2) 0) (eqb (length triangles % 3) 0) p.2 in
     let even = eqb-true (length edges % 2) 0 q.0 in
     let third = eqb-true (length triangles % 3) 0 q.1 in
-    record { counts-pass = p.0; truncation = p.1; multiples = p.2; pairs = omega arith; triples = omega arith }
+    record { counts_pass = p.0; truncation = p.1; multiples = p.2; pairs = omega arith; triples = omega arith }
 
 -- the simplices of a whole list, with zeros behind it
-pub whole-list : (k m : ℕ) (l : List ℕ) (n : ℕ) → length l ≡ k * n → simplices k (padded m (take (length l) (drop 0 l))) n ≡ simplices k l n
+pub whole_list : (k m : ℕ) (l : List ℕ) (n : ℕ) → length l ≡ k * n → simplices k (padded m (take (length l) (drop 0 l))) n ≡ simplices k l n
 unfolding padded
-whole-list k m l n long = rw (take-length l) (simplices-front k l (replicate (m - length l) 0) n (omega arith))
+whole_list k m l n long = rw (take-length l) (simplices_front k l (replicate (m - length l) 0) n (omega arith))
 
 module _ (n : ℕ) (edges triangles : List ℕ) (lambda : ℕ) where
   -- sizes that are refused
-  pub sizes-refuse : {k : ℕ} → k ≡ first (size-tests n edges triangles lambda) → (k ≡ 0 → ⊥) → (rest : List (ℕ × Bool)) → Tells (size-tests n edges triangles lambda ++ rest) k
-  sizes-refuse e some rest = among (size-tests n edges triangles lambda) rest e some
+  pub sizes_refuse : {k : ℕ} → k ≡ first (size_tests n edges triangles lambda) → (k ≡ 0 → ⊥) → (rest : List (ℕ × Bool)) → Tells (size_tests n edges triangles lambda ++ rest) k
+  sizes_refuse e some rest = among (size_tests n edges triangles lambda) rest e some
 
   -- past the sizes, what is judged in writing is what is judged in making
-  same-refusal : first (size-tests n edges triangles lambda) ≡ 0 → (room : ℕ) → first (writing-tests (flatComplex n edges triangles) lambda room) ≡ first (making-tests n edges triangles lambda room)
-  unfolding first size-tests flatComplex
-  same-refusal h room =
-      let s = sizes-of n edges triangles lambda h in
-      rw (simplices-length 2 edges (length edges / 2), simplices-length 3 triangles (length triangles / 3), s.counts-pass, s.truncation, s.multiples)
+  same_refusal : first (size_tests n edges triangles lambda) ≡ 0 → (room : ℕ) → first (writing_tests (flat_complex n edges triangles) lambda room) ≡ first (making_tests n edges triangles lambda room)
+  unfolding first size_tests flat_complex
+  same_refusal h room =
+      let s = sizes_of n edges triangles lambda h in
+      rw (simplices_length 2 edges (length edges / 2), simplices_length 3 triangles (length triangles / 3), s.counts_pass, s.truncation, s.multiples)
 
-  pub made_by : first (size-tests n edges triangles lambda) ≡ 0 → (old : List ℕ) {a : Outcome ℕ} {new : List ℕ} → Answered (writing-call (flatComplex n edges triangles) lambda old) a new → Answered (making-call n edges triangles lambda old) a new
-  unfolding writing-call making-call
+  pub made_by : first (size_tests n edges triangles lambda) ≡ 0 → (old : List ℕ) {a : Outcome ℕ} {new : List ℕ} → Answered (writing_call (flat_complex n edges triangles) lambda old) a new → Answered (making_call n edges triangles lambda old) a new
+  unfolding writing_call making_call
   made_by h old w =
-      let e = same-refusal h (length old) in
+      let e = same_refusal h (length old) in
       record { answer = rw e at w.answer; lists = rw e at w.lists; known = λ z. w.known (e ∙ z) }
 
 -- ---- what is made is read back
-abbrev flat-sheet : ℕ → List ℕ → List ℕ → ℕ → Sheet
-flat-sheet n edges triangles lambda =
+abbrev flat_sheet : ℕ → List ℕ → List ℕ → ℕ → Sheet
+flat_sheet n edges triangles lambda =
     record {
       complex = record {
         n_vertices = n;
@@ -82,18 +82,18 @@ flat-sheet n edges triangles lambda =
       lambda = lambda;
     }
 
-flat-is : (n : ℕ) (edges triangles : List ℕ) (lambda : ℕ) → first (size-tests n edges triangles lambda) ≡ 0 → complexOf (flat-sheet n edges triangles lambda).complex ≡ flatComplex n edges triangles
-unfolding complexOf flatComplex
-flat-is n edges triangles lambda h =
-    let s = sizes-of n edges triangles lambda h in
-    rw (whole-list 2 126 edges (length edges / 2) s.pairs, whole-list 3 768 triangles (length triangles / 3) s.triples)
+flat_is : (n : ℕ) (edges triangles : List ℕ) (lambda : ℕ) → first (size_tests n edges triangles lambda) ≡ 0 → complex_of (flat_sheet n edges triangles lambda).complex ≡ flat_complex n edges triangles
+unfolding complex_of flat_complex
+flat_is n edges triangles lambda h =
+    let s = sizes_of n edges triangles lambda h in
+    rw (whole_list 2 126 edges (length edges / 2) s.pairs, whole_list 3 768 triangles (length triangles / 3) s.triples)
 
-pub made-read : MadeThenRead
-made-read n edges triangles lambda room none =
-    let c = flatComplex n edges triangles in
-    let full : List (ℕ × Bool) = (15, ltb room (length (sheetBytes c lambda))) ∷ [] in
-    let h = first-none (size-tests n edges triangles lambda) (shape-tests c ++ full) none in
-    let is = flat-is n edges triangles lambda h in
-    let fine : first (truncated-tests c lambda) ≡ 0 = first-none (truncated-tests c lambda) full (same-refusal n edges triangles lambda h room ∙ none) in
-    let back = read-written (flat-sheet n edges triangles lambda) (rw is fine) in
+pub made_read : MadeThenRead
+made_read n edges triangles lambda room none =
+    let c = flat_complex n edges triangles in
+    let full : List (ℕ × Bool) = (15, ltb room (length (sheet_bytes c lambda))) ∷ [] in
+    let h = first_none (size_tests n edges triangles lambda) (shape_tests c ++ full) none in
+    let is = flat_is n edges triangles lambda h in
+    let fine : first (truncated_tests c lambda) ≡ 0 = first_none (truncated_tests c lambda) full (same_refusal n edges triangles lambda h room ∙ none) in
+    let back = read_written (flat_sheet n edges triangles lambda) (rw is fine) in
     record { answer = rw is at back.answer; complex = rw is at back.complex; truncation = rw is at back.truncation }

@@ -14,40 +14,40 @@ use lib.ListN.{get_or, length, drop, set, length-set, length-map, length-append,
 use lib.Seq.{get_or-set_same, get_or-set_other, get_or-append-add, get_or-drop, ext_get_or}
 use Rattle.mathematics.specs.Counting.{below}
 use Rattle.mathematics.specs.Writing.{front}
-use Rattle.mathematics.proofs.Below.{length-below, map-below-at}
-use Rattle.mathematics.proofs.Flat.{flatten-length, flatten-at}
+use Rattle.mathematics.proofs.Below.{length_below, map_below_at}
+use Rattle.mathematics.proofs.Flat.{flatten_length, flatten_at}
 use Rattle.matrices.specs.Coupling.{float_of}
-use Rattle.matrices.specs.Matrix.{matrix-rows, Matrix, passed}
+use Rattle.matrices.specs.Matrix.{matrix_rows, Matrix, passed}
 
 -- a place in row i is below the next row
-row-end : (n i j : ℕ) → j < n → i * n + j < suc i * n
-row-end n i j h = omega (arith, suc-mul i n)
+row_end : (n i j : ℕ) → j < n → i * n + j < suc i * n
+row_end n i j h = omega (arith, suc-mul i n)
 
-pub in-matrix : (n i j : ℕ) → i < n → j < n → i * n + j < n * n
-in-matrix n i j h k = omega (arith, row-end n i j k, mul-le-mul h (le_refl n))
+pub in_matrix : (n i j : ℕ) → i < n → j < n → i * n + j < n * n
+in_matrix n i j h k = omega (arith, row_end n i j k, mul-le-mul h (le_refl n))
 
 -- rows and columns are read off a place
 same_row : (n i j a b : ℕ) → j < n → b < n → i * n + j ≡ a * n + b → i ≡ a
 same_row n i j a b h k e = go (dec_lt i a) (dec_lt a i)
   where
     go : Dec (i < a) → Dec (a < i) → i ≡ a
-    go (yes l) r = absurd (omega (arith, e, row-end n i j h, mul-le-mul l (le_refl n)))
-    go (no l) (yes r) = absurd (omega (arith, e, row-end n a b k, mul-le-mul r (le_refl n)))
+    go (yes l) r = absurd (omega (arith, e, row_end n i j h, mul-le-mul l (le_refl n)))
+    go (no l) (yes r) = absurd (omega (arith, e, row_end n a b k, mul-le-mul r (le_refl n)))
     go (no l) (no r) = omega arith
 
 module _ (f : ℕ → ℕ → Float) (n : ℕ) (old new : List Float) (m : Matrix f n old new) (room : n * n ≤ length old) where
   -- x is added to entry (a, b)
-  pub matrix-add : (a b : ℕ) → a < n → b < n → (x : Float)
+  pub matrix_add : (a b : ℕ) → a < n → b < n → (x : Float)
       → Matrix (λ i j. cond (eqb i a && eqb j b) (add binary64 (f i j) x) (f i j)) n old (set new (a * n + b) (add binary64 (get_or new (a * n + b) nan) x))
-  matrix-add a b ha hb x =
+  matrix_add a b ha hb x =
       record {
         long = length-set new (a * n + b) (add binary64 (get_or new (a * n + b) nan) x) ∙ m.long;
         entries = λ i j hi hj. go i j hi hj (ℕ_discrete i a) (ℕ_discrete j b);
-        beyond = λ k h. get_or-set_other new (a * n + b) k _ nan (λ e. absurd (omega (arith, e, in-matrix n a b ha hb))) ∙ m.beyond k h;
+        beyond = λ k h. get_or-set_other new (a * n + b) k _ nan (λ e. absurd (omega (arith, e, in_matrix n a b ha hb))) ∙ m.beyond k h;
       }
     where
       here : a * n + b < length new
-      here = omega (arith, in-matrix n a b ha hb, m.long)
+      here = omega (arith, in_matrix n a b ha hb, m.long)
 
       other : (i j : ℕ) → i < n → j < n → ((i ≡ a) × (j ≡ b) → ⊥) → get_or (set new (a * n + b) (add binary64 (get_or new (a * n + b) nan) x)) (i * n + j) nan ≡ f i j
       other i j hi hj d =
@@ -67,40 +67,40 @@ module _ (f : ℕ → ℕ → Float) (n : ℕ) where
   abbrev lines : List (List Float)
   lines = map (λ i. map (λ j. f i j) (below n)) (below n)
 
-  lines-many : length lines ≡ n
-  lines-many = length-map (below n) (λ i. map (λ j. f i j) (below n)) ∙ length-below n
+  lines_many : length lines ≡ n
+  lines_many = length-map (below n) (λ i. map (λ j. f i j) (below n)) ∙ length_below n
 
   line_at : (i : ℕ) → i < n → get_or lines i [] ≡ map (λ j. f i j) (below n)
-  line_at i h = map-below-at (λ i. map (λ j. f i j) (below n)) n i [] h
+  line_at i h = map_below_at (λ i. map (λ j. f i j) (below n)) n i [] h
 
-  line-long : (i : ℕ) → i < length lines → length (get_or lines i []) ≡ n
-  line-long i h = ap length (line_at i (rw (← lines-many) h)) ∙ length-map (below n) (λ j. f i j) ∙ length-below n
+  line_long : (i : ℕ) → i < length lines → length (get_or lines i []) ≡ n
+  line_long i h = ap length (line_at i (rw (← lines_many) h)) ∙ length-map (below n) (λ j. f i j) ∙ length_below n
 
-  pub rows-length : length (matrix-rows f n) ≡ n * n
-  unfolding matrix-rows
-  rows-length = flatten-length n lines line-long ∙ ap (λ (k : ℕ). n * k) lines-many
+  pub rows_length : length (matrix_rows f n) ≡ n * n
+  unfolding matrix_rows
+  rows_length = flatten_length n lines line_long ∙ ap (λ (k : ℕ). n * k) lines_many
 
-  rows_at : (rest : List Float) (i j : ℕ) → i < n → j < n → get_or (matrix-rows f n ++ rest) (i * n + j) nan ≡ f i j
-  unfolding matrix-rows
+  rows_at : (rest : List Float) (i j : ℕ) → i < n → j < n → get_or (matrix_rows f n ++ rest) (i * n + j) nan ≡ f i j
+  unfolding matrix_rows
   rows_at rest i j h k =
       ap (λ (m : ℕ). get_or (flatten lines ++ rest) (m + j) nan) (mul_comm i n)
-      ∙ flatten-at n nan lines rest line-long i j (rw lines-many h) k
-      ∙ ap (λ (l : List Float). get_or l j nan) (line_at i h) ∙ map-below-at (λ j. f i j) n j nan k
+      ∙ flatten_at n nan lines rest line_long i j (rw lines_many h) k
+      ∙ ap (λ (l : List Float). get_or l j nan) (line_at i h) ∙ map_below_at (λ j. f i j) n j nan k
 
-  pub matrix-is : (old new : List Float) → Matrix f n old new → n * n ≤ length old → new ≡ front (matrix-rows f n) old
-  matrix-is old new m room =
-      ext_get_or nan new (matrix-rows f n ++ drop (n * n) old) same (λ k h. each k h (dec_lt k (n * n))) ∙ ap (λ (k : ℕ). matrix-rows f n ++ drop k old) (sym rows-length)
+  pub matrix_is : (old new : List Float) → Matrix f n old new → n * n ≤ length old → new ≡ front (matrix_rows f n) old
+  matrix_is old new m room =
+      ext_get_or nan new (matrix_rows f n ++ drop (n * n) old) same (λ k h. each k h (dec_lt k (n * n))) ∙ ap (λ (k : ℕ). matrix_rows f n ++ drop k old) (sym rows_length)
     where
-      same : length new ≡ length (matrix-rows f n ++ drop (n * n) old)
-      same = m.long ∙ sym (length-append (matrix-rows f n) (drop (n * n) old) ∙ rw (rows-length, length-drop (n * n) old) (omega arith))
+      same : length new ≡ length (matrix_rows f n ++ drop (n * n) old)
+      same = m.long ∙ sym (length-append (matrix_rows f n) (drop (n * n) old) ∙ rw (rows_length, length-drop (n * n) old) (omega arith))
 
-      each : (k : ℕ) → k < length new → Dec (k < n * n) → get_or new k nan ≡ get_or (matrix-rows f n ++ drop (n * n) old) k nan
+      each : (k : ℕ) → k < length new → Dec (k < n * n) → get_or new k nan ≡ get_or (matrix_rows f n ++ drop (n * n) old) k nan
       each k h (yes l) =
           let some : 0 < n = positive n l in
           let row : k / n < n = (div-lt_iff_lt-mul some).1 l in
           let column : k % n < n = mod-lt k some in
           ap (λ (i : ℕ). get_or new i nan) (sym (div-add-mod' k n)) ∙ m.entries (k / n) (k % n) row column
-          ∙ sym (rows_at (drop (n * n) old) (k / n) (k % n) row column) ∙ ap (λ (i : ℕ). get_or (matrix-rows f n ++ drop (n * n) old) i nan) (div-add-mod' k n)
+          ∙ sym (rows_at (drop (n * n) old) (k / n) (k % n) row column) ∙ ap (λ (i : ℕ). get_or (matrix_rows f n ++ drop (n * n) old) i nan) (div-add-mod' k n)
         where
           positive : (n : ℕ) → k < n * n → 0 < n
           positive zero l = absurd (omega arith)
@@ -108,12 +108,12 @@ module _ (f : ℕ → ℕ → Float) (n : ℕ) where
       each k h (no l) =
           let e : n * n + (k - n * n) ≡ k = omega arith in
           m.beyond k (omega arith)
-          ∙ sym (ap (λ (i : ℕ). get_or (matrix-rows f n ++ drop (n * n) old) i nan) (sym e)
-          ∙ (rw rows-length at (get_or-append-add (matrix-rows f n) (drop (n * n) old) (k - n * n) nan)) ∙ get_or-drop (n * n) old (k - n * n) nan ∙ ap (λ (i : ℕ). get_or old i nan) e)
+          ∙ sym (ap (λ (i : ℕ). get_or (matrix_rows f n ++ drop (n * n) old) i nan) (sym e)
+          ∙ (rw rows_length at (get_or-append-add (matrix_rows f n) (drop (n * n) old) (k - n * n) nan)) ∙ get_or-drop (n * n) old (k - n * n) nan ∙ ap (λ (i : ℕ). get_or old i nan) e)
 
 -- ---- entries that are said in another way
-pub matrix-same : (f g : ℕ → ℕ → Float) (n : ℕ) (old new : List Float) → ((i j : ℕ) → i < n → j < n → f i j ≡ g i j) → Matrix f n old new → Matrix g n old new
-matrix-same f g n old new same m = record { long = m.long; entries = λ i j h k. m.entries i j h k ∙ same i j h k; beyond = m.beyond }
+pub matrix_same : (f g : ℕ → ℕ → Float) (n : ℕ) (old new : List Float) → ((i j : ℕ) → i < n → j < n → f i j ≡ g i j) → Matrix f n old new → Matrix g n old new
+matrix_same f g n old new same m = record { long = m.long; entries = λ i j h k. m.entries i j h k ∙ same i j h k; beyond = m.beyond }
 
 -- ---- zeros
 -- the first k entries are zeros
@@ -122,8 +122,8 @@ pub record Cleared (k : ℕ) (old new : List Float) : Type 0 where
   pub zeros : (i : ℕ) → i < k → get_or new i nan ≡ float_of 0
   pub beyond : (i : ℕ) → k ≤ i → get_or new i nan ≡ get_or old i nan
 
-pub cleared-none : (old : List Float) → Cleared 0 old old
-cleared-none old = record { long = refl; zeros = λ i h. absurd (omega arith); beyond = λ i h. refl }
+pub cleared_none : (old : List Float) → Cleared 0 old old
+cleared_none old = record { long = refl; zeros = λ i h. absurd (omega arith); beyond = λ i h. refl }
 
 pub cleared_more : (k : ℕ) (old new : List Float) → Cleared k old new → k < length old → Cleared (k + 1) old (set new k (float_of 0))
 cleared_more k old new m room =
@@ -137,20 +137,20 @@ cleared_more k old new m room =
     go i h (yes e) = rw e (get_or-set_same new k (float_of 0) nan (omega (arith, m.long)))
     go i h (no e) = get_or-set_other new k i (float_of 0) nan e ∙ m.zeros i (omega arith)
 
-pub cleared-matrix : (n : ℕ) (old new : List Float) → Cleared (n * n) old new → Matrix (λ i j. float_of 0) n old new
-cleared-matrix n old new m = record { long = m.long; entries = λ i j h k. m.zeros (i * n + j) (in-matrix n i j h k); beyond = m.beyond }
+pub cleared_matrix : (n : ℕ) (old new : List Float) → Cleared (n * n) old new → Matrix (λ i j. float_of 0) n old new
+cleared_matrix n old new m = record { long = m.long; entries = λ i j h k. m.zeros (i * n + j) (in_matrix n i j h k); beyond = m.beyond }
 
 -- ---- one entry of each row
 -- a bound one higher matters to the number itself alone
-pub one-higher : (i k : ℕ) → i ≢ k → ltb i (k + 1) ≡ ltb i k
-one-higher i k d = go (dec_lt i k)
+pub one_higher : (i k : ℕ) → i ≢ k → ltb i (k + 1) ≡ ltb i k
+one_higher i k d = go (dec_lt i k)
   where
     go : Dec (i < k) → ltb i (k + 1) ≡ ltb i k
     go (yes h) = lt-ltb i (k + 1) (omega arith) ∙ sym (lt-ltb i k h)
     go (no h) = le-ltb i (k + 1) (omega arith) ∙ sym (le-ltb i k (omega arith))
 
-same-turned : (i j : ℕ) → eqb i j ≡ eqb j i
-same-turned i j = go (ℕ_discrete i j)
+same_turned : (i j : ℕ) → eqb i j ≡ eqb j i
+same_turned i j = go (ℕ_discrete i j)
   where
     go : Dec (i ≡ j) → eqb i j ≡ eqb j i
     go (yes e) = eq-eqb i j e ∙ sym (eq-eqb j i (sym e))
@@ -161,18 +161,18 @@ module _ (f : ℕ → ℕ → Float) (g : ℕ → ℕ) (x : ℕ → Float) where
   unfolding passed
   passed_none i j = rw (le-ltb i 0 (omega arith))
 
-  pub passed-all : (n i j : ℕ) → i < n → passed f g x n i j ≡ cond (eqb (g i) j) (add binary64 (f i j) (x i)) (f i j)
+  pub passed_all : (n i j : ℕ) → i < n → passed f g x n i j ≡ cond (eqb (g i) j) (add binary64 (f i j) (x i)) (f i j)
   unfolding passed
-  passed-all n i j h = rw (lt-ltb i n h)
+  passed_all n i j h = rw (lt-ltb i n h)
 
-  pub passed-more : (n : ℕ) (old new : List Float) (k : ℕ) → Matrix (passed f g x k) n old new → n * n ≤ length old → k < n → g k < n
+  pub passed_more : (n : ℕ) (old new : List Float) (k : ℕ) → Matrix (passed f g x k) n old new → n * n ≤ length old → k < n → g k < n
       → Matrix (passed f g x (k + 1)) n old (set new (k * n + g k) (add binary64 (get_or new (k * n + g k) nan) (x k)))
   unfolding passed
-  passed-more n old new k m room h there =
-      matrix-same (λ i j. cond (eqb i k && eqb j (g k)) (add binary64 (passed f g x k i j) (x k)) (passed f g x k i j)) (passed f g x (k + 1)) n old
+  passed_more n old new k m room h there =
+      matrix_same (λ i j. cond (eqb i k && eqb j (g k)) (add binary64 (passed f g x k i j) (x k)) (passed f g x k i j)) (passed f g x (k + 1)) n old
       (set new (k * n + g k) (add binary64 (get_or new (k * n + g k) nan) (x k))) (λ i j a b. go i j (ℕ_discrete i k))
-      (matrix-add (passed f g x k) n old new m room k (g k) h there (x k))
+      (matrix_add (passed f g x k) n old new m room k (g k) h there (x k))
     where
       go : (i j : ℕ) → Dec (i ≡ k) → cond (eqb i k && eqb j (g k)) (add binary64 (passed f g x k i j) (x k)) (passed f g x k i j) ≡ passed f g x (k + 1) i j
-      go i j (yes e) = rw (e, eq-eqb k k refl, le-ltb k k (omega arith), lt-ltb k (k + 1) (omega arith), same-turned j (g k))
-      go i j (no e) = rw (ne_eqb i k e, one-higher i k e)
+      go i j (yes e) = rw (e, eq-eqb k k refl, le-ltb k k (omega arith), lt-ltb k (k + 1) (omega arith), same_turned j (g k))
+      go i j (no e) = rw (ne_eqb i k e, one_higher i k e)

@@ -10,19 +10,19 @@ use lib.Ieee.{binary64, in_float}
 use lib.Dec.{le→leb}
 use Rattle.matrices.specs.Squares.{squares}
 
-pub square-is : (x : ℤ) → x *ℤ x ≡ pos (nat_abs x * nat_abs x)
-square-is (pos n) = refl
-square-is (negsuc n) = refl
+pub square_is : (x : ℤ) → x *ℤ x ≡ pos (nat_abs x * nat_abs x)
+square_is (pos n) = refl
+square_is (negsuc n) = refl
 
-pub square-small : (x : ℤ) → nat_abs x ≤ 1000 → nat_abs x * nat_abs x ≤ 1000000
-square-small x h = mul-le-mul h h
+pub square_small : (x : ℤ) → nat_abs x ≤ 1000 → nat_abs x * nat_abs x ≤ 1000000
+square_small x h = mul-le-mul h h
 
-pub squares-last : (s : List ℤ) (x : ℤ) → squares (s ++ (x ∷ [])) ≡ squares s + nat_abs x * nat_abs x
+pub squares_last : (s : List ℤ) (x : ℤ) → squares (s ++ (x ∷ [])) ≡ squares s + nat_abs x * nat_abs x
 unfolding squares
-squares-last [] x = omega arith
-squares-last (y ∷ s) x = ap (λ (k : ℕ). nat_abs y * nat_abs y + k) (squares-last s x) ∙ sym (add_assoc (nat_abs y * nat_abs y) (squares s) (nat_abs x * nat_abs x))
+squares_last [] x = omega arith
+squares_last (y ∷ s) x = ap (λ (k : ℕ). nat_abs y * nat_abs y + k) (squares_last s x) ∙ sym (add_assoc (nat_abs y * nat_abs y) (squares s) (nat_abs x * nat_abs x))
 
 -- a whole number that a float holds
-pub whole-held : (n : ℕ) → n ≤ 2 ^ 53 → T (in_float binary64 (pos n))
+pub whole_held : (n : ℕ) → n ≤ 2 ^ 53 → T (in_float binary64 (pos n))
 unfolding in_float
-whole-held n h = le→leb n (2 ^ 53) h
+whole_held n h = le→leb n (2 ^ 53) h

@@ -8,79 +8,79 @@ use lib.Ieee.{Float}
 use lib.ListN.{length}
 use native.Mathlib.Omega.{arith}
 use borrow.Author.Tests.{eqb-true, not-false}
-use Rattle.mathematics.specs.Tests.{every-entry}
+use Rattle.mathematics.specs.Tests.{every_entry}
 use Rattle.mathematics.specs.Refusals.{first}
 use Rattle.mathematics.proofs.Refusals.{numbered}
-use Rattle.mathematics.proofs.Tests.{or-fell}
+use Rattle.mathematics.proofs.Tests.{or_fell}
 use Rattle.mathematics.proofs.Calls.{Tells, among, past_all}
-use Rattle.matrices.specs.Weights.{bounded, weights-tests, vector-tests, Weighed}
+use Rattle.matrices.specs.Weights.{bounded, weights_tests, vector_tests, Weighed}
 
 -- the judge of the weights tells which of its two tests holds
-first-told : (a b : Bool) → eqb (cond {A = ℕ} a 12 (cond b 14 0)) 12 ≡ a
-first-told true b = refl
-first-told false true = refl
-first-told false false = refl
+first_told : (a b : Bool) → eqb (cond {A = ℕ} a 12 (cond b 14 0)) 12 ≡ a
+first_told true b = refl
+first_told false true = refl
+first_told false false = refl
 
-second-told : (a b : Bool) → a ≡ false → not (eqb (cond {A = ℕ} a 12 (cond b 14 0)) 0) ≡ b
-second-told true b h = absurd (true≢false h)
-second-told false true h = refl
-second-told false false h = refl
+second_told : (a b : Bool) → a ≡ false → not (eqb (cond {A = ℕ} a 12 (cond b 14 0)) 0) ≡ b
+second_told true b h = absurd (true≢false h)
+second_told false true h = refl
+second_told false false h = refl
 
 module _ (n : ℕ) (v : List Float) (triangles : ℕ) (right given : Bool) (weights : List Float) where
   abbrev miscounted : Bool
   miscounted = given && not (eqb (length weights) triangles)
 
   abbrev unfit : Bool
-  unfit = not right || (given && not (every-entry bounded weights))
+  unfit = not right || (given && not (every_entry bounded weights))
 
   abbrev tests : List (ℕ × Bool)
-  tests = vector-tests n v triangles right given weights
+  tests = vector_tests n v triangles right given weights
 
-  module _ (wrong : ℕ) (is : wrong ≡ first (weights-tests triangles right given weights)) where
+  module _ (wrong : ℕ) (is : wrong ≡ first (weights_tests triangles right given weights)) where
     counts : eqb wrong 12 ≡ miscounted
-    unfolding weights-tests first
-    counts = rw is (first-told miscounted unfit)
+    unfolding weights_tests first
+    counts = rw is (first_told miscounted unfit)
 
-    pub number-told : (eqb wrong 12 || not (eqb (length v) n)) ≡ true → 12 ≡ first tests
-    unfolding vector-tests first
-    number-told h = let e = rw counts at h in rw e
+    pub number_told : (eqb wrong 12 || not (eqb (length v) n)) ≡ true → 12 ≡ first tests
+    unfolding vector_tests first
+    number_told h = let e = rw counts at h in rw e
 
     module _ (fits : (eqb wrong 12 || not (eqb (length v) n)) ≡ false) where
       fit : (miscounted || not (eqb (length v) n)) ≡ false
       fit = rw counts at fits
 
       ranges : not (eqb wrong 0) ≡ unfit
-      unfolding weights-tests first
-      ranges = rw is (second-told miscounted unfit (or-fell miscounted _ fit).0)
+      unfolding weights_tests first
+      ranges = rw is (second_told miscounted unfit (or_fell miscounted _ fit).0)
 
-      pub range-told : (not (eqb wrong 0) || not (every-entry bounded v)) ≡ true → 14 ≡ first tests
-      unfolding vector-tests first
-      range-told h = let e = rw ranges at h in rw (fit, e)
+      pub range_told : (not (eqb wrong 0) || not (every_entry bounded v)) ≡ true → 14 ≡ first tests
+      unfolding vector_tests first
+      range_told h = let e = rw ranges at h in rw (fit, e)
 
-      pub right-told : (not (eqb wrong 0) || not (every-entry bounded v)) ≡ false → 0 ≡ first tests
-      unfolding vector-tests first
-      right-told h = let e = rw ranges at h in rw (fit, e)
+      pub right_told : (not (eqb wrong 0) || not (every_entry bounded v)) ≡ false → 0 ≡ first tests
+      unfolding vector_tests first
+      right_told h = let e = rw ranges at h in rw (fit, e)
 
   -- they are refused, or what is judged after them decides
-  pub vector-refuses : {k : ℕ} → k ≡ first tests → (k ≡ 0 → ⊥) → (rest : List (ℕ × Bool)) → Tells (tests ++ rest) k
-  vector-refuses e some rest = among tests rest e some
+  pub vector_refuses : {k : ℕ} → k ≡ first tests → (k ≡ 0 → ⊥) → (rest : List (ℕ × Bool)) → Tells (tests ++ rest) k
+  vector_refuses e some rest = among tests rest e some
 
-  pub past-vector : first tests ≡ 0 → {rest : List (ℕ × Bool)} {k : ℕ} → Tells rest k → Tells (tests ++ rest) k
-  unfolding vector-tests numbered every-entry
-  past-vector h t = past_all tests refl h t
+  pub past_vector : first tests ≡ 0 → {rest : List (ℕ × Bool)} {k : ℕ} → Tells rest k → Tells (tests ++ rest) k
+  unfolding vector_tests numbered every_entry
+  past_vector h t = past_all tests refl h t
 
   -- weights and amplitudes that pass are one for each triangle and one for each state
   module _ (h : first tests ≡ 0) where
-    none-miscounted : (miscounted || not (eqb (length v) n)) ≡ false
-    unfolding vector-tests first
-    none-miscounted = go (miscounted || not (eqb (length v) n)) (unfit || not (every-entry bounded v)) h
+    none_miscounted : (miscounted || not (eqb (length v) n)) ≡ false
+    unfolding vector_tests first
+    none_miscounted = go (miscounted || not (eqb (length v) n)) (unfit || not (every_entry bounded v)) h
       where
         go : (a b : Bool) → ◌≡◌ {A = ℕ} (cond a 12 (cond b 14 0)) 0 → a ≡ false
         go true b k = absurd (omega (arith, k))
         go false b k = refl
 
-    pub weights-fit : Weighed triangles given weights
-    weights-fit = record { one_each = λ some. eqb-true _ _ (not-false _ (rw some at (or-fell miscounted _ none-miscounted).0)) }
+    pub weights_fit : Weighed triangles given weights
+    weights_fit = record { one_each = λ some. eqb-true _ _ (not-false _ (rw some at (or_fell miscounted _ none_miscounted).0)) }
 
-    pub vector-fits : length v ≡ n
-    vector-fits = eqb-true _ _ (not-false _ (or-fell miscounted _ none-miscounted).1)
+    pub vector_fits : length v ≡ n
+    vector_fits = eqb-true _ _ (not-false _ (or_fell miscounted _ none_miscounted).1)

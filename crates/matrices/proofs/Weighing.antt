@@ -8,53 +8,53 @@ use borrow.Author.Tests.{eqb-true}
 use lib.Dec.{eqb}
 use lib.Ieee.{Float}
 use lib.ListN.{length}
-use Rattle.mathematics.specs.Tests.{every-entry}
+use Rattle.mathematics.specs.Tests.{every_entry}
 use Rattle.mathematics.specs.Refusals.{first}
 use Rattle.mathematics.proofs.Refusals.{numbered}
 use Rattle.mathematics.proofs.Calls.{Tells, among, past_all}
-use Rattle.matrices.specs.Weights.{bounded, weights-tests, Weighed}
+use Rattle.matrices.specs.Weights.{bounded, weights_tests, Weighed}
 
 module _ (n : ℕ) (right given : Bool) (weights : List Float) where
-  pub number-told : (given && not (eqb (length weights) n)) ≡ true → 12 ≡ first (weights-tests n right given weights)
-  unfolding weights-tests first
-  number-told h = rw h
+  pub number_told : (given && not (eqb (length weights) n)) ≡ true → 12 ≡ first (weights_tests n right given weights)
+  unfolding weights_tests first
+  number_told h = rw h
 
   module _ (fits : (given && not (eqb (length weights) n)) ≡ false) where
-    pub coupling-told : right ≡ false → 14 ≡ first (weights-tests n right given weights)
-    unfolding weights-tests first
-    coupling-told h = rw (fits, h)
+    pub coupling_told : right ≡ false → 14 ≡ first (weights_tests n right given weights)
+    unfolding weights_tests first
+    coupling_told h = rw (fits, h)
 
     module _ (is : right ≡ true) where
-      pub absent-told : given ≡ false → 0 ≡ first (weights-tests n right given weights)
-      unfolding weights-tests first
-      absent-told h = rw (is, h)
+      pub absent_told : given ≡ false → 0 ≡ first (weights_tests n right given weights)
+      unfolding weights_tests first
+      absent_told h = rw (is, h)
 
       module _ (some : given ≡ true) where
-        pub range-told : every-entry bounded weights ≡ false → 14 ≡ first (weights-tests n right given weights)
-        unfolding weights-tests first
-        range-told h = rw (fits, is, some, h)
+        pub range_told : every_entry bounded weights ≡ false → 14 ≡ first (weights_tests n right given weights)
+        unfolding weights_tests first
+        range_told h = rw (fits, is, some, h)
 
-        pub right-told : every-entry bounded weights ≡ true → 0 ≡ first (weights-tests n right given weights)
-        unfolding weights-tests first
-        right-told h = rw (fits, is, some, h)
+        pub right_told : every_entry bounded weights ≡ true → 0 ≡ first (weights_tests n right given weights)
+        unfolding weights_tests first
+        right_told h = rw (fits, is, some, h)
 
   -- weights that pass are one for each triangle
-  pub weights-fit : first (weights-tests n right given weights) ≡ 0 → Weighed n given weights
-  unfolding weights-tests first
-  weights-fit h = record { one_each = λ some. go (eqb (length weights) n) refl (rw some at h) }
+  pub weights_fit : first (weights_tests n right given weights) ≡ 0 → Weighed n given weights
+  unfolding weights_tests first
+  weights_fit h = record { one_each = λ some. go (eqb (length weights) n) refl (rw some at h) }
     where
-      go : (b : Bool) → eqb (length weights) n ≡ b → ◌≡◌ {A = ℕ} (cond (not (eqb (length weights) n)) 12 (cond (not right || not (every-entry bounded weights)) 14 0)) 0 → length weights ≡ n
+      go : (b : Bool) → eqb (length weights) n ≡ b → ◌≡◌ {A = ℕ} (cond (not (eqb (length weights) n)) 12 (cond (not right || not (every_entry bounded weights)) 14 0)) 0 → length weights ≡ n
       go true e k = eqb-true (length weights) n e
       go false e k = absurd (omega (arith, rw e at k))
 
   -- they are refused, or what is judged after them decides
-  pub weights-refuse : {k : ℕ} → k ≡ first (weights-tests n right given weights) → (k ≡ 0 → ⊥) → (rest : List (ℕ × Bool)) → Tells (weights-tests n right given weights ++ rest) k
-  weights-refuse e some rest = among (weights-tests n right given weights) rest e some
+  pub weights_refuse : {k : ℕ} → k ≡ first (weights_tests n right given weights) → (k ≡ 0 → ⊥) → (rest : List (ℕ × Bool)) → Tells (weights_tests n right given weights ++ rest) k
+  weights_refuse e some rest = among (weights_tests n right given weights) rest e some
 
-  pub past-weights : first (weights-tests n right given weights) ≡ 0 → {rest : List (ℕ × Bool)} {k : ℕ} → Tells rest k → Tells (weights-tests n right given weights ++ rest) k
-  unfolding weights-tests numbered every-entry
-  past-weights h t = past_all (weights-tests n right given weights) refl h t
+  pub past_weights : first (weights_tests n right given weights) ≡ 0 → {rest : List (ℕ × Bool)} {k : ℕ} → Tells rest k → Tells (weights_tests n right given weights ++ rest) k
+  unfolding weights_tests numbered every_entry
+  past_weights h t = past_all (weights_tests n right given weights) refl h t
 
 -- a triangle has its weight
-pub weight-there : (n : ℕ) (given : Bool) (weights : List Float) → Weighed n given weights → (t : ℕ) → t < n → given ≡ true → t < length weights
-weight-there n given weights weighed t h some = rw (weighed.one_each some) h
+pub weight_there : (n : ℕ) (given : Bool) (weights : List Float) → Weighed n given weights → (t : ℕ) → t < n → given ≡ true → t < length weights
+weight_there n given weights weighed t h some = rw (weighed.one_each some) h

@@ -6,8 +6,8 @@ use Rattle.std.specs.Float.Ieee.{add}
 use Rattle.mathematics.specs.Counting.{below}
 
 -- all entries f i j of n rows and columns
-unfoldable pub matrix-rows : (ℕ → ℕ → Float) → ℕ → List Float
-matrix-rows f n = flatten (map (λ i. map (λ j. f i j) (below n)) (below n))
+unfoldable pub matrix_rows : (ℕ → ℕ → Float) → ℕ → List Float
+matrix_rows f n = flatten (map (λ i. map (λ j. f i j) (below n)) (below n))
 
 -- ---- as the code keeps it
 -- the list begins with them, and keeps what stood after them
@@ -17,8 +17,8 @@ pub record Matrix (f : ℕ → ℕ → Float) (n : ℕ) (old new : List Float) :
   pub beyond : (k : ℕ) → n * n ≤ k → get_or new k nan ≡ get_or old k nan
 
 -- a list with x added to entry (i, j) of the matrix of n columns at its beginning
-abbrev pub with-added : ℕ → ℕ → ℕ → Float → List Float → List Float
-with-added n i j x h = set h (i * n + j) (add binary64 (get_or h (i * n + j) nan) x)
+abbrev pub with_added : ℕ → ℕ → ℕ → Float → List Float → List Float
+with_added n i j x h = set h (i * n + j) (add binary64 (get_or h (i * n + j) nan) x)
 
 -- x i has been added to entry (i, g i) of the first k rows
 unfoldable pub passed : (ℕ → ℕ → Float) → (ℕ → ℕ) → (ℕ → Float) → ℕ → ℕ → ℕ → Float

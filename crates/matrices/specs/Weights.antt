@@ -2,7 +2,7 @@
 use Rattle.std.specs.Prelude.{ℕ, ◌^◌, List, [], ◌∷◌, Bool, true, not, ◌&&◌, ◌||◌, cond, ◌≡◌, eqb, Float, get_or, length}
 use Rattle.std.specs.Float.{nan}
 use Rattle.std.specs.Float.Ieee.{neg, le}
-use Rattle.mathematics.specs.Tests.{every-entry}
+use Rattle.mathematics.specs.Tests.{every_entry}
 use Rattle.matrices.specs.Coupling.{float_of}
 
 -- from -2^32 to 2^32; nothing that is not a number passes
@@ -14,14 +14,14 @@ unfoldable pub weight : Bool → List Float → ℕ → Float
 weight given weights t = cond given (get_or weights t nan) (float_of 1)
 
 -- 12 where weights are given and are not one for each of n triangles, 14 where the coupling is not right or a given weight is out of its range
-unfoldable pub weights-tests : ℕ → Bool → Bool → List Float → List (ℕ × Bool)
-weights-tests n coupling-ok given weights = (12, given && not (eqb (length weights) n)) ∷ (14, not coupling-ok || (given && not (every-entry bounded weights))) ∷ []
+unfoldable pub weights_tests : ℕ → Bool → Bool → List Float → List (ℕ × Bool)
+weights_tests n coupling-ok given weights = (12, given && not (eqb (length weights) n)) ∷ (14, not coupling-ok || (given && not (every_entry bounded weights))) ∷ []
 
 -- the same where a vector is given too: 12 also where the amplitudes are not one for each of n states, 14 also where one is out of its range
-unfoldable pub vector-tests : ℕ → List Float → ℕ → Bool → Bool → List Float → List (ℕ × Bool)
-vector-tests n vector triangles coupling-ok given weights =
+unfoldable pub vector_tests : ℕ → List Float → ℕ → Bool → Bool → List Float → List (ℕ × Bool)
+vector_tests n vector triangles coupling-ok given weights =
     (12, (given && not (eqb (length weights) triangles)) || not (eqb (length vector) n))
-    ∷ (14, (not coupling-ok || (given && not (every-entry bounded weights))) || not (every-entry bounded vector))
+    ∷ (14, (not coupling-ok || (given && not (every_entry bounded weights))) || not (every_entry bounded vector))
     ∷ []
 
 -- ---- as the code keeps it

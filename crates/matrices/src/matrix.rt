@@ -1,7 +1,7 @@
 // A matrix at the beginning of a list, row by row.
 ghost use Rattle.std.specs.Prelude.{◌≡◌, ◌*◌, ◌^◌, ◌<◌, ◌≤◌, length};
 ghost use Rattle.matrices.specs.Coupling.{float_of};
-ghost use Rattle.matrices.specs.Matrix.{Matrix, with-added};
+ghost use Rattle.matrices.specs.Matrix.{Matrix, with_added};
 
 // The list begins with a matrix of zeros.
 pub fn clear_matrix(h: &mut [f64], n: usize)
@@ -16,7 +16,7 @@ pub fn clear_matrix(h: &mut [f64], n: usize)
 // x is added to entry (i, j).
 pub fn add_entry(h: &mut [f64], n: usize, i: usize, j: usize, x: f64)
     requires { (n ≤ 2 ^ 20) × (n * n ≤ length h.old) × (i < n) × (j < n) }
-    ensures { h.new ≡ with-added n i j x h.old }
+    ensures { h.new ≡ with_added n i j x h.old }
 {
     let at = i * n + j;
     h[at] = h[at] + x;

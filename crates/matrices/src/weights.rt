@@ -1,8 +1,8 @@
 // The weights of the triangles: given, or 1 everywhere.
 ghost use Rattle.std.specs.Prelude.{◌≡◌, true, ◌<◌, length};
-ghost use Rattle.mathematics.specs.Tests.{every-entry};
+ghost use Rattle.mathematics.specs.Tests.{every_entry};
 ghost use Rattle.mathematics.specs.Refusals.{first};
-ghost use Rattle.matrices.specs.Weights.{bounded, weight, weights-tests, vector-tests};
+ghost use Rattle.matrices.specs.Weights.{bounded, weight, weights_tests, vector_tests};
 
 // Whether a float is from -2^32 to 2^32; the tests are written so that what is not a number fails.
 fn bounded(x: f64) -> bool
@@ -12,7 +12,7 @@ fn bounded(x: f64) -> bool
 }
 
 pub fn all_bounded(list: &[f64]) -> bool
-    ensures { result ≡ every-entry bounded list.now }
+    ensures { result ≡ every_entry bounded list.now }
 {
     let mut so_far = true;
     for i in 0..list.len() {
@@ -24,7 +24,7 @@ pub fn all_bounded(list: &[f64]) -> bool
 // 12 for the number of the given weights, 14 for a coupling that is not right or a weight out of its range, 0 for neither. Weights
 // that are not given are not read.
 pub fn judge_weights(n_triangles: usize, right: bool, given: bool, weights: &[f64]) -> u8
-    ensures { result ≡ first (weights-tests n_triangles right given weights.now) }
+    ensures { result ≡ first (weights_tests n_triangles right given weights.now) }
 {
     if given & (weights.len() != n_triangles) {
         return 12;
@@ -48,7 +48,7 @@ pub fn judge_vector(
     n: usize,
     vector: &[f64],
 ) -> u8
-    ensures { result ≡ first (vector-tests n vector.now n_triangles right given weights.now) }
+    ensures { result ≡ first (vector_tests n vector.now n_triangles right given weights.now) }
 {
     let wrong = judge_weights(n_triangles, right, given, weights);
     if (wrong == 12) | (vector.len() != n) {

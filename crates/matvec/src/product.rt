@@ -1,11 +1,11 @@
 // The product of a matrix in row lists with a vector.
 ghost use Rattle.std.specs.Prelude.{◌≡◌, ℕ, ◌+◌, ◌<◌, ◌≤◌, get_or, length};
 ghost use Rattle.std.proofs.Math.Seq.{slice};
-ghost use Rattle.mathematics.specs.Tests.{every-entry};
+ghost use Rattle.mathematics.specs.Tests.{every_entry};
 ghost use Rattle.mathematics.specs.Writing.{front};
 ghost use Rattle.mathematics.specs.Calls.{Answered};
 ghost use Rattle.rows.specs.Entries.{pairs};
-ghost use Rattle.matvec.specs.Product.{row-sum, product, never-falls, starts-right, columns-right, value-right, Valid, productAnswer, product-call};
+ghost use Rattle.matvec.specs.Product.{row_sum, product, never_falls, starts_right, columns_right, value_right, Valid, product_answer, product_call};
 
 use matrices::weights::all_bounded;
 
@@ -18,7 +18,7 @@ pub enum Product {
 // Whether none of the first n starts is above the next.
 fn never_falls(starts: &[u32], n: usize) -> bool
     requires { n < length starts.now }
-    ensures { result ≡ never-falls starts.now n }
+    ensures { result ≡ never_falls starts.now n }
 {
     let mut so_far = true;
     for i in 0..n {
@@ -30,14 +30,14 @@ fn never_falls(starts: &[u32], n: usize) -> bool
 // Whether the starts of n rows run from 0 to the number of entries without falling.
 pub fn starts_right(starts: &[u32], n: usize, entries: usize) -> bool
     requires { length starts.now ≡ n + 1 }
-    ensures { result ≡ starts-right starts.now n entries }
+    ensures { result ≡ starts_right starts.now n entries }
 {
     ((starts[0] == 0) & (starts[n] as usize == entries)) & never_falls(starts, n)
 }
 
 // Whether every column is below a limit of its own width: such a test is the fastest.
 fn columns_below(columns: &[u32], limit: u32) -> bool
-    ensures { result ≡ columns-right columns.now limit }
+    ensures { result ≡ columns_right columns.now limit }
 {
     let mut so_far = true;
     for k in 0..columns.len() {
@@ -48,7 +48,7 @@ fn columns_below(columns: &[u32], limit: u32) -> bool
 
 // Whether every column is below n.
 pub fn columns_right(columns: &[u32], n: usize) -> bool
-    ensures { result ≡ columns-right columns.now n }
+    ensures { result ≡ columns_right columns.now n }
 {
     if n < 4294967296 {
         columns_below(columns, n as u32)
@@ -59,13 +59,13 @@ pub fn columns_right(columns: &[u32], n: usize) -> bool
 
 // Whether a float is from -2^80 to 2^80; the tests are written so that what is not a number fails.
 fn value_right(x: f64) -> bool
-    ensures { result ≡ value-right x }
+    ensures { result ≡ value_right x }
 {
     (-1208925819614629174706176.0 <= x) & (x <= 1208925819614629174706176.0)
 }
 
 pub fn values_right(values: &[f64]) -> bool
-    ensures { result ≡ every-entry value-right values.now }
+    ensures { result ≡ every_entry value_right values.now }
 {
     let mut so_far = true;
     for k in 0..values.len() {
@@ -77,7 +77,7 @@ pub fn values_right(values: &[f64]) -> bool
 // The sum of a row, whose entries stand from one place to another.
 fn row_sum(columns: &[u32], values: &[f64], vector: &[f64], from: usize, to: usize) -> f64
     requires { (from ≤ to) × (to ≤ length columns.now) × (length columns.now ≡ length values.now) × ((k : ℕ) → k < length columns.now → get_or columns.now k 0 < length vector.now) }
-    ensures { result ≡ row-sum vector.now (slice from to (pairs columns.now values.now)) }
+    ensures { result ≡ row_sum vector.now (slice from to (pairs columns.now values.now)) }
 {
     let mut sum = 0.0;
     for k in from..to {
@@ -106,7 +106,7 @@ pub fn matvec(
     vector: &[f64],
     res: &mut [f64],
 ) -> Product
-    ensures { Answered (product-call starts.now columns.now values.now vector.now res.old) (productAnswer result) res.new }
+    ensures { Answered (product_call starts.now columns.now values.now vector.now res.old) (product_answer result) res.new }
 {
     let n = vector.len();
     if (starts.len() != n + 1) | (columns.len() != values.len()) {

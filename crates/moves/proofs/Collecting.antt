@@ -15,13 +15,13 @@ use lib.Seq.{get_or-set_same, get_or-set_other}
 use Rattle.rows.specs.Row.{kept}
 use Rattle.rows.specs.RowLists.{EntryPushed}
 use Rattle.moves.specs.Numbers.{sought}
-use Rattle.moves.specs.Moves.{Moves, change-in, goes, arrives, collected, pointed, Pointers, MovePushed}
+use Rattle.moves.specs.Moves.{Moves, change_in, goes, arrives, collected, pointed, Pointers, MovePushed}
 
-pub pointers-same : {n : ℕ} {p q : List ℕ} → p ≡ q → Pointers n q → Pointers n p
-pointers-same e h = rw e h
+pub pointers_same : {n : ℕ} {p q : List ℕ} → p ≡ q → Pointers n q → Pointers n p
+pointers_same e h = rw e h
 
-pointer-set : (n : ℕ) (pointers : List ℕ) (k q : ℕ) → q ≤ n → Pointers n pointers → Pointers n (set pointers k q)
-pointer-set n pointers k q h p =
+pointer_set : (n : ℕ) (pointers : List ℕ) (k q : ℕ) → q ≤ n → Pointers n pointers → Pointers n (set pointers k q)
+pointer_set n pointers k q h p =
     record {
       long = length-set pointers k q ∙ p.long;
       below = λ j. go j (ℕ_discrete j k);
@@ -37,74 +37,74 @@ pointer-set n pointers k q h p =
 
 module _ (place : ℕ) (value : Float) (n k m : ℕ) (pointers : List ℕ) (old : List (ℕ × Float)) where
   -- a move that is not taken
-  pub move-left : (taken : Bool) → taken ≡ false → MovePushed taken place value n k m pointers old m pointers old
-  move-left taken e = rw e (record { entries = sym (append-nil (take m old)); room = omega arith; pointers-are = refl })
+  pub move_left : (taken : Bool) → taken ≡ false → MovePushed taken place value n k m pointers old m pointers old
+  move_left taken e = rw e (record { entries = sym (append-nil (take m old)); room = omega arith; pointers_are = refl })
 
   -- one that is
   pub move_taken : (taken : Bool) → taken ≡ true → (found r : ℕ) (new : List (ℕ × Float)) (q : ℕ) → found ≡ place → EntryPushed old m (found, value) true r new → q ≡ min (found + 1) n → MovePushed taken place value n k m pointers old r (set pointers k q) new
-  move_taken taken e found r new q there pushed is = rw (e, is, ← there) (record { entries = pushed.front; room = omega (arith, pushed.count); pointers-are = refl })
+  move_taken taken e found r new q there pushed is = rw (e, is, ← there) (record { entries = pushed.front; room = omega (arith, pushed.count); pointers_are = refl })
 
 module _ (v : Moves) (L : ℕ) (numbers : ℕ → ℕ) (n : ℕ) (s : List ℤ) (a : ℕ) (pointers : List ℕ) where
   -- the pointer of a move stays until its turn
-  pointed-kept : (k q : ℕ) → k ≤ q → get_or (pointed v L numbers n s a pointers k) q 0 ≡ get_or pointers q 0
+  pointed_kept : (k q : ℕ) → k ≤ q → get_or (pointed v L numbers n s a pointers k) q 0 ≡ get_or pointers q 0
   unfolding pointed
-  pointed-kept zero q h = refl
-  pointed-kept (suc k) q h = go (pointed-kept k q (omega arith)) (goes v L s k)
+  pointed_kept zero q h = refl
+  pointed_kept (suc k) q h = go (pointed_kept k q (omega arith)) (goes v L s k)
     where
       go : get_or (pointed v L numbers n s a pointers k) q 0 ≡ get_or pointers q 0 → (b : Bool) → get_or (cond b (set (pointed v L numbers n s a pointers k) k (min (arrives v numbers n a pointers k + 1) n)) (pointed v L numbers n s a pointers k)) q 0 ≡ get_or pointers q 0
       go e true = get_or-set_other (pointed v L numbers n s a pointers k) k q _ 0 (λ f. omega arith) ∙ e
       go e false = e
 
-  pointed-long : (k : ℕ) → length (pointed v L numbers n s a pointers k) ≡ length pointers
+  pointed_long : (k : ℕ) → length (pointed v L numbers n s a pointers k) ≡ length pointers
   unfolding pointed
-  pointed-long zero = refl
-  pointed-long (suc k) = go (pointed-long k) (goes v L s k)
+  pointed_long zero = refl
+  pointed_long (suc k) = go (pointed_long k) (goes v L s k)
     where
       go : length (pointed v L numbers n s a pointers k) ≡ length pointers → (b : Bool) → length (cond b (set (pointed v L numbers n s a pointers k) k (min (arrives v numbers n a pointers k + 1) n)) (pointed v L numbers n s a pointers k)) ≡ length pointers
       go e true = length-set (pointed v L numbers n s a pointers k) k _ ∙ e
       go e false = e
 
   -- after its turn it stands behind the place that was found
-  pub pointed-at : (m k : ℕ) → k < m → k < length pointers → get_or (pointed v L numbers n s a pointers m) k 0 ≡ cond (goes v L s k) (min (arrives v numbers n a pointers k + 1) n) (get_or pointers k 0)
+  pub pointed_at : (m k : ℕ) → k < m → k < length pointers → get_or (pointed v L numbers n s a pointers m) k 0 ≡ cond (goes v L s k) (min (arrives v numbers n a pointers k + 1) n) (get_or pointers k 0)
   unfolding pointed
-  pointed-at zero k h long = absurd (omega arith)
-  pointed-at (suc m) k h long = turn (ℕ_discrete k m) (pointed-at m k) (goes v L s m) refl
+  pointed_at zero k h long = absurd (omega arith)
+  pointed_at (suc m) k h long = turn (ℕ_discrete k m) (pointed_at m k) (goes v L s m) refl
     where
       turn : Dec (k ≡ m) → (k < m → k < length pointers → get_or (pointed v L numbers n s a pointers m) k 0 ≡ cond (goes v L s k) (min (arrives v numbers n a pointers k + 1) n) (get_or pointers k 0)) → (b : Bool) → goes v L s m ≡ b
           → get_or (cond b (set (pointed v L numbers n s a pointers m) m (min (arrives v numbers n a pointers m + 1) n)) (pointed v L numbers n s a pointers m)) k 0 ≡ cond (goes v L s k) (min (arrives v numbers n a pointers k + 1) n) (get_or pointers k 0)
-      turn (yes e) before true is = rw (e, is) (get_or-set_same (pointed v L numbers n s a pointers m) m _ 0 (omega (arith, e, long, pointed-long m)))
-      turn (yes e) before false is = rw (e, is) (pointed-kept m m (omega arith))
+      turn (yes e) before true is = rw (e, is) (get_or-set_same (pointed v L numbers n s a pointers m) m _ 0 (omega (arith, e, long, pointed_long m)))
+      turn (yes e) before false is = rw (e, is) (pointed_kept m m (omega arith))
       turn (no e) before true is = get_or-set_other (pointed v L numbers n s a pointers m) m k _ 0 e ∙ before (omega arith) long
       turn (no e) before false is = before (omega arith) long
 
-  pub pointed-pointers : (k : ℕ) → Pointers n pointers → Pointers n (pointed v L numbers n s a pointers k)
+  pub pointed_pointers : (k : ℕ) → Pointers n pointers → Pointers n (pointed v L numbers n s a pointers k)
   unfolding pointed
-  pointed-pointers zero h = h
-  pointed-pointers (suc k) h = go (pointed-pointers k h) (goes v L s k)
+  pointed_pointers zero h = h
+  pointed_pointers (suc k) h = go (pointed_pointers k h) (goes v L s k)
     where
       go : Pointers n (pointed v L numbers n s a pointers k) → (b : Bool) → Pointers n (cond b (set (pointed v L numbers n s a pointers k) k (min (arrives v numbers n a pointers k + 1) n)) (pointed v L numbers n s a pointers k))
-      go p true = pointer-set n (pointed v L numbers n s a pointers k) k (min (arrives v numbers n a pointers k + 1) n) (omega arith) p
+      go p true = pointer_set n (pointed v L numbers n s a pointers k) k (min (arrives v numbers n a pointers k + 1) n) (omega arith) p
       go p false = p
 
-  pub arrives-kept : (k : ℕ) (now : List ℕ) → now ≡ pointed v L numbers n s a pointers k
-      → sought numbers (a + change-in (get_or v.keys k 0)) (get_or now k 0) (n - get_or now k 0) ≡ arrives v numbers n a pointers k
+  pub arrives_kept : (k : ℕ) (now : List ℕ) → now ≡ pointed v L numbers n s a pointers k
+      → sought numbers (a + change_in (get_or v.keys k 0)) (get_or now k 0) (n - get_or now k 0) ≡ arrives v numbers n a pointers k
   unfolding arrives
-  arrives-kept k now e = rw (e, pointed-kept k k (omega arith))
+  arrives_kept k now e = rw (e, pointed_kept k k (omega arith))
 
   module _ (i : ℕ) (x : Float) where
     -- the diagonal first
-    pub diagonal-collected : (old new : List (ℕ × Float)) (r : ℕ) → EntryPushed old 0 (i, x) (kept x) r new → take r new ≡ collected v L numbers n s a pointers i x 0
+    pub diagonal_collected : (old new : List (ℕ × Float)) (r : ℕ) → EntryPushed old 0 (i, x) (kept x) r new → take r new ≡ collected v L numbers n s a pointers i x 0
     unfolding collected
-    diagonal-collected old new r pushed = pushed.front
+    diagonal_collected old new r pushed = pushed.front
 
     -- then a move more
     module _ (k m : ℕ) (now : List ℕ) (old : List (ℕ × Float)) (r : ℕ) (after : List ℕ) (new : List (ℕ × Float)) (taken : Bool) (is : taken ≡ goes v L s k)
-        (pointers-are : now ≡ pointed v L numbers n s a pointers k)
-        (pushed : MovePushed taken (sought numbers (a + change-in (get_or v.keys k 0)) (get_or now k 0) (n - get_or now k 0)) (get_or v.terms k nan) n k m now old r after new) where
-      pub move-collected : take m old ≡ collected v L numbers n s a pointers i x k → take r new ≡ collected v L numbers n s a pointers i x (k + 1)
+        (pointers_are : now ≡ pointed v L numbers n s a pointers k)
+        (pushed : MovePushed taken (sought numbers (a + change_in (get_or v.keys k 0)) (get_or now k 0) (n - get_or now k 0)) (get_or v.terms k nan) n k m now old r after new) where
+      pub move_collected : take m old ≡ collected v L numbers n s a pointers i x k → take r new ≡ collected v L numbers n s a pointers i x (k + 1)
       unfolding collected
-      move-collected so_far = rw (add-one k) (pushed.entries ∙ rw (so_far, is, arrives-kept k now pointers-are))
+      move_collected so_far = rw (add-one k) (pushed.entries ∙ rw (so_far, is, arrives_kept k now pointers_are))
 
-      pub move-pointed : after ≡ pointed v L numbers n s a pointers (k + 1)
+      pub move_pointed : after ≡ pointed v L numbers n s a pointers (k + 1)
       unfolding pointed
-      move-pointed = rw (add-one k) (pushed.pointers-are ∙ rw (arrives-kept k now pointers-are, is, pointers-are))
+      move_pointed = rw (add-one k) (pushed.pointers_are ∙ rw (arrives_kept k now pointers_are, is, pointers_are))

@@ -9,45 +9,45 @@ use lib.Signed.{non_neg}
 use mir.Syntax.{w64}
 use mir.Val.{Fits}
 use Rattle.moves.specs.Numbers.{numeral}
-use Rattle.mathematics.proofs.Integers.{positive, negative, one-part, parts-sum, parts-size}
-use Rattle.mathematics.proofs.Signed.{size-sum}
+use Rattle.mathematics.proofs.Integers.{positive, negative, one_part, parts_sum, parts_size}
+use Rattle.mathematics.proofs.Signed.{size_sum}
 
 not_negative : (z : ℤ) → negative z ≡ 0 → T (non_neg z)
 unfolding negative
 not_negative (pos n) h = tt
 not_negative (negsuc n) h = absurd (omega arith)
 
-pos-parts : (n : ℕ) → (positive (pos n) ≡ n) × (negative (pos n) ≡ 0)
+pos_parts : (n : ℕ) → (positive (pos n) ≡ n) × (negative (pos n) ≡ 0)
 unfolding positive negative
-pos-parts n = (refl, refl)
+pos_parts n = (refl, refl)
 
 module _ (x : ℤ) (low : ℕ) (small : nat_abs x ≤ low) (few : low ≤ 1000) where
-  pub digit-small : nat_abs (x +ℤ pos low) ≤ 2 ^ 20
-  digit-small = omega (arith, size-sum x (pos low))
+  pub digit_small : nat_abs (x +ℤ pos low) ≤ 2 ^ 20
+  digit_small = omega (arith, size_sum x (pos low))
 
-  pub digit-casts : T (non_neg (x +ℤ pos low)) × Fits w64 (nat_abs (x +ℤ pos low))
-  digit-casts = (
-    not_negative (x +ℤ pos low) (omega (arith, parts-sum x (pos low), one-part (x +ℤ pos low), parts-size x, low_parts)),
-    record { fits = omega (arith, size-sum x (pos low)) },
+  pub digit_casts : T (non_neg (x +ℤ pos low)) × Fits w64 (nat_abs (x +ℤ pos low))
+  digit_casts = (
+    not_negative (x +ℤ pos low) (omega (arith, parts_sum x (pos low), one_part (x +ℤ pos low), parts_size x, low_parts)),
+    record { fits = omega (arith, size_sum x (pos low)) },
   )
     where
       low_parts : (positive (pos low) ≡ low) × (negative (pos low) ≡ 0)
-      low_parts = pos-parts low
+      low_parts = pos_parts low
 
 -- ---- the digits one after the other
-pub numeral-least : (base : ℕ) (x : ℕ → ℕ) (n a : ℕ) → 1 ≤ base → a ≤ numeral base x n a
+pub numeral_least : (base : ℕ) (x : ℕ → ℕ) (n a : ℕ) → 1 ≤ base → a ≤ numeral base x n a
 unfolding numeral
-numeral-least base x zero a h = omega arith
-numeral-least base x (suc n) a h =
+numeral_least base x zero a h = omega arith
+numeral_least base x (suc n) a h =
     let grown : a * 1 ≤ a * base = mul-le-mul_left a h in
-    omega (arith, grown, numeral-least base x n (a * base + x n) h)
+    omega (arith, grown, numeral_least base x n (a * base + x n) h)
 
 -- the next digit
-pub numeral-next : (base : ℕ) (x : ℕ → ℕ) (j a d total : ℕ) → 1 ≤ base → 0 < j → numeral base x j a ≡ total → d ≡ x (j - 1)
+pub numeral_next : (base : ℕ) (x : ℕ → ℕ) (j a d total : ℕ) → 1 ≤ base → 0 < j → numeral base x j a ≡ total → d ≡ x (j - 1)
     → (numeral base x (j - 1) (a * base + d) ≡ total) × (a * base + d ≤ total)
 unfolding numeral
-numeral-next base x zero a d total h more is e = absurd (omega arith)
-numeral-next base x (suc j) a d total h more is e =
+numeral_next base x zero a d total h more is e = absurd (omega arith)
+numeral_next base x (suc j) a d total h more is e =
     let one : suc j - 1 ≡ j = omega arith in
     let same : numeral base x j (a * base + d) ≡ total = rw (rw one at e) is in
-    rw one (same, omega (arith, same, numeral-least base x j (a * base + d) h))
+    rw one (same, omega (arith, same, numeral_least base x j (a * base + d) h))

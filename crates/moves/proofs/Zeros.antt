@@ -9,13 +9,13 @@ use lib.IntN.{ℤ, pos}
 use lib.ListN.{get_or, length, replicate, length-replicate, get_or-replicate, get_or-eq_default}
 use Rattle.moves.specs.Moves.{zeros}
 
-pub zeros-long : (m : ℕ) → length (zeros m) ≡ m
+pub zeros_long : (m : ℕ) → length (zeros m) ≡ m
 unfolding zeros
-zeros-long m = length-replicate m (pos 0)
+zeros_long m = length-replicate m (pos 0)
 
-pub zeros-all : (m e : ℕ) → get_or (zeros m) e (pos 0) ≡ pos 0
+pub zeros_all : (m e : ℕ) → get_or (zeros m) e (pos 0) ≡ pos 0
 unfolding zeros
-zeros-all m e = go (ltb e m) refl
+zeros_all m e = go (ltb e m) refl
   where
     go : (b : Bool) → ltb e m ≡ b → get_or (replicate m (pos 0)) e (pos 0) ≡ pos 0
     go true h = get_or-replicate m e (pos 0) (pos 0) (ltb-true e m h)

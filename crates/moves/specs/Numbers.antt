@@ -32,7 +32,7 @@ number_in words p = lower (get_or words p 0)
 pub record Numbered (L low : ℕ) (free : List ℕ) (n : ℕ) (s : List ℤ) : Type 0 where
   pub truncation : L ≤ 1000
   pub low_small : low ≤ 1000
-  pub free-few : n ≤ 63
-  pub free-fit : FreeFit (length s) n free
+  pub free_few : n ≤ 63
+  pub free_fit : FreeFit (length s) n free
   pub small : (e : ℕ) → nat_abs (get_or s e (pos 0)) ≤ low
   pub few : number L low free n s ≤ 2 ^ 30

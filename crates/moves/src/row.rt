@@ -4,7 +4,7 @@ ghost use Rattle.complex.specs.Complex.{entries};
 ghost use Rattle.rows.specs.Entries.{pairs};
 ghost use Rattle.moves.specs.Numbers.{sought, number_in};
 ghost use Rattle.plaquettes.specs.Pairs.{stays, Movable};
-ghost use Rattle.moves.specs.Moves.{tables, triangle-of, unit-of, move_in, change-in, collected, pointed, StateMoves, Pointers, MovePushed};
+ghost use Rattle.moves.specs.Moves.{tables, triangle_of, unit_of, move_in, change_in, collected, pointed, StateMoves, Pointers, MovePushed};
 
 use crate::seek::seek;
 use numbers::smaller;
@@ -21,15 +21,15 @@ fn opposite(unit: i32) -> i32
 
 // The unit of move q: -1 where q is below 256, else 1.
 fn unit_of(q: usize) -> i32
-    ensures { (result ≡ unit-of q) × (nat_abs result ≤ 1) }
+    ensures { (result ≡ unit_of q) × (nat_abs result ≤ 1) }
 {
     if q < 256 { -1 } else { 1 }
 }
 
 // Whether the move of a key keeps the three values of a state within -lambda to lambda.
 fn goes(state: &[i32], all: &[u8; 768], key: u32, lambda: usize) -> bool
-    requires { Movable state.now (entries all.now (3 * triangle-of (move_in key)) 3) × (lambda ≤ 1000) }
-    ensures { result ≡ stays lambda state.now (entries all.now (3 * triangle-of (move_in key)) 3) (unit-of (move_in key)) }
+    requires { Movable state.now (entries all.now (3 * triangle_of (move_in key)) 3) × (lambda ≤ 1000) }
+    ensures { result ≡ stays lambda state.now (entries all.now (3 * triangle_of (move_in key)) 3) (unit_of (move_in key)) }
 {
     let q = (key % 512) as usize;
     let by = unit_of(q);
@@ -38,7 +38,7 @@ fn goes(state: &[i32], all: &[u8; 768], key: u32, lambda: usize) -> bool
 
 // What the move of a key adds to the number of a state, with 2^20 added.
 fn change_in(key: u32) -> usize
-    ensures { (result ≡ change-in key) × (result < 2 ^ 23) }
+    ensures { (result ≡ change_in key) × (result < 2 ^ 23) }
 {
     (key / 512) as usize
 }

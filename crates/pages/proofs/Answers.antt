@@ -7,124 +7,124 @@ use native.Mathlib.Omega.{arith}
 use lib.Dec.{ltb}
 use lib.ListN.{length}
 use borrow.Author.Tests.{ltb-false}
-use Rattle.mathematics.specs.Tests.{every-entry}
+use Rattle.mathematics.specs.Tests.{every_entry}
 use Rattle.mathematics.specs.Refusals.{first, written}
-use Rattle.mathematics.proofs.Refusals.{numbered, first_stops, first-goes-on, refused-kept}
+use Rattle.mathematics.proofs.Refusals.{numbered, first_stops, first_goes_on, refused_kept}
 use Rattle.complex.specs.declared.SimplicialComplex.{SimplicialComplex}
-use Rattle.complex.specs.Complex.{Complex, complexOf}
-use Rattle.complex.specs.Judge.{shape-tests, refusal}
-use Rattle.complex.proofs.Simplices.{simplices-length}
+use Rattle.complex.specs.Complex.{Complex, complex_of}
+use Rattle.complex.specs.Judge.{shape_tests, refusal}
+use Rattle.complex.proofs.Simplices.{simplices_length}
 use Rattle.complex.proofs.Accepting.{accepted}
-use Rattle.gauss_law.proofs.Spanned.{edges-long}
+use Rattle.gauss_law.proofs.Spanned.{edges_long}
 use Rattle.sheet.specs.declared.SheetRead.{SheetRead}
 use Rattle.sheet.specs.declared.Reading.TheVariants.{Accepted, Refused}
-use Rattle.sheet.specs.Sheet.{sheetIn, header-tests, reading-refusal, readAnswer, read_of}
-use Rattle.sheet.proofs.Sheets.{header_of, shape-decides}
-use Rattle.sheet.proofs.RoundTrips.{accepted-none, header-none}
+use Rattle.sheet.specs.Sheet.{sheet_in, header_tests, reading_refusal, read_answer, read_of}
+use Rattle.sheet.proofs.Sheets.{header_of, shape_decides}
+use Rattle.sheet.proofs.RoundTrips.{accepted_none, header_none}
 use Rattle.walker.specs.declared.tables.Walker.{Walker}
-use Rattle.walker.specs.Tables.{Walks, states-of, Fit}
-use Rattle.enumeration.proofs.Limits.{power-less}
-use Rattle.walker.proofs.Fitting.{walks-fit, walks-states}
-use Rattle.lines.specs.Lines.{firstLine, stateLines, refusedLine}
+use Rattle.walker.specs.Tables.{Walks, states_of, Fit}
+use Rattle.enumeration.proofs.Limits.{power_less}
+use Rattle.walker.proofs.Fitting.{walks_fit, walks_states}
+use Rattle.lines.specs.Lines.{first_line, state_lines, refused_line}
 use Rattle.lines.specs.Printed.{printed}
-use Rattle.lines.proofs.Lengths.{first-line-long}
-use Rattle.enumeration.specs.Enumeration.{limit-test}
+use Rattle.lines.proofs.Lengths.{first_line_long}
+use Rattle.enumeration.specs.Enumeration.{limit_test}
 use Rattle.gauss_law.specs.Listing.{states}
-use Rattle.pages.specs.Text.{told, basis-refusal, basisText}
+use Rattle.pages.specs.Text.{told, basis_refusal, basis_text}
 
 -- the first line is short enough
-pub first-line-short : (c : SimplicialComplex) (L dim : ℕ) → refusal (complexOf c) ≡ 0 → L ≤ 1000 → dim < 2 ^ 64 → length (firstLine c.n_vertices c.n_edges c.n_triangles L dim) ≤ 400
-unfolding complexOf
-first-line-short c L dim good truncation few =
+pub first_line_short : (c : SimplicialComplex) (L dim : ℕ) → refusal (complex_of c) ≡ 0 → L ≤ 1000 → dim < 2 ^ 64 → length (first_line c.n_vertices c.n_edges c.n_triangles L dim) ≤ 400
+unfolding complex_of
+first_line_short c L dim good truncation few =
     let a = (accepted c).0 good in
-    let vertices : c.n_vertices ≤ 64 = a.few-vertices in
-    let edges : c.n_edges ≤ 63 = rw (simplices-length 2 c.edges c.n_edges) at a.few-edges in
-    let triangles : c.n_triangles ≤ 256 = rw (simplices-length 3 c.triangles c.n_triangles) at a.few-triangles in
-    omega (arith, first-line-long c.n_vertices c.n_edges c.n_triangles L dim (omega arith) (omega arith) (omega arith) (omega arith) few)
+    let vertices : c.n_vertices ≤ 64 = a.few_vertices in
+    let edges : c.n_edges ≤ 63 = rw (simplices_length 2 c.edges c.n_edges) at a.few_edges in
+    let triangles : c.n_triangles ≤ 256 = rw (simplices_length 3 c.triangles c.n_triangles) at a.few_triangles in
+    omega (arith, first_line_long c.n_vertices c.n_edges c.n_triangles L dim (omega arith) (omega arith) (omega arith) (omega arith) few)
 
 -- ---- the candidates
-module _ (c : SimplicialComplex) (L : ℕ) (w : Walker) (walks : Walks (complexOf c) L w) where
-  pub over-number : ltb 1048576 ((2 * L + 1) ^ w.n_free) ≡ true → first (limit-test (complexOf c) L ∷ []) ≡ 10
+module _ (c : SimplicialComplex) (L : ℕ) (w : Walker) (walks : Walks (complex_of c) L w) where
+  pub over_number : ltb 1048576 ((2 * L + 1) ^ w.n_free) ≡ true → first (limit_test (complex_of c) L ∷ []) ≡ 10
   unfolding first
-  over-number h = rw (← walks.count, h)
+  over_number h = rw (← walks.count, h)
 
-  pub over : ltb 1048576 ((2 * L + 1) ^ w.n_free) ≡ true → told (first (limit-test (complexOf c) L ∷ [])) (complexOf c) L ≡ refusedLine 10
+  pub over : ltb 1048576 ((2 * L + 1) ^ w.n_free) ≡ true → told (first (limit_test (complex_of c) L ∷ [])) (complex_of c) L ≡ refused_line 10
   unfolding told written
-  over h = rw (over-number h)
+  over h = rw (over_number h)
 
   module _ (under : ltb 1048576 ((2 * L + 1) ^ w.n_free) ≡ false) where
-    pub under-number : first (limit-test (complexOf c) L ∷ []) ≡ 0
+    pub under_number : first (limit_test (complex_of c) L ∷ []) ≡ 0
     unfolding first
-    under-number = rw (← walks.count, under)
+    under_number = rw (← walks.count, under)
 
-    pub candidates-few : (2 * L + 1) ^ w.n_free ≤ 1048576
-    candidates-few = ltb-false 1048576 ((2 * L + 1) ^ w.n_free) under
+    pub candidates_few : (2 * L + 1) ^ w.n_free ≤ 1048576
+    candidates_few = ltb-false 1048576 ((2 * L + 1) ^ w.n_free) under
 
     module _ (blocks : ℕ) (number : blocks ≡ (2 * L + 1) ^ (w.n_free - 1)) where
-      pub blocks-fit : L ≤ 1000 → Fit w L blocks
-      blocks-fit h = walks-fit (complexOf c) w L walks blocks h (rw number (omega (arith, power-less L w.n_free, candidates-few)))
+      pub blocks_fit : L ≤ 1000 → Fit w L blocks
+      blocks_fit h = walks_fit (complex_of c) w L walks blocks h (rw number (omega (arith, power_less L w.n_free, candidates_few)))
 
-      pub under-told : told (first (limit-test (complexOf c) L ∷ [])) (complexOf c) L
-          ≡ firstLine c.n_vertices c.n_edges c.n_triangles L (length (states-of w L blocks)) ++ stateLines 0 (states-of w L blocks)
-      unfolding told written printed complexOf states
-      under-told =
-          rw (under-number, number, walks-states (complexOf c) w L walks, edges-long c, simplices-length 3 c.triangles c.n_triangles)
+      pub under_told : told (first (limit_test (complex_of c) L ∷ [])) (complex_of c) L
+          ≡ first_line c.n_vertices c.n_edges c.n_triangles L (length (states_of w L blocks)) ++ state_lines 0 (states_of w L blocks)
+      unfolding told written printed complex_of states
+      under_told =
+          rw (under_number, number, walks_states (complex_of c) w L walks, edges_long c, simplices_length 3 c.triangles c.n_triangles)
 
 -- ---- the sheet
 module _ (b : List ℕ) where
-  sheet-is : reading-refusal b ≡ 0 → (read_of b).sheet ≡ sheetIn b
+  sheet_is : reading_refusal b ≡ 0 → (read_of b).sheet ≡ sheet_in b
   unfolding read_of written
-  sheet-is h = rw h
+  sheet_is h = rw h
 
-  in-range : reading-refusal b ≡ 0 → (refusal (complexOf (sheetIn b).complex) ≡ 0) × ((sheetIn b).lambda ≤ 1000)
-  unfolding sheetIn
-  in-range h = let header = header-none b h in (sym (shape-decides b header) ∙ h, (header_of b header).truncation)
+  in_range : reading_refusal b ≡ 0 → (refusal (complex_of (sheet_in b).complex) ≡ 0) × ((sheet_in b).lambda ≤ 1000)
+  unfolding sheet_in
+  in_range h = let header = header_none b h in (sym (shape_decides b header) ∙ h, (header_of b header).truncation)
 
-  read_number : reading-refusal b ≡ 0 → first (limit-test (complexOf (sheetIn b).complex) (sheetIn b).lambda ∷ []) ≡ basis-refusal b
-  unfolding basis-refusal reading-refusal header-tests numbered every-entry
+  read_number : reading_refusal b ≡ 0 → first (limit_test (complex_of (sheet_in b).complex) (sheet_in b).lambda ∷ []) ≡ basis_refusal b
+  unfolding basis_refusal reading_refusal header_tests numbered every_entry
   read_number h =
-      let c = complexOf (sheetIn b).complex in
-      sym (first-goes-on (header-tests b ++ shape-tests c) (limit-test c (sheetIn b).lambda ∷ []) refl h)
+      let c = complex_of (sheet_in b).complex in
+      sym (first_goes_on (header_tests b ++ shape_tests c) (limit_test c (sheet_in b).lambda ∷ []) refl h)
 
   -- the text is that of its refusal
-  read_told : (n : ℕ) → n ≡ basis-refusal b → told n (complexOf (sheetIn b).complex) (sheetIn b).lambda ≡ basisText b
-  unfolding basisText
+  read_told : (n : ℕ) → n ≡ basis_refusal b → told n (complex_of (sheet_in b).complex) (sheet_in b).lambda ≡ basis_text b
+  unfolding basis_text
   read_told n h = rw h
 
-  refusal_is : (n : ℕ) → (read_of b).answer ≡ Refused n → (reading-refusal b ≡ n) × (n ≡ 0 → ⊥)
-  unfolding read_of readAnswer
-  refusal_is n = go (reading-refusal b)
+  refusal_is : (n : ℕ) → (read_of b).answer ≡ Refused n → (reading_refusal b ≡ n) × (n ≡ 0 → ⊥)
+  unfolding read_of read_answer
+  refusal_is n = go (reading_refusal b)
     where
-      go : (k : ℕ) → readAnswer k ≡ Refused n → (k ≡ n) × (n ≡ 0 → ⊥)
+      go : (k : ℕ) → read_answer k ≡ Refused n → (k ≡ n) × (n ≡ 0 → ⊥)
       go zero h = let z : ◌≡◌ {A = ℕ} 0 1 = cc in absurd (omega arith)
       go (suc k) h = let e : suc k ≡ n = cc in (e, λ z. omega arith)
 
-  told-refused : (n : ℕ) → (n ≡ 0 → ⊥) → (c : Complex) (L : ℕ) → refusedLine n ≡ told n c L
+  told_refused : (n : ℕ) → (n ≡ 0 → ⊥) → (c : Complex) (L : ℕ) → refused_line n ≡ told n c L
   unfolding told
-  told-refused n some c L = refused-kept n (printed c L) (refusedLine n) some
+  told_refused n some c L = refused_kept n (printed c L) (refused_line n) some
 
-  refusal-number : (n : ℕ) → reading-refusal b ≡ n → (n ≡ 0 → ⊥) → n ≡ basis-refusal b
-  unfolding basis-refusal reading-refusal
-  refusal-number n e some =
-      let c = complexOf (sheetIn b).complex in
-      sym (first_stops (header-tests b ++ shape-tests c) (limit-test c (sheetIn b).lambda ∷ []) (λ z. some (sym e ∙ z)) ∙ e)
+  refusal_number : (n : ℕ) → reading_refusal b ≡ n → (n ≡ 0 → ⊥) → n ≡ basis_refusal b
+  unfolding basis_refusal reading_refusal
+  refusal_number n e some =
+      let c = complex_of (sheet_in b).complex in
+      sym (first_stops (header_tests b ++ shape_tests c) (limit_test c (sheet_in b).lambda ∷ []) (λ z. some (sym e ∙ z)) ∙ e)
 
-  pub refusal-told : (n : ℕ) → reading-refusal b ≡ n → (n ≡ 0 → ⊥) → refusedLine n ≡ basisText b
-  refusal-told n e some =
-      told-refused n some (complexOf (sheetIn b).complex) (sheetIn b).lambda ∙ read_told n (refusal-number n e some)
+  pub refusal_told : (n : ℕ) → reading_refusal b ≡ n → (n ≡ 0 → ⊥) → refused_line n ≡ basis_text b
+  refusal_told n e some =
+      told_refused n some (complex_of (sheet_in b).complex) (sheet_in b).lambda ∙ read_told n (refusal_number n e some)
 
   module _ (r : SheetRead) (is : r ≡ read_of b) where
-    pub accepted-ready : r.answer ≡ Accepted → (refusal (complexOf r.sheet.complex) ≡ 0) × (r.sheet.lambda ≤ 1000)
-    accepted-ready h = let none = accepted-none b (rw is at h) in rw (is, sheet-is none) (in-range none)
+    pub accepted_ready : r.answer ≡ Accepted → (refusal (complex_of r.sheet.complex) ≡ 0) × (r.sheet.lambda ≤ 1000)
+    accepted_ready h = let none = accepted_none b (rw is at h) in rw (is, sheet_is none) (in_range none)
 
-    pub accepted-number : r.answer ≡ Accepted → first (limit-test (complexOf r.sheet.complex) r.sheet.lambda ∷ []) ≡ basis-refusal b
-    accepted-number h = let none = accepted-none b (rw is at h) in rw (is, sheet-is none) (read_number none)
+    pub accepted_number : r.answer ≡ Accepted → first (limit_test (complex_of r.sheet.complex) r.sheet.lambda ∷ []) ≡ basis_refusal b
+    accepted_number h = let none = accepted_none b (rw is at h) in rw (is, sheet_is none) (read_number none)
 
-    pub accepted-told : r.answer ≡ Accepted → told (first (limit-test (complexOf r.sheet.complex) r.sheet.lambda ∷ [])) (complexOf r.sheet.complex) r.sheet.lambda ≡ basisText b
-    accepted-told h = let none = accepted-none b (rw is at h) in rw (is, sheet-is none) (read_told _ (read_number none))
+    pub accepted_told : r.answer ≡ Accepted → told (first (limit_test (complex_of r.sheet.complex) r.sheet.lambda ∷ [])) (complex_of r.sheet.complex) r.sheet.lambda ≡ basis_text b
+    accepted_told h = let none = accepted_none b (rw is at h) in rw (is, sheet_is none) (read_told _ (read_number none))
 
-    pub refused-number : (n : ℕ) → r.answer ≡ Refused n → n ≡ basis-refusal b
-    refused-number n h = let k = refusal_is n (rw is at h) in refusal-number n k.0 k.1
+    pub refused_number : (n : ℕ) → r.answer ≡ Refused n → n ≡ basis_refusal b
+    refused_number n h = let k = refusal_is n (rw is at h) in refusal_number n k.0 k.1
 
-    pub refused-told : (n : ℕ) → r.answer ≡ Refused n → refusedLine n ≡ basisText b
-    refused-told n h = let k = refusal_is n (rw is at h) in refusal-told n k.0 k.1
+    pub refused_told : (n : ℕ) → r.answer ≡ Refused n → refused_line n ≡ basis_text b
+    refused_told n h = let k = refusal_is n (rw is at h) in refusal_told n k.0 k.1

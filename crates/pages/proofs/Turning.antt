@@ -12,30 +12,30 @@ use lib.ListN.{length, take, drop, length-append}
 use lib.Seq.{take_at, length-take-le}
 use Rattle.cycles.specs.Cycles.{row}
 use Rattle.walker.specs.declared.tables.Walker.{Walker}
-use Rattle.walker.specs.Walker.{walked-states}
+use Rattle.walker.specs.Walker.{walked_states}
 use Rattle.walker.specs.Steps.{Walkable}
-use Rattle.walker.specs.Tables.{begin-of, states-of, Fit}
+use Rattle.walker.specs.Tables.{begin_of, states_of, Fit}
 use Rattle.cursor.specs.declared.Cursor.{Cursor}
-use Rattle.cursor.specs.Cursor.{states-left, Standing, First}
-use Rattle.cursor.proofs.Cursors.{few-states, anew-long}
+use Rattle.cursor.specs.Cursor.{states_left, Standing, First}
+use Rattle.cursor.proofs.Cursors.{few_states, anew_long}
 use Rattle.lines.specs.Put.{Put}
-use Rattle.lines.specs.Lines.{ascii, named, countsText, stateLines, firstLine, refusedLine}
+use Rattle.lines.specs.Lines.{ascii, named, counts_text, state_lines, first_line, refused_line}
 use Rattle.pages.specs.declared.Page.{Page}
 use Rattle.pages.specs.declared.Filled.{Filled}
 use Rattle.pages.specs.declared.states.Lines.{Lines}
-use Rattle.pages.specs.Pages.{lines_from, Part, to-come, PageReady, Fills, LinesFilled}
-use Rattle.pages.proofs.Parts.{put-part}
+use Rattle.pages.specs.Pages.{lines_from, Part, to_come, PageReady, Fills, LinesFilled}
+use Rattle.pages.proofs.Parts.{put_part}
 
 -- behind the last state nothing is to come
-pub nothing_left : (p : Page) → p.cursor.left ≡ 0 → to-come p ≡ []
-unfolding to-come lines_from states-left stateLines
+pub nothing_left : (p : Page) → p.cursor.left ≡ 0 → to_come p ≡ []
+unfolding to_come lines_from states_left state_lines
 nothing_left p none =
     let w = p.walker in
     let s = take w.n_edges p.config in
     let c = p.cursor in
-    ap (λ k. stateLines c.number (states-left w.free (row (length s) w.cycles) p.lambda w.n_free s k c.d c.to)) none
+    ap (λ k. state_lines c.number (states_left w.free (row (length s) w.cycles) p.lambda w.n_free s k c.d c.to)) none
 
-pub fills : (text out : List ℕ) (r : Filled) → Part text out r.len (to-come r.page) → r.more ≡ ltb 0 r.page.cursor.left → (0 < r.page.cursor.left → PageReady r.page) → Fills text out r
+pub fills : (text out : List ℕ) (r : Filled) → Part text out r.len (to_come r.page) → r.more ≡ ltb 0 r.page.cursor.left → (0 < r.page.cursor.left → PageReady r.page) → Fills text out r
 fills text out r part told ready =
     record {
       part = part;
@@ -44,20 +44,20 @@ fills text out r part told ready =
     }
 
 -- ---- a whole text
-refused-some : (n : ℕ) → 0 < length (refusedLine n)
-unfolding refusedLine ascii
-refused-some n = omega (arith, length-append (named "refused " n) (10 ∷ []))
+refused_some : (n : ℕ) → 0 < length (refused_line n)
+unfolding refused_line ascii
+refused_some n = omega (arith, length-append (named "refused " n) (10 ∷ []))
 
-pub first_some : (v e t lambda dim : ℕ) → 0 < length (firstLine v e t lambda dim)
-unfolding firstLine ascii
-first_some v e t lambda dim = omega (arith, length-append (countsText v e t lambda ++ named " dim " dim) (10 ∷ []))
+pub first_some : (v e t lambda dim : ℕ) → 0 < length (first_line v e t lambda dim)
+unfolding first_line ascii
+first_some v e t lambda dim = omega (arith, length-append (counts_text v e t lambda ++ named " dim " dim) (10 ∷ []))
 
-pub refused-fills : (n : ℕ) (before after : List ℕ) (r : Filled) → 0 + length (refusedLine n) ≤ length before → r.more ≡ false → r.page.cursor.left ≡ 0 → Put (refusedLine n) before 0 after r.len → Fills (refusedLine n) after r
-refused-fills n before after r room no_more none written =
-    let text = refusedLine n in
+pub refused_fills : (n : ℕ) (before after : List ℕ) (r : Filled) → 0 + length (refused_line n) ≤ length before → r.more ≡ false → r.page.cursor.left ≡ 0 → Put (refused_line n) before 0 after r.len → Fills (refused_line n) after r
+refused_fills n before after r room no_more none written =
+    let text = refused_line n in
     let nothing = nothing_left r.page none in
     record {
-      part = rw nothing (rw (append-nil text) at (put-part text [] before after r.len room (refused-some n) written));
+      part = rw nothing (rw (append-nil text) at (put_part text [] before after r.len room (refused_some n) written));
       more = λ h. let z : ◌≡◌ {A = ℕ} 0 1 = cc in absurd (omega arith);
       last = λ h. nothing;
     }
@@ -67,24 +67,24 @@ module _ (w : Walker) (L : ℕ) (c : Cursor) (s rest : List ℤ) (long : length 
   abbrev page : Page
   page = record { lambda = L; walker = w; cursor = c; config = s ++ rest }
 
-  pub page-lines : to-come page ≡ lines_from w.free w.cycles L w.n_free s c
-  unfolding to-come
-  page-lines = rw (take_at s rest w.n_edges long)
+  pub page_lines : to_come page ≡ lines_from w.free w.cycles L w.n_free s c
+  unfolding to_come
+  page_lines = rw (take_at s rest w.n_edges long)
 
-  pub page-ready : w.n_edges ≤ 63 → length (s ++ rest) ≡ 63 → Standing w.free w.cycles L w.n_free s c → 0 < c.left → PageReady page
-  page-ready few all standing some =
+  pub page_ready : w.n_edges ≤ 63 → length (s ++ rest) ≡ 63 → Standing w.free w.cycles L w.n_free s c → 0 < c.left → PageReady page
+  page_ready few all standing some =
       record { edges = few; long = all; standing = rw (take_at s rest w.n_edges long) standing; some = some }
 
 -- ---- the first page
-module _ (w : Walker) (L k : ℕ) (fit : Fit w L k) (old : List ℤ) (is : old ≡ begin-of w) where
-  pub first-ready : Walkable w.free w.cycles L w.n_free old k × (0 + length (walked-states w.free (row (length old) w.cycles) L w.n_free old k) ≤ 2 ^ 40)
-  first-ready =
+module _ (w : Walker) (L k : ℕ) (fit : Fit w L k) (old : List ℤ) (is : old ≡ begin_of w) where
+  pub first_ready : Walkable w.free w.cycles L w.n_free old k × (0 + length (walked_states w.free (row (length old) w.cycles) L w.n_free old k) ≤ 2 ^ 40)
+  first_ready =
       let walkable : Walkable w.free w.cycles L w.n_free old k = rw is fit.walkable in
-      (walkable, few-states w.free w.cycles L w.n_free old k walkable)
+      (walkable, few_states w.free w.cycles L w.n_free old k walkable)
 
-  pub first-lines : (new : List ℤ) (c : Cursor) → First w.free w.cycles L w.n_free old k 0 new c → lines_from w.free w.cycles L w.n_free new c ≡ stateLines 0 (states-of w L k)
-  unfolding lines_from states-of
-  first-lines new c made = rw (made.states, made.numbered, is, fit.sized)
+  pub first_lines : (new : List ℤ) (c : Cursor) → First w.free w.cycles L w.n_free old k 0 new c → lines_from w.free w.cycles L w.n_free new c ≡ state_lines 0 (states_of w L k)
+  unfolding lines_from states_of
+  first_lines new c made = rw (made.states, made.numbered, is, fit.sized)
 
 -- ---- the next page
 module _ (p : Page) (ready : PageReady p) where
@@ -94,23 +94,23 @@ module _ (p : Page) (ready : PageReady p) where
   abbrev config : List ℤ
   config = take (m - 0) p.config
 
-  config-long : length config ≡ m
-  config-long = let h = ready.edges in rw (sub-zero m) (length-take-le m p.config (omega (arith, ready.long)))
+  config_long : length config ≡ m
+  config_long = let h = ready.edges in rw (sub-zero m) (length-take-le m p.config (omega (arith, ready.long)))
 
-  pub turn-ready : Standing p.walker.free p.walker.cycles p.lambda p.walker.n_free config p.cursor
-  turn-ready = rw (sub-zero m) ready.standing
+  pub turn_ready : Standing p.walker.free p.walker.cycles p.lambda p.walker.n_free config p.cursor
+  turn_ready = rw (sub-zero m) ready.standing
 
-  lines-here : lines_from p.walker.free p.walker.cycles p.lambda p.walker.n_free config p.cursor ≡ to-come p
-  unfolding to-come
-  lines-here = rw (sub-zero m)
+  lines_here : lines_from p.walker.free p.walker.cycles p.lambda p.walker.n_free config p.cursor ≡ to_come p
+  unfolding to_come
+  lines_here = rw (sub-zero m)
 
   pub turned : (out : List ℕ) (new rest : List ℤ) (r : Lines) → length new ≡ length config → rest ≡ drop (m - 0) p.config → LinesFilled p.walker.free p.walker.cycles p.lambda p.walker.n_free config p.cursor out new r
-      → Fills (to-come p) out (record { len = r.len; more = ltb 0 r.cursor.left; page = record { lambda = p.lambda; walker = p.walker; cursor = r.cursor; config = new ++ rest } })
+      → Fills (to_come p) out (record { len = r.len; more = ltb 0 r.cursor.left; page = record { lambda = p.lambda; walker = p.walker; cursor = r.cursor; config = new ++ rest } })
   turned out new rest r same is filled =
       let w = p.walker in
-      let long = same ∙ config-long in
-      let all : length (new ++ rest) ≡ 63 = rw is (anew-long new p.config m long ready.edges ready.long) in
-      fills (to-come p) out _
-      (rw (page-lines w p.lambda r.cursor new rest long, ← lines-here) filled.part)
+      let long = same ∙ config_long in
+      let all : length (new ++ rest) ≡ 63 = rw is (anew_long new p.config m long ready.edges ready.long) in
+      fills (to_come p) out _
+      (rw (page_lines w p.lambda r.cursor new rest long, ← lines_here) filled.part)
       refl
-      (page-ready w p.lambda r.cursor new rest long ready.edges all filled.standing)
+      (page_ready w p.lambda r.cursor new rest long ready.edges all filled.standing)

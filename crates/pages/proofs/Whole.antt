@@ -9,25 +9,25 @@ use lib.Dec.{ltb}
 use lib.ListN.{length, take, drop, length-append, length-drop, take-append-drop}
 use lib.Seq.{take_at, take_all, drop_at, drop-drop, length-take-le}
 use Rattle.cycles.specs.Cycles.{row}
-use Rattle.cursor.specs.Cursor.{states-left, state-here}
+use Rattle.cursor.specs.Cursor.{states_left, state_here}
 use Rattle.cursor.proofs.Cursors.{more_rows}
-use Rattle.lines.specs.Lines.{stateLine, stateLines}
+use Rattle.lines.specs.Lines.{state_line, state_lines}
 use Rattle.pages.specs.declared.Page.{Page}
 use Rattle.pages.specs.declared.Filled.{Filled}
-use Rattle.pages.specs.Pages.{lines_from, to-come, PageReady, Fills, Piece, Pieces, last, then}
-use Rattle.pages.proofs.Parts.{line-some}
+use Rattle.pages.specs.Pages.{lines_from, to_come, PageReady, Fills, Piece, Pieces, last, then}
+use Rattle.pages.proofs.Parts.{line_some}
 
 -- where a page can be turned, something is to come
-ready-some : (p : Page) → PageReady p → 0 < length (to-come p)
-unfolding to-come lines_from stateLines
-ready-some p ready =
+ready_some : (p : Page) → PageReady p → 0 < length (to_come p)
+unfolding to_come lines_from state_lines
+ready_some p ready =
     let w = p.walker in
     let s = take w.n_edges p.config in
     let c = p.cursor in
     let standing = ready.standing in
-    let rest = stateLines (suc c.number) (states-left w.free (row (length s) w.cycles) p.lambda w.n_free s c.left (c.d + 1) c.to) in
+    let rest = state_lines (suc c.number) (states_left w.free (row (length s) w.cycles) p.lambda w.n_free s c.left (c.d + 1) c.to) in
     rw (more_rows w.free w.cycles p.lambda w.n_free s c.left standing.walkable ready.some c.d c.to (standing.some ready.some))
-    (omega (arith, length-append (stateLine c.number (state-here w.cycles s c)) rest, line-some c.number (state-here w.cycles s c)))
+    (omega (arith, length-append (state_line c.number (state_here w.cycles s c)) rest, line_some c.number (state_here w.cycles s c)))
 
 -- ---- a part of what is to come, by its place
 module _ (text out : List ℕ) (place : ℕ) (r : Filled) (inside : place ≤ length text) (filled : Fills (drop place text) out r) where
@@ -35,32 +35,32 @@ module _ (text out : List ℕ) (place : ℕ) (r : Filled) (inside : place ≤ le
   part = take r.len out
 
   abbrev rest : List ℕ
-  rest = to-come r.page
+  rest = to_come r.page
 
-  part-long : length part ≡ r.len
-  part-long = length-take-le r.len out filled.part.inside
+  part_long : length part ≡ r.len
+  part_long = length-take-le r.len out filled.part.inside
 
-  text-long : length text ≡ place + r.len + length rest
-  text-long = omega (arith, length-drop place text, ap length filled.part.joined, length-append part rest, part-long)
+  text_long : length text ≡ place + r.len + length rest
+  text_long = omega (arith, length-drop place text, ap length filled.part.joined, length-append part rest, part_long)
 
   pub placed : Piece text place out r
   placed =
       record {
-        bytes = sym (ap (take r.len) filled.part.joined ∙ take_at part rest r.len part-long);
+        bytes = sym (ap (take r.len) filled.part.joined ∙ take_at part rest r.len part_long);
         fits = filled.part.inside;
         some = filled.part.some;
-        inside = omega (arith, text-long);
+        inside = omega (arith, text_long);
         more = go r.more refl;
         ready = filled.more;
         next = record {
-          rest = sym (sym (drop-drop r.len place text) ∙ ap (drop r.len) filled.part.joined ∙ drop_at part rest r.len part-long);
-          inside = omega (arith, text-long);
+          rest = sym (sym (drop-drop r.len place text) ∙ ap (drop r.len) filled.part.joined ∙ drop_at part rest r.len part_long);
+          inside = omega (arith, text_long);
         };
       }
     where
       go : (b : Bool) → r.more ≡ b → r.more ≡ ltb (place + r.len) (length text)
-      go true h = h ∙ sym (lt-ltb (place + r.len) (length text) (omega (arith, text-long, ready-some r.page (filled.more h))))
-      go false h = h ∙ sym (le-ltb (place + r.len) (length text) (omega (arith, text-long, ap length (filled.last h))))
+      go true h = h ∙ sym (lt-ltb (place + r.len) (length text) (omega (arith, text_long, ready_some r.page (filled.more h))))
+      go false h = h ∙ sym (le-ltb (place + r.len) (length text) (omega (arith, text_long, ap length (filled.last h))))
 
 -- pieces up to the last, one behind the other, are the text from their place on
 pub whole : {text l : List ℕ} {place : ℕ} → Pieces text place l → l ≡ drop place text

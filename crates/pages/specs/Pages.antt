@@ -1,21 +1,21 @@
 -- The text of `basis list`, a piece at a time.
 use Rattle.std.specs.Prelude.{ℕ, ◌+◌, ◌<◌, ◌≤◌, List, [], ◌++◌, true, false, ◌≡◌, ℤ, ltb, length, take, drop}
 use Rattle.cursor.specs.declared.Cursor.{Cursor}
-use Rattle.cursor.specs.Cursor.{states-from, Standing}
-use Rattle.lines.specs.Lines.{stateLines}
+use Rattle.cursor.specs.Cursor.{states_from, Standing}
+use Rattle.lines.specs.Lines.{state_lines}
 use Rattle.pages.specs.declared.states.Lines.{Lines}
 use Rattle.pages.specs.declared.Page.{Page}
 use Rattle.pages.specs.declared.Filled.{Filled}
 use Rattle.pages.specs.declared.Begun.{Begun}
-use Rattle.pages.specs.Text.{basis-refusal, basisText}
+use Rattle.pages.specs.Text.{basis_refusal, basis_text}
 
 -- the lines of the states from a cursor on
 unfoldable pub lines_from : List ℕ → List ℤ → ℕ → ℕ → List ℤ → Cursor → List ℕ
-lines_from free cycles L n s c = stateLines c.number (states-from free cycles L n s c)
+lines_from free cycles L n s c = state_lines c.number (states_from free cycles L n s c)
 
 -- what is still to come after a page
-unfoldable pub to-come : Page → List ℕ
-to-come p =
+unfoldable pub to_come : Page → List ℕ
+to_come p =
     let w = p.walker in
     lines_from w.free w.cycles p.lambda w.n_free (take w.n_edges p.config) p.cursor
 
@@ -28,7 +28,7 @@ pub record PageReady (p : Page) : Type 0 where
 
 -- a page at a place of a text: what it has still to come is the text from there on
 pub record PageAt (text : List ℕ) (place : ℕ) (p : Page) : Type 0 where
-  pub rest : to-come p ≡ drop place text
+  pub rest : to_come p ≡ drop place text
   pub inside : place ≤ length text
 
 -- The next piece of a text, from a place on. The bytes at the front of a list are those of the text, at least one of them. More is told exactly
@@ -44,8 +44,8 @@ pub record Piece (text : List ℕ) (place : ℕ) (out : List ℕ) (r : Filled) :
 
 -- the first piece of the answer to the bytes of a sheet, and the number of its refusal, 0 where it has none
 pub record Begins (bytes out : List ℕ) (r : Begun) : Type 0 where
-  pub piece : Piece (basisText bytes) 0 out r.filled
-  pub refusal : r.refusal ≡ basis-refusal bytes
+  pub piece : Piece (basis_text bytes) 0 out r.filled
+  pub refusal : r.refusal ≡ basis_refusal bytes
 
 -- the piece after a page, of every text and place that the page stands at
 abbrev pub Continues : List ℕ → Page → Filled → Type 0
@@ -65,9 +65,9 @@ pub record Part (before out : List ℕ) (len : ℕ) (after : List ℕ) : Type 0 
 
 -- the first part of a text is in the list, and it is told whether more is to come
 pub record Fills (text out : List ℕ) (r : Filled) : Type 0 where
-  pub part : Part text out r.len (to-come r.page)
+  pub part : Part text out r.len (to_come r.page)
   pub more : r.more ≡ true → PageReady r.page
-  pub last : r.more ≡ false → to-come r.page ≡ []
+  pub last : r.more ≡ false → to_come r.page ≡ []
 
 -- the same of a text that a refusal decides
 pub record Told (number : ℕ) (text out : List ℕ) (r : Begun) : Type 0 where

@@ -3,13 +3,13 @@ pub mod states;
 
 ghost use Rattle.std.specs.Prelude.{◌≡◌, ◌∷◌, [], ◌≤◌, ◌<◌, length};
 ghost use Rattle.mathematics.specs.Refusals.{first};
-ghost use Rattle.complex.specs.Complex.{complexOf};
+ghost use Rattle.complex.specs.Complex.{complex_of};
 ghost use Rattle.complex.specs.Judge.{refusal};
-ghost use Rattle.walker.specs.Tables.{states-of, Fit};
-ghost use Rattle.enumeration.specs.Enumeration.{limit-test};
-ghost use Rattle.lines.specs.Lines.{stateLines, refusedLine};
+ghost use Rattle.walker.specs.Tables.{states_of, Fit};
+ghost use Rattle.enumeration.specs.Enumeration.{limit_test};
+ghost use Rattle.lines.specs.Lines.{state_lines, refused_line};
 ghost use Rattle.pages.specs.Text.{told};
-ghost use Rattle.pages.specs.Pages.{to-come, PageReady, Told, Begins, Continues};
+ghost use Rattle.pages.specs.Pages.{to_come, PageReady, Told, Begins, Continues};
 
 use cursor::{Cursor, first_state};
 use cycles::CYCLE_ENTRIES;
@@ -74,7 +74,7 @@ fn last_page() -> Page
 // All states are to come.
 fn first_page(w: Walker, lambda: usize, blocks: usize) -> Page
     requires { Fit w lambda blocks }
-    ensures { (to-come result ≡ stateLines 0 (states-of w lambda blocks)) × (0 < result.cursor.left → PageReady result) }
+    ensures { (to_come result ≡ state_lines 0 (states_of w lambda blocks)) × (0 < result.cursor.left → PageReady result) }
 {
     let free = w.free;
     let cycles = w.cycles;
@@ -93,7 +93,7 @@ fn first_page(w: Walker, lambda: usize, blocks: usize) -> Page
 
 fn fill_refused(out: &mut [u8], number: usize) -> Begun
     requires { 400 ≤ length out.old }
-    ensures { Told number (refusedLine number) out.new result }
+    ensures { Told number (refused_line number) out.new result }
 {
     let len = write_refused_line(out, 0, number);
     let filled = Filled {
@@ -109,8 +109,8 @@ fn fill_refused(out: &mut [u8], number: usize) -> Begun
 
 // The first line of a sheet that was read, or 10.
 fn fill_first(out: &mut [u8], s: Sheet) -> Begun
-    requires { (400 ≤ length out.old) × (refusal (complexOf s.complex) ≡ 0) × (s.lambda ≤ 1000) }
-    ensures { Told (first (limit-test (complexOf s.complex) s.lambda ∷ [])) (told (first (limit-test (complexOf s.complex) s.lambda ∷ [])) (complexOf s.complex) s.lambda) out.new result }
+    requires { (400 ≤ length out.old) × (refusal (complex_of s.complex) ≡ 0) × (s.lambda ≤ 1000) }
+    ensures { Told (first (limit_test (complex_of s.complex) s.lambda ∷ [])) (told (first (limit_test (complex_of s.complex) s.lambda ∷ [])) (complex_of s.complex) s.lambda) out.new result }
 {
     let c = s.complex;
     let lambda = s.lambda;

@@ -8,48 +8,48 @@ use borrow.Author.Tests.{lt-leb, leb-false}
 use lib.Dec.{leb}
 use lib.IntN.{ℤ, pos}
 use lib.ListN.{get_or, length}
-use Rattle.mathematics.specs.Tests.{every-entry}
+use Rattle.mathematics.specs.Tests.{every_entry}
 use Rattle.mathematics.specs.Refusals.{first, Outcome, value, refused, outcome}
 use Rattle.mathematics.specs.Calls.{Answered}
 use Rattle.mathematics.proofs.Refusals.{numbered}
 use Rattle.mathematics.proofs.Calls.{Tells, none as last, here, past, past_all}
 use Rattle.answers.specs.declared.Answer.{Answer}
-use Rattle.answers.specs.Answer.{numberAnswer}
+use Rattle.answers.specs.Answer.{number_answer}
 use Rattle.complex.specs.declared.SimplicialComplex.{SimplicialComplex}
-use Rattle.complex.specs.Complex.{Complex, complexOf}
+use Rattle.complex.specs.Complex.{Complex, complex_of}
 use Rattle.complex.specs.Judge.{Accepted}
 use Rattle.complex.specs.Sides.{sides, side}
-use Rattle.complex.proofs.TriangleEdges.{triangle-sides}
+use Rattle.complex.proofs.TriangleEdges.{triangle_sides}
 use Rattle.gauss_law.specs.Listing.{states}
-use Rattle.gauss_law.proofs.Accepted.{listing-complete}
-use Rattle.gauss_law.proofs.Shifts.{triangle-moved}
-use Rattle.enumeration.specs.Enumeration.{basis-tests}
-use Rattle.enumeration.proofs.Demanded.{not_short, basis-none, demanded}
+use Rattle.gauss_law.proofs.Accepted.{listing_complete}
+use Rattle.gauss_law.proofs.Shifts.{triangle_moved}
+use Rattle.enumeration.specs.Enumeration.{basis_tests}
+use Rattle.enumeration.proofs.Demanded.{not_short, basis_none, demanded}
 use Rattle.hilbert.specs.Basis.{place}
 use Rattle.gauss_law.specs.Gauss.{within}
-use Rattle.plaquettes.specs.Triangle.{moved-state, shifted-state, sides-within, triangle-tests, triangle-call}
+use Rattle.plaquettes.specs.Triangle.{moved_state, shifted_state, sides_within, triangle_tests, triangle_call}
 use Rattle.plaquettes.specs.Demand.{OutOfBand, ShiftAnswered, ShiftDemand, Demand3}
-use Rattle.plaquettes.proofs.TriangleTelling.{state-there}
+use Rattle.plaquettes.proofs.TriangleTelling.{state_there}
 
 -- a value is no refusal
-is-value : Outcome ℕ → ℕ
-is-value (value n) = 1
-is-value (refused n) = 0
+is_value : Outcome ℕ → ℕ
+is_value (value n) = 1
+is_value (refused n) = 0
 
-value-refused : {n m : ℕ} → value n ≡ refused m → ⊥
-unfolding is-value
-value-refused e = absurd (omega (arith, ap is-value e))
+value_refused : {n m : ℕ} → value n ≡ refused m → ⊥
+unfolding is_value
+value_refused e = absurd (omega (arith, ap is_value e))
 
 -- ---- one of the three edges leaves
 module _ (c : Complex) (right : Accepted c) (L t : ℕ) (number : t < length c.triangles) (s : List ℤ) where
   value_of : ℕ → ℤ
   value_of k = get_or s (side c t k) (pos 0)
 
-  three : sides-within c L t s ≡ (within L (value_of 0) && (within L (value_of 1) && (within L (value_of 2) && true)))
-  unfolding sides-within every-entry side value_of
-  three = rw (triangle-sides c right t number).numbers
+  three : sides_within c L t s ≡ (within L (value_of 0) && (within L (value_of 1) && (within L (value_of 2) && true)))
+  unfolding sides_within every_entry side value_of
+  three = rw (triangle_sides c right t number).numbers
 
-  pub leaves : sides-within c L t s ≡ false → OutOfBand c L t s
+  pub leaves : sides_within c L t s ≡ false → OutOfBand c L t s
   unfolding within value_of
   leaves h = go (within L (value_of 0)) refl (within L (value_of 1)) refl (within L (value_of 2)) refl (sym three ∙ h)
     where
@@ -59,7 +59,7 @@ module _ (c : Complex) (right : Accepted c) (L t : ℕ) (number : t < length c.t
       go true p true q false r k = record { which = 2; one_of_three = omega arith; out = leb-false _ _ r }
       go true p true q true r k = absurd (false≢true (sym k))
 
-  pub left : OutOfBand c L t s → sides-within c L t s ≡ false
+  pub left : OutOfBand c L t s → sides_within c L t s ≡ false
   unfolding within value_of
   left out = three ∙ go out.which out.one_of_three (lt-leb _ _ out.out)
     where
@@ -79,52 +79,52 @@ module _ (c : Complex) (right : Accepted c) (L t : ℕ) (number : t < length c.t
       go (suc (suc (suc k))) b h = absurd (omega arith)
 
 -- ---- both halves
-module _ (c : Complex) (right : Accepted c) (L : ℕ) (none : first (basis-tests c L) ≡ 0) where
+module _ (c : Complex) (right : Accepted c) (L : ℕ) (none : first (basis_tests c L) ≡ 0) where
   module _ (t k : ℕ) (number : t < length c.triangles) (state : k < length (states c L)) where
-    decided : (room : ℕ) → length (states c L) * length c.edges ≤ room → {n : ℕ} → Tells ((16, not (sides-within c L t (shifted-state c L t k))) ∷ []) n → first (triangle-tests c L t k room) ≡ n
-    unfolding numbered every-entry
+    decided : (room : ℕ) → length (states c L) * length c.edges ≤ room → {n : ℕ} → Tells ((16, not (sides_within c L t (shifted_state c L t k))) ∷ []) n → first (triangle_tests c L t k room) ≡ n
+    unfolding numbered every_entry
     decided room long end =
         let numbers : (leb (length c.triangles) t || leb (length (states c L)) k) ≡ false = rw (lt-leb (length c.triangles) t number, lt-leb (length (states c L)) k state) in
-        (past_all (basis-tests c L) refl none (past numbers (past (not_short c L room long) end))).number
+        (past_all (basis_tests c L) refl none (past numbers (past (not_short c L room long) end))).number
 
-    shift-told : (old new : List ℤ) (r : Answer) → Answered (triangle-call c L t k old) (numberAnswer r) new → length (states c L) * length c.edges ≤ length old → ShiftAnswered c L (states c L) t k r
-    unfolding outcome moved-state triangle-call
-    shift-told old new r h long =
+    shift_told : (old new : List ℤ) (r : Answer) → Answered (triangle_call c L t k old) (number_answer r) new → length (states c L) * length c.edges ≤ length old → ShiftAnswered c L (states c L) t k r
+    unfolding outcome moved_state triangle_call
+    shift_told old new r h long =
         record {
-          sides = triangle-sides c right t number;
-          after = shifted-state c L t k;
-          shifted = triangle-moved c right t number (pos 1) (get_or (states c L) k []) (state-there c right L k state).sized;
-          refused-only = λ e. leaves c right L t number (shifted-state c L t k) (only (sides-within c L t (shifted-state c L t k)) refl e);
-          refused-then = λ out. by-band (here (rw (left c right L t number (shifted-state c L t k) out)));
-          placed = λ stay. at_place (sides-within c L t (shifted-state c L t k)) refl (λ e. stay (leaves c right L t number (shifted-state c L t k) e));
+          sides = triangle_sides c right t number;
+          after = shifted_state c L t k;
+          shifted = triangle_moved c right t number (pos 1) (get_or (states c L) k []) (state_there c right L k state).sized;
+          refused_only = λ e. leaves c right L t number (shifted_state c L t k) (only (sides_within c L t (shifted_state c L t k)) refl e);
+          refused_then = λ out. by_band (here (rw (left c right L t number (shifted_state c L t k) out)));
+          placed = λ stay. at_place (sides_within c L t (shifted_state c L t k)) refl (λ e. stay (leaves c right L t number (shifted_state c L t k) e));
         }
       where
-        by-band : {n : ℕ} → Tells ((16, not (sides-within c L t (shifted-state c L t k))) ∷ []) n → numberAnswer r ≡ outcome n (place c L (shifted-state c L t k))
-        by-band end = h.answer ∙ ap (λ n. outcome n (place c L (shifted-state c L t k))) (decided (length old) long end)
+        by_band : {n : ℕ} → Tells ((16, not (sides_within c L t (shifted_state c L t k))) ∷ []) n → number_answer r ≡ outcome n (place c L (shifted_state c L t k))
+        by_band end = h.answer ∙ ap (λ n. outcome n (place c L (shifted_state c L t k))) (decided (length old) long end)
 
-        only : (b : Bool) → sides-within c L t (shifted-state c L t k) ≡ b → numberAnswer r ≡ refused 16 → b ≡ false
-        only true band e = absurd (value-refused (sym (by-band (past (rw band) last)) ∙ e))
+        only : (b : Bool) → sides_within c L t (shifted_state c L t k) ≡ b → number_answer r ≡ refused 16 → b ≡ false
+        only true band e = absurd (value_refused (sym (by_band (past (rw band) last)) ∙ e))
         only false band e = refl
 
-        at_place : (b : Bool) → sides-within c L t (shifted-state c L t k) ≡ b → (b ≡ false → ⊥) → (p : ℕ) × (numberAnswer r ≡ value p) × (p < length (states c L)) × (get_or (states c L) p [] ≡ shifted-state c L t k)
+        at_place : (b : Bool) → sides_within c L t (shifted_state c L t k) ≡ b → (b ≡ false → ⊥) → (p : ℕ) × (number_answer r ≡ value p) × (p < length (states c L)) × (get_or (states c L) p [] ≡ shifted_state c L t k)
         at_place true band f =
-            let end : Tells ((16, not (sides-within c L t (shifted-state c L t k))) ∷ []) 0 = past (rw band) last in
+            let end : Tells ((16, not (sides_within c L t (shifted_state c L t k))) ∷ []) 0 = past (rw band) last in
             let there = (h.known (decided (length old) long end)).found in
-            (place c L (shifted-state c L t k), by-band end, there.below, there.state)
+            (place c L (shifted_state c L t k), by_band end, there.below, there.state)
         at_place false band f = absurd (f refl)
 
-pub shift-demanded : (c : SimplicialComplex) (L t k : ℕ) (old new : List ℤ) (r : Answer) → Answered (triangle-call (complexOf c) L t k old) (numberAnswer r) new
-    → Answered (triangle-call (complexOf c) L t k old) (numberAnswer r) new × ShiftDemand (complexOf c) L t k old r
-unfolding complexOf
-shift-demanded c L t k old new r h =
-    (h, record { zero = λ v. refl; answered = λ can number state long. shift-told (complexOf c) can.accepted L (basis-none c L can) t k number state old new r h long })
+pub shift_demanded : (c : SimplicialComplex) (L t k : ℕ) (old new : List ℤ) (r : Answer) → Answered (triangle_call (complex_of c) L t k old) (number_answer r) new
+    → Answered (triangle_call (complex_of c) L t k old) (number_answer r) new × ShiftDemand (complex_of c) L t k old r
+unfolding complex_of
+shift_demanded c L t k old new r h =
+    (h, record { zero = λ v. refl; answered = λ can number state long. shift_told (complex_of c) can.accepted L (basis_none c L can) t k number state old new r h long })
 
-pub demand-3 : Demand3
-unfolding states complexOf
-demand-3 c L can =
+pub demand_3 : Demand3
+unfolding states complex_of
+demand_3 c L can =
     record {
       zero = λ v. refl;
-      complete = listing-complete (complexOf c) can.accepted (complexOf c).charges L;
+      complete = listing_complete (complex_of c) can.accepted (complex_of c).charges L;
       lists = λ old new r h. (demanded c L old new r h).1;
-      shifts = λ t k old new r h. (shift-demanded c L t k old new r h).1;
+      shifts = λ t k old new r h. (shift_demanded c L t k old new r h).1;
     }

@@ -9,23 +9,23 @@ use lib.ListN.{get_or, length, drop, length-take, length-drop}
 use Rattle.complex.specs.Complex.{Complex}
 use Rattle.walker.specs.declared.tables.Walker.{Walker}
 use Rattle.walker.specs.Blocks.{StatesWritten}
-use Rattle.walker.specs.Tables.{states-of}
-use Rattle.enumeration.specs.Enumeration.{basis-first, BasisWalks}
+use Rattle.walker.specs.Tables.{states_of}
+use Rattle.enumeration.specs.Enumeration.{basis_first, BasisWalks}
 use Rattle.gauss_law.specs.Listing.{states}
-use Rattle.enumeration.proofs.Enumerating.{basis-written}
+use Rattle.enumeration.proofs.Enumerating.{basis_written}
 use Rattle.hilbert.specs.Search.{row}
 use Rattle.plaquettes.specs.declared.target.Sizes.{Sizes}
 use Rattle.plaquettes.specs.Targets.{BasisList}
 use Rattle.plaquettes.specs.Rows.{SmallRows}
-use Rattle.plaquettes.proofs.TriangleTelling.{state-there}
-use Rattle.plaquettes.proofs.Targets.{edges_few, there, list-long, row_is}
+use Rattle.plaquettes.proofs.TriangleTelling.{state_there}
+use Rattle.plaquettes.proofs.Targets.{edges_few, there, list_long, row_is}
 
 -- the list that the walk has written begins with the basis
-pub basis-listed : (c : Complex) (L : ℕ) (w : Walker) (blocks : ℕ) → BasisWalks c L w blocks → (old new : List ℤ) (r : ℕ) → StatesWritten (states-of w L blocks) old new r
+pub basis_listed : (c : Complex) (L : ℕ) (w : Walker) (blocks : ℕ) → BasisWalks c L w blocks → (old new : List ℤ) (r : ℕ) → StatesWritten (states_of w L blocks) old new r
     → (s : Sizes) → s ≡ record { states = r; edges = w.n_edges; free = w.n_free; lambda = L } → BasisList c new s w.free
-unfolding basis-first
-basis-listed c L w blocks basis old new r h s e =
-    let made = basis-written c L w blocks basis old new r h in
+unfolding basis_first
+basis_listed c L w blocks basis old new r h s e =
+    let made = basis_written c L w blocks basis old new r h in
     rw e
     (record {
       accepted = basis.walks.accepted;
@@ -35,10 +35,10 @@ basis-listed c L w blocks basis old new r h s e =
       edges = basis.walks.edges;
       rest = drop (length (flatten (states c L))) old;
       begins = made.1;
-      free-count = basis.walks.count;
-      free-few = basis.walks.few;
-      free-fit = rw (← basis.fit.sized) basis.fit.walkable.free-fit;
-      free-listed = basis.walks.listed;
+      free_count = basis.walks.count;
+      free_few = basis.walks.few;
+      free_fit = rw (← basis.fit.sized) basis.fit.walkable.free_fit;
+      free_listed = basis.walks.listed;
     })
 
 -- a row of small values lies in the list
@@ -53,16 +53,16 @@ module _ (list : List ℤ) (n m : ℕ) (small : SmallRows list n m) (i : ℕ) (h
 
 module _ (c : Complex) (list : List ℤ) (s : Sizes) (free : List ℕ) (basis : BasisList c list s free) where
   -- the values of its rows can be squared
-  pub small-rows : SmallRows list s.states s.edges
-  small-rows =
+  pub small_rows : SmallRows list s.states s.edges
+  small_rows =
       record {
         few = basis.few;
         edges_few = edges_few c list s free basis;
-        long = list-long c list s free basis;
+        long = list_long c list s free basis;
         small = λ i h e k. rw (row_is c list s free basis i h) (value i h e k);
       }
     where
       value : (i : ℕ) → i < s.states → (e : ℕ) → e < s.edges → nat_abs (get_or (get_or (states c s.lambda) i []) e (pos 0)) ≤ 1000
       value i h e k =
-          let w = (state-there c basis.accepted s.lambda i (there c list s free basis i h)).within e (rw (← basis.edges) k) in
+          let w = (state_there c basis.accepted s.lambda i (there c list s free basis i h)).within e (rw (← basis.edges) k) in
           omega (arith, w, basis.truncation)

@@ -8,67 +8,67 @@ use native.Mathlib.Omega.{arith}
 use borrow.Author.Tests.{eq-eqb}
 use lib.IntN.{ℤ, pos, neg_ℤ}
 use lib.ListN.{get_or, length, take, length-append}
-use Rattle.mathematics.proofs.Flat.{flatten-length}
+use Rattle.mathematics.proofs.Flat.{flatten_length}
 use Rattle.triangles.specs.declared.Sides.{Sides}
 use Rattle.complex.specs.Complex.{Complex}
 use Rattle.gauss_law.specs.Gauss.{State, within}
 use Rattle.gauss_law.specs.Shifts.{shifted}
-use Rattle.gauss_law.proofs.Shifts.{triangle-long}
+use Rattle.gauss_law.proofs.Shifts.{triangle_long}
 use Rattle.gauss_law.specs.Listing.{states}
 use Rattle.hilbert.specs.Search.{Rows, Ranked, row}
-use Rattle.hilbert.proofs.Order.{row-state, ranked}
+use Rattle.hilbert.proofs.Order.{row_state, ranked}
 use Rattle.plaquettes.specs.declared.target.Sizes.{Sizes}
-use Rattle.plaquettes.specs.Triangle.{moved-state, sides-within, target, hits, Shiftable}
+use Rattle.plaquettes.specs.Triangle.{moved_state, sides_within, target, hits, Shiftable}
 use Rattle.plaquettes.specs.Targets.{BasisList}
 use Rattle.triangles.specs.Indices.{SidesOf}
-use Rattle.plaquettes.proofs.TriangleRows.{front-moved, three-told, row-shiftable}
-use Rattle.triangles.proofs.SidesFound.{sides-below}
-use Rattle.plaquettes.proofs.TriangleTelling.{state-there}
-use Rattle.plaquettes.proofs.Moves.{target_none, target-rises, stays_at}
-use Rattle.plaquettes.proofs.Hits.{hits-target, outside-hit}
+use Rattle.plaquettes.proofs.TriangleRows.{front_moved, three_told, row_shiftable}
+use Rattle.triangles.proofs.SidesFound.{sides_below}
+use Rattle.plaquettes.proofs.TriangleTelling.{state_there}
+use Rattle.plaquettes.proofs.Moves.{target_none, target_rises, stays_at}
+use Rattle.plaquettes.proofs.Hits.{hits_target, outside_hit}
 
 module _ (c : Complex) (list : List ℤ) (s : Sizes) (free : List ℕ) (basis : BasisList c list s free) where
   abbrev L : ℕ
   L = s.lambda
 
   pub edges_few : s.edges ≤ 63
-  edges_few = rw basis.edges basis.accepted.few-edges
+  edges_few = rw basis.edges basis.accepted.few_edges
 
   pub there : (i : ℕ) → i < s.states → i < length (states c L)
   there i h = rw (← basis.count) h
 
-  pub list-long : s.states * s.edges ≤ length list
-  list-long =
+  pub list_long : s.states * s.edges ≤ length list
+  list_long =
       let is : length list ≡ length c.edges * length (states c L) + length basis.rest =
       ap length basis.begins ∙ length-append (flatten (states c L)) basis.rest
-      ∙ ap (λ (k : ℕ). k + length basis.rest) (flatten-length (length c.edges) (states c L) (λ i h. (state-there c basis.accepted L i h).sized)) in
+      ∙ ap (λ (k : ℕ). k + length basis.rest) (flatten_length (length c.edges) (states c L) (λ i h. (state_there c basis.accepted L i h).sized)) in
       rw (basis.count, basis.edges, mul_comm (length (states c L)) (length c.edges), is) (omega arith)
 
   -- a row of the list lies in it
   pub row_within : (i : ℕ) → i < s.states → i * s.edges + s.edges ≤ length list
-  row_within i h = omega (arith, list-long, mul-le-mul_right s.edges h)
+  row_within i h = omega (arith, list_long, mul-le-mul_right s.edges h)
 
   pub row_is : (i : ℕ) → i < s.states → row s.edges list i ≡ get_or (states c L) i []
-  row_is i h = rw basis.edges (ap (λ (l : List ℤ). row (length c.edges) l i) basis.begins ∙ row-state c basis.accepted L basis.rest i (there i h))
+  row_is i h = rw basis.edges (ap (λ (l : List ℤ). row (length c.edges) l i) basis.begins ∙ row_state c basis.accepted L basis.rest i (there i h))
 
-  pub row-long : (i : ℕ) → i < s.states → length (row s.edges list i) ≡ s.edges
-  row-long i h = ap length (row_is i h) ∙ (state-there c basis.accepted L i (there i h)).sized ∙ sym basis.edges
+  pub row_long : (i : ℕ) → i < s.states → length (row s.edges list i) ≡ s.edges
+  row_long i h = ap length (row_is i h) ∙ (state_there c basis.accepted L i (there i h)).sized ∙ sym basis.edges
 
-  pub list-rows : (config : List ℤ) → length config ≡ s.edges → Rows list s.states config free s.free
-  list-rows config e =
+  pub list_rows : (config : List ℤ) → length config ≡ s.edges → Rows list s.states config free s.free
+  list_rows config e =
       record {
         edges_few = rw e edges_few;
         few = basis.few;
-        long = rw e list-long;
-        free-few = basis.free-few;
-        free-fit = rw e basis.free-fit;
+        long = rw e list_long;
+        free_few = basis.free_few;
+        free_fit = rw e basis.free_fit;
       }
 
   -- ---- the hits of a triangle
   module _ (t : ℕ) (number : t < length c.triangles) where
     -- a target that is a place is a hit
-    pub hit-found : (i : ℕ) → target c L t (pos 1) i < s.states → hits c L t i (target c L t (pos 1) i) ≡ true
-    hit-found i k = hits-target c L t i (target c L t (pos 1) i) (there _ k) ∙ eq-eqb (target c L t (pos 1) i) (target c L t (pos 1) i) refl
+    pub hit_found : (i : ℕ) → target c L t (pos 1) i < s.states → hits c L t i (target c L t (pos 1) i) ≡ true
+    hit_found i k = hits_target c L t i (target c L t (pos 1) i) (there _ k) ∙ eq-eqb (target c L t (pos 1) i) (target c L t (pos 1) i) refl
 
-    pub hit-none : (i : ℕ) → i < s.states → s.states ≤ target c L t (pos 1) i → (q : ℕ) → hits c L t i q ≡ false
-    hit-none i h k = outside-hit c basis.accepted L t number i (there i h) (rw (← basis.count) k)
+    pub hit_none : (i : ℕ) → i < s.states → s.states ≤ target c L t (pos 1) i → (q : ℕ) → hits c L t i q ≡ false
+    hit_none i h k = outside_hit c basis.accepted L t number i (there i h) (rw (← basis.count) k)

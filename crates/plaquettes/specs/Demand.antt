@@ -3,14 +3,14 @@ use Rattle.std.specs.Prelude.{ℕ, ◌*◌, ◌≤◌, ◌<◌, List, [], ◌≡
 use Rattle.mathematics.specs.Refusals.{value, refused}
 use Rattle.mathematics.specs.Calls.{Answered}
 use Rattle.complex.specs.declared.SimplicialComplex.{SimplicialComplex}
-use Rattle.complex.specs.Complex.{Complex, complexOf}
+use Rattle.complex.specs.Complex.{Complex, complex_of}
 use Rattle.complex.specs.Sides.{TriangleSides, side}
 use Rattle.gauss_law.specs.Listing.{Complete, states}
 use Rattle.gauss_law.specs.Shifts.{TriangleShifted}
 use Rattle.answers.specs.declared.Answer.{Answer}
-use Rattle.enumeration.specs.Enumeration.{enumerated-call, Answerable, ListingDemand}
-use Rattle.answers.specs.Answer.{numberAnswer}
-use Rattle.plaquettes.specs.Triangle.{triangle-call}
+use Rattle.enumeration.specs.Enumeration.{enumerated_call, Answerable, ListingDemand}
+use Rattle.answers.specs.Answer.{number_answer}
+use Rattle.plaquettes.specs.Triangle.{triangle_call}
 
 -- one of the three edges of triangle t has left -L to L: the first, second or third, counted from 0
 pub record OutOfBand (c : Complex) (L t : ℕ) (s : List ℤ) : Type 0 where
@@ -24,9 +24,9 @@ pub record ShiftAnswered (c : Complex) (L : ℕ) (ss : List (List ℤ)) (t k : �
   pub sides : TriangleSides c t
   pub after : List ℤ
   pub shifted : TriangleShifted c t (get_or ss k []) after
-  pub refused-only : numberAnswer r ≡ refused 16 → OutOfBand c L t after
-  pub refused-then : OutOfBand c L t after → numberAnswer r ≡ refused 16
-  pub placed : (OutOfBand c L t after → ⊥) → (p : ℕ) × (numberAnswer r ≡ value p) × (p < length ss) × (get_or ss p [] ≡ after)
+  pub refused_only : number_answer r ≡ refused 16 → OutOfBand c L t after
+  pub refused_then : OutOfBand c L t after → number_answer r ≡ refused 16
+  pub placed : (OutOfBand c L t after → ⊥) → (p : ℕ) × (number_answer r ≡ value p) × (p < length ss) × (get_or ss p [] ≡ after)
 
 -- Demand 3 of one run of apply_triangle_shift, which its contract says beside its answer: no vertex carries a charge; where a call is to answer, for every triangle and every
 -- place below the number of states, with a list that is long enough for them.
@@ -35,15 +35,15 @@ pub record ShiftDemand (c : Complex) (L t k : ℕ) (old : List ℤ) (r : Answer)
   pub answered : Answerable c L → t < length c.triangles → k < length (states c L) → length (states c L) * length c.edges ≤ length old
       → ShiftAnswered c L (states c L) t k r
 
--- Demand 3: a state's Gauss sum is zero at each vertex; there is the list of all states, and each run of either function goes by it. An answer of `enumerated-call` is what
--- enumerate_gauge_invariant ensures, and one of `triangle-call` what apply_triangle_shift ensures; both ensure the demand of the run besides
+-- Demand 3: a state's Gauss sum is zero at each vertex; there is the list of all states, and each run of either function goes by it. An answer of `enumerated_call` is what
+-- enumerate_gauge_invariant ensures, and one of `triangle_call` what apply_triangle_shift ensures; both ensure the demand of the run besides
 -- (`ListingDemand`, enumeration/specs/Enumeration, and `ShiftDemand`).
 pub record Demand (c : Complex) (L : ℕ) : Type 0 where
   pub zero : (v : ℕ) → c.charges v ≡ pos 0
   pub complete : Complete c c.charges L (states c L)
-  pub lists : (old new : List ℤ) (r : Answer) → Answered (enumerated-call c L old) (numberAnswer r) new → ListingDemand c L old new r
-  pub shifts : (t k : ℕ) (old new : List ℤ) (r : Answer) → Answered (triangle-call c L t k old) (numberAnswer r) new → ShiftDemand c L t k old r
+  pub lists : (old new : List ℤ) (r : Answer) → Answered (enumerated_call c L old) (number_answer r) new → ListingDemand c L old new r
+  pub shifts : (t k : ℕ) (old new : List ℤ) (r : Answer) → Answered (triangle_call c L t k old) (number_answer r) new → ShiftDemand c L t k old r
 
 -- for every accepted complex and truncation with the candidates within the limit
 abbrev pub Demand3 : Type 0
-Demand3 = (c : SimplicialComplex) (L : ℕ) → Answerable (complexOf c) L → Demand (complexOf c) L
+Demand3 = (c : SimplicialComplex) (L : ℕ) → Answerable (complex_of c) L → Demand (complex_of c) L

@@ -3,9 +3,9 @@ use Rattle.std.specs.Prelude.{ℕ, zero, suc, ◌+◌, List, [], ◌∷◌, ◌+
 use Rattle.mathematics.specs.Tests.{some}
 use Rattle.mathematics.specs.Counting.{below, keep}
 use Rattle.complex.specs.Complex.{Complex}
-use Rattle.gauss_law.specs.Shifts.{triangle-move}
+use Rattle.gauss_law.specs.Shifts.{triangle_move}
 use Rattle.gauss_law.specs.Listing.{states}
-use Rattle.plaquettes.specs.Triangle.{sides-within, moved-state, target, hits}
+use Rattle.plaquettes.specs.Triangle.{sides_within, moved_state, target, hits}
 
 -- triangle t joins the states i and j: its shift takes one of them to the other
 abbrev pub joins : Complex → ℕ → ℕ → ℕ → ℕ → Bool
@@ -20,12 +20,12 @@ unfoldable pub staying : Complex → ℕ → List ℤ → ℕ → ℕ
 staying c L s zero = 0
 staying c L s (suc t) =
     staying c L s t
-    + (cond (sides-within c L t (triangle-move c t (pos 1) s)) 1 0
-    + cond (sides-within c L t (triangle-move c t (negsuc 0) s)) 1 0)
+    + (cond (sides_within c L t (triangle_move c t (pos 1) s)) 1 0
+    + cond (sides_within c L t (triangle_move c t (negsuc 0) s)) 1 0)
 
 -- the target of one move, and none where an edge leaves -L to L
 unfoldable pub arrival : Complex → ℕ → ℕ → ℤ → ℕ → List ℕ
-arrival c L t u i = cond (sides-within c L t (moved-state c L t u i)) (target c L t u i ∷ []) []
+arrival c L t u i = cond (sides_within c L t (moved_state c L t u i)) (target c L t u i ∷ []) []
 
 -- the targets of state i, of the first n triangles, each forward and then back
 unfoldable pub arrivals : Complex → ℕ → ℕ → ℕ → List ℕ

@@ -22,7 +22,7 @@ pub record Movable (s : List ℤ) (edges : List ℕ) : Type 0 where
   pub small : (e : ℕ) → e < length s → nat_abs (get_or s e (pos 0)) ≤ 1000
   pub first_below : get_or edges 0 0 < length s
   pub second_below : get_or edges 1 0 < length s
-  pub third-below : get_or edges 2 0 < length s
+  pub third_below : get_or edges 2 0 < length s
 
 -- a list that begins with rows of small values, and three edges of a row
 pub record MovableRows (list : List ℤ) (s : Sizes) (sides : Sides) : Type 0 where
@@ -30,7 +30,7 @@ pub record MovableRows (list : List ℤ) (s : Sizes) (sides : Sides) : Type 0 wh
   pub rows : SmallRows list s.states s.edges
   pub first_below : sides.first < s.edges
   pub second_below : sides.second < s.edges
-  pub third-below : sides.third < s.edges
+  pub third_below : sides.third < s.edges
 
 -- row k stays within -L to L where u is added
 abbrev pub row_stays : List ℤ → Sizes → Sides → ℤ → ℕ → Bool
@@ -38,7 +38,7 @@ row_stays list s sides u k = stays s.lambda (row s.edges list k) (three sides) u
 
 -- r is the first row from a place on that stays, or the number of rows
 pub record NextStaying (list : List ℤ) (s : Sizes) (sides : Sides) (u : ℤ) (from r : ℕ) : Type 0 where
-  pub not-before : from ≤ r
+  pub not_before : from ≤ r
   pub in_list : r ≤ s.states
   pub none_before : (k : ℕ) → from ≤ k → k < r → row_stays list s sides u k ≡ false
   pub there : r < s.states → row_stays list s sides u r ≡ true

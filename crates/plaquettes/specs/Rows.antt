@@ -11,5 +11,5 @@ pub record SmallRows (list : List ℤ) (n m : ℕ) : Type 0 where
   pub small : (i : ℕ) → i < n → (e : ℕ) → e < m → nat_abs (get_or (row m list i) e (pos 0)) ≤ 1000
 
 -- what the electric term adds on the diagonal: a factor times the sum of squares of row i
-unfoldable pub electric-term : Float → ℕ → List ℤ → ℕ → Float
-electric-term factor m list i = energy factor (squares (row m list i))
+unfoldable pub electric_term : Float → ℕ → List ℤ → ℕ → Float
+electric_term factor m list i = energy factor (squares (row m list i))

@@ -5,7 +5,7 @@ use Rattle.triangles.specs.declared.Sides.{Sides}
 use Rattle.triangles.specs.Indices.{SidesOf}
 use Rattle.complex.specs.Complex.{Complex}
 use Rattle.complex.specs.Judge.{Accepted}
-use Rattle.gauss_law.specs.Listing.{free-edges, states}
+use Rattle.gauss_law.specs.Listing.{free_edges, states}
 use Rattle.walker.specs.Steps.{FreeFit}
 use Rattle.plaquettes.specs.declared.target.Sizes.{Sizes}
 use Rattle.plaquettes.specs.Triangle.{target}
@@ -19,7 +19,7 @@ pub record BasisList (c : Complex) (list : List ℤ) (s : Sizes) (free : List �
   pub edges : s.edges ≡ length c.edges
   pub rest : List ℤ
   pub begins : list ≡ flatten (states c s.lambda) ++ rest
-  pub free-count : s.free ≡ length (free-edges c)
-  pub free-few : s.free ≤ 63
-  pub free-fit : FreeFit s.edges s.free free
-  pub free-listed : (j : ℕ) → j < s.free → get_or free j 0 ≡ get_or (free-edges c) j 0
+  pub free_count : s.free ≡ length (free_edges c)
+  pub free_few : s.free ≤ 63
+  pub free_fit : FreeFit s.edges s.free free
+  pub free_listed : (j : ℕ) → j < s.free → get_or free j 0 ≡ get_or (free_edges c) j 0

@@ -1,11 +1,11 @@
 // The shift of a triangle: 1, -1 and 1 are added on its three edges.
 ghost use Rattle.std.specs.Prelude.{◌≡◌, ◌&&◌, ◌^◌, ◌<◌, ◌≤◌, pos, negsuc, nat_abs, ◌+ℤ◌, get_or, length};
-ghost use Rattle.complex.specs.Complex.{complexOf};
+ghost use Rattle.complex.specs.Complex.{complex_of};
 ghost use Rattle.gauss_law.specs.Shifts.{shifted};
 ghost use Rattle.gauss_law.specs.Gauss.{within};
 ghost use Rattle.mathematics.specs.Calls.{Answered};
-ghost use Rattle.answers.specs.Answer.{numberAnswer};
-ghost use Rattle.plaquettes.specs.Triangle.{triangle-call, Shiftable};
+ghost use Rattle.answers.specs.Answer.{number_answer};
+ghost use Rattle.plaquettes.specs.Triangle.{triangle_call, Shiftable};
 ghost use Rattle.plaquettes.specs.Demand.{ShiftDemand};
 
 use answers::Answer;
@@ -56,8 +56,8 @@ pub fn apply_triangle_shift(
     state: usize,
     states: &mut [i32],
 ) -> Answer
-    ensures answered { Answered (triangle-call (complexOf c) lambda triangle state states.old) (numberAnswer result) states.new }
-    ensures shift_demand { ShiftDemand (complexOf c) lambda triangle state states.old result }
+    ensures answered { Answered (triangle_call (complex_of c) lambda triangle state states.old) (number_answer result) states.new }
+    ensures shift_demand { ShiftDemand (complex_of c) lambda triangle state states.old result }
 {
     let basis = prepare_basis(c, lambda);
     let number = basis.refusal;

@@ -15,11 +15,11 @@ use Rattle.recorded.specs.Answers.{tells, leaves, agrees}
 -- both numbers are compared as the machine holds them
 module _ {B : Type 0} {call : Call ℕ B} {r : ℤ} {l : B} (h : Exported call r l) (ok : mag r < 2 ^ 63) {told : ℤ} (fits : SFits w64 told) where
   -- the number alone
-  pub told-as : {number : Bool} → number ≡ equal (to_z w64 (of_z w64 r)) (to_z w64 (of_z w64 told)) → number ≡ tells call told
+  pub told_as : {number : Bool} → number ≡ equal (to_z w64 (of_z w64 r)) (to_z w64 (of_z w64 told)) → number ≡ tells call told
   unfolding tells
-  told-as e = e ∙ rw (back64 r ok, back64 told fits.sfits, h.answer)
+  told_as e = e ∙ rw (back64 r ok, back64 told fits.sfits, h.answer)
 
   -- the number, and a test of the lists
-  pub agrees-as : {number lists : Bool} (test : B → Bool) → number ≡ equal (to_z w64 (of_z w64 r)) (to_z w64 (of_z w64 told)) → lists ≡ test l → (number && lists) ≡ agrees call told test
+  pub agrees_as : {number lists : Bool} (test : B → Bool) → number ≡ equal (to_z w64 (of_z w64 r)) (to_z w64 (of_z w64 told)) → lists ≡ test l → (number && lists) ≡ agrees call told test
   unfolding leaves agrees
-  agrees-as test e f = rw (told-as e, f ∙ ap test h.lists)
+  agrees_as test e f = rw (told_as e, f ∙ ap test h.lists)

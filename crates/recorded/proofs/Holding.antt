@@ -21,20 +21,20 @@ module _ {A : Type 0} (w : ℕ) (is : A → ℕ → Bool) (d : A) (l : List A) (
     pub told : so_far ≡ every (λ j. is (get_or l j d) (number_at w b (w * j))) i
 
   -- the bytes are no whole numbers, or too many
-  pub hold-not : is_whole w (length b) (length l) ≡ false → false ≡ holds w is d l b
+  pub hold_not : is_whole w (length b) (length l) ≡ false → false ≡ holds w is d l b
   unfolding holds
-  hold-not h = rw h
+  hold_not h = rw h
 
-  pub hold-none : is_whole w (length b) (length l) ≡ true → Holding true 0
+  pub hold_none : is_whole w (length b) (length l) ≡ true → Holding true 0
   unfolding is_whole every
-  hold-none h = record { whole = h; room = leb-true _ _ (and_parts (eqb (length b % w) 0) _ h).1; within = omega arith; told = refl }
+  hold_none h = record { whole = h; room = leb-true _ _ (and_parts (eqb (length b % w) 0) _ h).1; within = omega arith; told = refl }
 
-  pub hold-next : {so_far : Bool} {i : ℕ} → Holding so_far i → i < length b / w → {same : Bool} → same ≡ is (get_or l i d) (number_at w b (w * i)) → Holding (so_far && same) (i + 1)
+  pub hold_next : {so_far : Bool} {i : ℕ} → Holding so_far i → i < length b / w → {same : Bool} → same ≡ is (get_or l i d) (number_at w b (w * i)) → Holding (so_far && same) (i + 1)
   unfolding every
-  hold-next {so_far} {i} h more e = record { whole = h.whole; room = h.room; within = omega arith; told = rw (add-one i, h.told, e) }
+  hold_next {so_far} {i} h more e = record { whole = h.whole; room = h.room; within = omega arith; told = rw (add-one i, h.told, e) }
 
-  pub hold-all : {so_far : Bool} {i : ℕ} → Holding so_far i → length b / w ≤ i → so_far ≡ holds w is d l b
+  pub hold_all : {so_far : Bool} {i : ℕ} → Holding so_far i → length b / w ≤ i → so_far ≡ holds w is d l b
   unfolding holds
-  hold-all {so_far} {i} h end =
+  hold_all {so_far} {i} h end =
       let last : i ≡ length b / w = omega (arith, h.within) in
       rw (h.told, last, h.whole)

@@ -17,7 +17,7 @@ use mir.Val.{bits, hbits, Fits, SFits, to_z, of_z}
 use mir.Facts.{sfits_to_z, to_z-of_z, to_z_pos, to_z-neg}
 use Rattle.mathematics.specs.Integers.{equal}
 use Rattle.mathematics.proofs.Tests.{same_tests}
-use Rattle.mathematics.proofs.Integers.{equal-true, equal-self}
+use Rattle.mathematics.proofs.Integers.{equal_true, equal_self}
 use Rattle.recorded.specs.Bytes.{number_at, float_of, float_is}
 
 -- ---- unsigned numbers
@@ -29,9 +29,9 @@ pub four_bytes : (b : List ℕ) (at : ℕ) → get_or b at 0 + 256 * get_or b (a
 unfolding number_at
 four_bytes b at = let none : at + 0 ≡ at = omega arith in rw none (omega arith)
 
-pub two-words : (b : List ℕ) (at : ℕ) → number_at 4 b at + 0x1_0000_0000 * number_at 4 b (at + 4) ≡ number_at 8 b at
+pub two_words : (b : List ℕ) (at : ℕ) → number_at 4 b at + 0x1_0000_0000 * number_at 4 b (at + 4) ≡ number_at 8 b at
 unfolding number_at
-two-words b at =
+two_words b at =
     let none : at + 0 ≡ at = omega arith in
     let four : at + 4 + 0 ≡ at + 4 = omega arith in
     let five : at + 4 + 1 ≡ at + 5 = omega arith in
@@ -41,11 +41,11 @@ two-words b at =
 
 -- ---- signed numbers
 -- their bits are equal just where they are
-pub equal-bits : (w : Width) (x y : ℤ) → SFits w x → SFits w y → eqb (of_z w x) (of_z w y) ≡ equal x y
-equal-bits w x y fx fy =
+pub equal_bits : (w : Width) (x y : ℤ) → SFits w x → SFits w y → eqb (of_z w x) (of_z w y) ≡ equal x y
+equal_bits w x y fx fy =
     same_tests (eqb (of_z w x) (of_z w y)) (equal x y)
-    (λ e. subst (λ z. equal x z ≡ true) (sym (to_z-of_z fx) ∙ ap (to_z w) (eqb-true (of_z w x) (of_z w y) e) ∙ to_z-of_z fy) (equal-self x))
-    (λ e. eq-eqb (of_z w x) (of_z w y) (ap (of_z w) (equal-true x y e)))
+    (λ e. subst (λ z. equal x z ≡ true) (sym (to_z-of_z fx) ∙ ap (to_z w) (eqb-true (of_z w x) (of_z w y) e) ∙ to_z-of_z fy) (equal_self x))
+    (λ e. eq-eqb (of_z w x) (of_z w y) (ap (of_z w) (equal_true x y e)))
 
 minus_one : (k : ℕ) → negsuc 0 -ℤ pos k ≡ negsuc k
 minus_one zero = refl
@@ -59,46 +59,46 @@ module _ (w : Width) (k n : ℕ) (small : k < 2 ^ hbits w) (rest : n ≡ 2 ^ bit
   pub negative_fits : SFits w (negsuc 0 -ℤ to_z w k)
   negative_fits = subst (SFits w) (sym negative) (sfits_to_z fits)
 
-  pub negative-is : to_z w (of_z w (negsuc 0 -ℤ to_z w k)) ≡ to_z w n
-  negative-is = ap (λ z. to_z w (of_z w z)) negative ∙ to_z-of_z (sfits_to_z fits)
+  pub negative_is : to_z w (of_z w (negsuc 0 -ℤ to_z w k)) ≡ to_z w n
+  negative_is = ap (λ z. to_z w (of_z w z)) negative ∙ to_z-of_z (sfits_to_z fits)
 
 -- ---- floats
 -- the test of a NaN's pattern
 abbrev tested : ℕ → Bool
 tested n = ltb 0x7ff0_0000_0000_0000 (n % 0x8000_0000_0000_0000)
 
-nan-tested : (n : ℕ) → nan_bits binary64 n ≡ tested n
-nan-tested n = nan_bits_above binary64 n
+nan_tested : (n : ℕ) → nan_bits binary64 n ≡ tested n
+nan_tested n = nan_bits_above binary64 n
 
-pub nan-none : (n : ℕ) → 0x7ff0_0000_0000_0000 < n % 0x8000_0000_0000_0000 → of_bits binary64 0 ≡ float_of n
+pub nan_none : (n : ℕ) → 0x7ff0_0000_0000_0000 < n % 0x8000_0000_0000_0000 → of_bits binary64 0 ≡ float_of n
 unfolding float_of
-nan-none n h = rw (nan-tested n, lt-ltb _ _ h)
+nan_none n h = rw (nan_tested n, lt-ltb _ _ h)
 
 pub no_nan : (n : ℕ) → n % 0x8000_0000_0000_0000 ≤ 0x7ff0_0000_0000_0000 → T (not (nan_bits binary64 n))
-no_nan n h = rw (nan-tested n, le-ltb _ _ h) tt
+no_nan n h = rw (nan_tested n, le-ltb _ _ h) tt
 
-pub float-is-of : (n : ℕ) → n % 0x8000_0000_0000_0000 ≤ 0x7ff0_0000_0000_0000 → of_bits binary64 n ≡ float_of n
+pub float_is_of : (n : ℕ) → n % 0x8000_0000_0000_0000 ≤ 0x7ff0_0000_0000_0000 → of_bits binary64 n ≡ float_of n
 unfolding float_of
-float-is-of n h = rw (nan-tested n, le-ltb _ _ h)
+float_is_of n h = rw (nan_tested n, le-ltb _ _ h)
 
 -- a float that differs from itself is the NaN
 pub nan_differs : (x : Float) (n : ℕ) → ne x x ≡ true → false ≡ float_is x n
 unfolding float_is is_nan
 nan_differs x n h = rw (differs_from_itself x (subst T (sym h) tt))
 
-not-nan : (x : Float) → ne x x ≡ false → is_nan x ≡ false
+not_nan : (x : Float) → ne x x ≡ false → is_nan x ≡ false
 unfolding ne is_nan
-not-nan nan h = absurd (true≢false h)
-not-nan (inf s) h = refl
-not-nan (fin s m e) h = refl
+not_nan nan h = absurd (true≢false h)
+not_nan (inf s) h = refl
+not_nan (fin s m e) h = refl
 
-pub has-bits : (x : Float) → ne x x ≡ false → T (not (is_nan x))
-has-bits x h = rw (not-nan x h) tt
+pub has_bits : (x : Float) → ne x x ≡ false → T (not (is_nan x))
+has_bits x h = rw (not_nan x h) tt
 
-pub bits-compared : (x : Float) (n : ℕ) → ne x x ≡ false → eqb (to_bits binary64 x) n ≡ float_is x n
+pub bits_compared : (x : Float) (n : ℕ) → ne x x ≡ false → eqb (to_bits binary64 x) n ≡ float_is x n
 unfolding float_is
-bits-compared x n h = rw (not-nan x h)
+bits_compared x n h = rw (not_nan x h)
 
 -- ---- one byte a number
-pub byte-number : (b : List ℕ) (i : ℕ) → number_at 1 b i ≡ number_at 1 b (1 * i)
-byte-number b i = ap (number_at 1 b) (sym (one-mul i))
+pub byte_number : (b : List ℕ) (i : ℕ) → number_at 1 b i ≡ number_at 1 b (1 * i)
+byte_number b i = ap (number_at 1 b) (sym (one-mul i))

@@ -6,9 +6,9 @@ use native.Mathlib.Omega.{arith}
 use lib.ListN.{get_or, length, take, drop, set, length-map, length-set}
 use lib.Seq.{take_all, take_at, length-take-le}
 use Rattle.mathematics.specs.Counting.{below}
-use Rattle.mathematics.proofs.Below.{length-below, map-below-at}
+use Rattle.mathematics.proofs.Below.{length_below, map_below_at}
 use Rattle.mathematics.proofs.Front.{store, take_next}
-use Rattle.recorded.specs.Bytes.{number_at, numbers-in, ReadInto}
+use Rattle.recorded.specs.Bytes.{number_at, numbers_in, ReadInto}
 
 -- the first i of n entries have been read
 pub record Reading {A : Type 0} (l old new : List A) (n i : ℕ) : Type 0 where
@@ -18,29 +18,29 @@ pub record Reading {A : Type 0} (l old new : List A) (n i : ℕ) : Type 0 where
   pub list : new ≡ take i l ++ drop i old
 
 module _ {A : Type 0} (w : ℕ) (taken : ℕ → A) (b : List ℕ) where
-  pub length-numbers : length (numbers-in w taken b) ≡ length b / w
-  unfolding numbers-in
-  length-numbers = length-map (below (length b / w)) (λ i. taken (number_at w b (w * i))) ∙ length-below (length b / w)
+  pub length_numbers : length (numbers_in w taken b) ≡ length b / w
+  unfolding numbers_in
+  length_numbers = length-map (below (length b / w)) (λ i. taken (number_at w b (w * i))) ∙ length_below (length b / w)
 
-  pub read_none : (old : List A) {n : ℕ} → n ≡ min (length b / w) (length old) → Reading (numbers-in w taken b) old old n 0
+  pub read_none : (old : List A) {n : ℕ} → n ≡ min (length b / w) (length old) → Reading (numbers_in w taken b) old old n 0
   read_none old few =
       record {
         within = omega arith;
-        few = few ∙ ap (λ k. min k (length old)) (sym length-numbers);
+        few = few ∙ ap (λ k. min k (length old)) (sym length_numbers);
         long = refl;
         list = refl;
       }
 
-  pub read_next : (d : A) {old new : List A} {n i : ℕ} → Reading (numbers-in w taken b) old new n i → i < n → {x : A} → x ≡ taken (number_at w b (w * i)) → Reading (numbers-in w taken b) old (set new i x) n (i + 1)
-  unfolding numbers-in
+  pub read_next : (d : A) {old new : List A} {n i : ℕ} → Reading (numbers_in w taken b) old new n i → i < n → {x : A} → x ≡ taken (number_at w b (w * i)) → Reading (numbers_in w taken b) old (set new i x) n (i + 1)
+  unfolding numbers_in
   read_next d {old} {new} {n} {i} h more {x} is =
-      let l = numbers-in w taken b in
-      let size = length-numbers in
+      let l = numbers_in w taken b in
+      let size = length_numbers in
       let few = h.few in
       let here : i < length b / w = omega arith in
       let inside : i < length l = omega arith in
       let room : i < length old = omega arith in
-      let entry : x ≡ get_or l i d = is ∙ sym (map-below-at (λ j. taken (number_at w b (w * j))) (length b / w) i d here) in
+      let entry : x ≡ get_or l i d = is ∙ sym (map_below_at (λ j. taken (number_at w b (w * j))) (length b / w) i d here) in
       record {
         within = omega arith;
         few = few;

@@ -20,24 +20,24 @@ float_of n = cond (nan_bits binary64 n) (of_bits binary64 0) (of_bits binary64 n
 
 -- ---- lists in bytes
 -- the numbers of w bytes each, every one taken in a given way; a rest that is no whole number is left out
-unfoldable pub numbers-in : {A : Type 0} → ℕ → (ℕ → A) → List ℕ → List A
-numbers-in w taken b = map (λ i. taken (number_at w b (w * i))) (below (length b / w))
+unfoldable pub numbers_in : {A : Type 0} → ℕ → (ℕ → A) → List ℕ → List A
+numbers_in w taken b = map (λ i. taken (number_at w b (w * i))) (below (length b / w))
 
 abbrev pub u32s : List ℕ → List ℕ
-u32s b = numbers-in 4 (λ n. n) b
+u32s b = numbers_in 4 (λ n. n) b
 
 abbrev pub u64s : List ℕ → List ℕ
-u64s b = numbers-in 8 (λ n. n) b
+u64s b = numbers_in 8 (λ n. n) b
 
 -- signed numbers stand in two's complement
 abbrev pub i8s : List ℕ → List ℤ
-i8s b = numbers-in 1 (to_z w8) b
+i8s b = numbers_in 1 (to_z w8) b
 
 abbrev pub i32s : List ℕ → List ℤ
-i32s b = numbers-in 4 (to_z w32) b
+i32s b = numbers_in 4 (to_z w32) b
 
 abbrev pub floats : List ℕ → List Float
-floats b = numbers-in 8 float_of b
+floats b = numbers_in 8 float_of b
 
 -- r entries of a list are written over the beginning of another: as many as there are and find room
 pub record ReadInto {A : Type 0} (l old new : List A) (r : ℕ) : Type 0 where
@@ -54,20 +54,20 @@ is_whole w bytes entries = eqb (bytes % w) 0 && leb (bytes / w) entries
 unfoldable pub holds : {A : Type 0} → ℕ → (A → ℕ → Bool) → A → List A → List ℕ → Bool
 holds w is d l b = is_whole w (length b) (length l) && every (λ i. is (get_or l i d) (number_at w b (w * i))) (length b / w)
 
-abbrev pub holds-bytes : List ℕ → List ℕ → Bool
-holds-bytes l b = holds 1 eqb 0 l b
+abbrev pub holds_bytes : List ℕ → List ℕ → Bool
+holds_bytes l b = holds 1 eqb 0 l b
 
-abbrev pub holds-u32s : List ℕ → List ℕ → Bool
-holds-u32s l b = holds 4 eqb 0 l b
+abbrev pub holds_u32s : List ℕ → List ℕ → Bool
+holds_u32s l b = holds 4 eqb 0 l b
 
-abbrev pub holds-u64s : List ℕ → List ℕ → Bool
-holds-u64s l b = holds 8 eqb 0 l b
+abbrev pub holds_u64s : List ℕ → List ℕ → Bool
+holds_u64s l b = holds 8 eqb 0 l b
 
-abbrev pub holds-i8s : List ℤ → List ℕ → Bool
-holds-i8s l b = holds 1 (λ x n. equal x (to_z w8 n)) (pos 0) l b
+abbrev pub holds_i8s : List ℤ → List ℕ → Bool
+holds_i8s l b = holds 1 (λ x n. equal x (to_z w8 n)) (pos 0) l b
 
-abbrev pub holds-i32s : List ℤ → List ℕ → Bool
-holds-i32s l b = holds 4 (λ x n. equal x (to_z w32 n)) (pos 0) l b
+abbrev pub holds_i32s : List ℤ → List ℕ → Bool
+holds_i32s l b = holds 4 (λ x n. equal x (to_z w32 n)) (pos 0) l b
 
 -- a float is the one of a pattern of bits: a NaN never is, and 0.0 and -0.0 differ
 unfoldable pub float_is : Float → ℕ → Bool

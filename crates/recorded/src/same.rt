@@ -1,7 +1,7 @@
 // Answers held against recorded bytes.
 ghost use Rattle.std.specs.Prelude.{◌≡◌, [], ◌∷◌, ◌<◌};
 ghost use Rattle.mathematics.specs.Integers.{equal};
-ghost use Rattle.recorded.specs.Bytes.{is_whole, float_is, holds-bytes, holds-i8s, holds-i32s, holds-u32s, holds-u64s, holds_floats};
+ghost use Rattle.recorded.specs.Bytes.{is_whole, float_is, holds_bytes, holds_i8s, holds_i32s, holds_u32s, holds_u64s, holds_floats};
 
 use crate::number::{i8_at, i32_at, u8_at, u32_at, u64_at};
 
@@ -43,7 +43,7 @@ fn whole(bytes: usize, width: usize, entries: usize) -> bool
 }
 
 pub fn same_bytes(list: &[u8], bytes: &[u8]) -> bool
-    ensures { result ≡ holds-bytes list.now bytes.now }
+    ensures { result ≡ holds_bytes list.now bytes.now }
 {
     let n = bytes.len();
     if !whole(n, 1, list.len()) {
@@ -57,7 +57,7 @@ pub fn same_bytes(list: &[u8], bytes: &[u8]) -> bool
 }
 
 pub fn same_i8s(list: &[i8], bytes: &[u8]) -> bool
-    ensures { result ≡ holds-i8s list.now bytes.now }
+    ensures { result ≡ holds_i8s list.now bytes.now }
 {
     let n = bytes.len();
     if !whole(n, 1, list.len()) {
@@ -71,7 +71,7 @@ pub fn same_i8s(list: &[i8], bytes: &[u8]) -> bool
 }
 
 pub fn same_u32s(list: &[u32], bytes: &[u8]) -> bool
-    ensures { result ≡ holds-u32s list.now bytes.now }
+    ensures { result ≡ holds_u32s list.now bytes.now }
 {
     if !whole(bytes.len(), 4, list.len()) {
         return false;
@@ -85,7 +85,7 @@ pub fn same_u32s(list: &[u32], bytes: &[u8]) -> bool
 }
 
 pub fn same_i32s(list: &[i32], bytes: &[u8]) -> bool
-    ensures { result ≡ holds-i32s list.now bytes.now }
+    ensures { result ≡ holds_i32s list.now bytes.now }
 {
     if !whole(bytes.len(), 4, list.len()) {
         return false;
@@ -99,7 +99,7 @@ pub fn same_i32s(list: &[i32], bytes: &[u8]) -> bool
 }
 
 pub fn same_u64s(list: &[u64], bytes: &[u8]) -> bool
-    ensures { result ≡ holds-u64s list.now bytes.now }
+    ensures { result ≡ holds_u64s list.now bytes.now }
 {
     if !whole(bytes.len(), 8, list.len()) {
         return false;
@@ -128,7 +128,7 @@ pub fn same_floats(list: &[f64], bytes: &[u8]) -> bool
 
 // One number or one float, held against bytes as a list of one entry.
 pub fn same_u64(x: u64, bytes: &[u8]) -> bool
-    ensures { result ≡ holds-u64s (x ∷ []) bytes.now }
+    ensures { result ≡ holds_u64s (x ∷ []) bytes.now }
 {
     let one = [x];
     same_u64s(&one, bytes)

@@ -3,8 +3,8 @@ use Prim.Native.Nat.{ℕ, ◌/◌, ◌≤◌}
 use mathlib.Core.List.{List}
 use mathlib.Core.Path.{◌≡◌, ap, ◌∙◌}
 use lib.ListN.{length, take}
-use Rattle.recorded.specs.Bytes.{numbers-in, ReadInto}
-use Rattle.recorded.proofs.Reading.{length-numbers, read_whole}
+use Rattle.recorded.specs.Bytes.{numbers_in, ReadInto}
+use Rattle.recorded.proofs.Reading.{length_numbers, read_whole}
 
-pub all_read : {A : Type 0} (w : ℕ) (taken : ℕ → A) {bytes field : List ℕ} {old new : List A} {r : ℕ} → ReadInto (numbers-in w taken bytes) old new r → bytes ≡ field → length bytes / w ≤ length old → take r new ≡ numbers-in w taken field
-all_read w taken {bytes} read e room = read_whole read (rw (length-numbers w taken bytes) room) ∙ ap (numbers-in w taken) e
+pub all_read : {A : Type 0} (w : ℕ) (taken : ℕ → A) {bytes field : List ℕ} {old new : List A} {r : ℕ} → ReadInto (numbers_in w taken bytes) old new r → bytes ≡ field → length bytes / w ≤ length old → take r new ≡ numbers_in w taken field
+all_read w taken {bytes} read e room = read_whole read (rw (length_numbers w taken bytes) room) ∙ ap (numbers_in w taken) e

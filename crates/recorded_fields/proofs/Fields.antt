@@ -9,15 +9,15 @@ use borrow.Author.Tests.{leb-true}
 use lib.Dec.{leb}
 use lib.ListN.{length, get_or}
 use Rattle.mathematics.proofs.Tests.{and_parts}
-use Rattle.recorded_fields.specs.Layout.{size, place, case_at, well-formed, Whole}
+use Rattle.recorded_fields.specs.Layout.{size, place, case_at, well_formed, Whole}
 
-pub place-next : (list : List ℕ) (at k : ℕ) → place list at (k + 1) ≡ place list at k + 2 + size list (place list at k)
+pub place_next : (list : List ℕ) (at k : ℕ) → place list at (k + 1) ≡ place list at k + 2 + size list (place list at k)
 unfolding place
-place-next list at k = rw (add-one k)
+place_next list at k = rw (add-one k)
 
-pub place-first : (list : List ℕ) (at : ℕ) → place list at 0 ≡ at + 1
+pub place_first : (list : List ℕ) (at : ℕ) → place list at 0 ≡ at + 1
 unfolding place
-place-first list at = refl
+place_first list at = refl
 
 -- a field begins further on than the case
 pub later : (list : List ℕ) (at k : ℕ) → at < place list at k
@@ -30,31 +30,31 @@ rises : (list : List ℕ) (at k n : ℕ) → place list at k ≤ place list at (
 rises list at k zero = let e : k + 0 ≡ k = omega arith in rw e (omega arith)
 rises list at k (suc n) =
     let e : k + suc n ≡ k + n + 1 = omega arith in
-    rw (e, place-next list at (k + n)) (omega (arith, rises list at k n))
+    rw (e, place_next list at (k + n)) (omega (arith, rises list at k n))
 
 -- a field ends within the list where its case does
-pub field-inside : (list : List ℕ) (at k : ℕ) → Whole list at → k < 15 → place list at k + 2 + size list (place list at k) ≤ length list
-field-inside list at k whole few =
+pub field_inside : (list : List ℕ) (at k : ℕ) → Whole list at → k < 15 → place list at k + 2 + size list (place list at k) ≤ length list
+field_inside list at k whole few =
     let e : k + 1 + (14 - k) ≡ 15 = omega arith in
     let r : place list at (k + 1) ≤ place list at 15 = rw e at (rises list at (k + 1) (14 - k)) in
-    omega (arith, r, place-next list at k)
+    omega (arith, r, place_next list at k)
 
 -- the case ends further on than it begins
-pub case-inside : (list : List ℕ) (at : ℕ) → Whole list at → at < length list
-case-inside list at whole = omega (arith, later list at 15)
+pub case_inside : (list : List ℕ) (at : ℕ) → Whole list at → at < length list
+case_inside list at whole = omega (arith, later list at 15)
 
 pub further : (list : List ℕ) (at : ℕ) → at < (case_at list at).next
 unfolding case_at
 further list at = later list at 15
 
 -- the place behind a case
-pub next-is : (list : List ℕ) (at : ℕ) → (case_at list at).next ≡ place list at 15
+pub next_is : (list : List ℕ) (at : ℕ) → (case_at list at).next ≡ place list at 15
 unfolding case_at
-next-is list at = refl
+next_is list at = refl
 
 -- what the test of a case says
-pub whole_of : (list : List ℕ) (at : ℕ) → well-formed (length list) (case_at list at) ≡ true → Whole list at
-unfolding well-formed case_at
+pub whole_of : (list : List ℕ) (at : ℕ) → well_formed (length list) (case_at list at) ≡ true → Whole list at
+unfolding well_formed case_at
 whole_of list at h =
     let p = and_parts (leb 1 (get_or list at 0) && leb (get_or list at 0) 25) (leb (place list at 15) (length list)) h in
     leb-true (place list at 15) (length list) p.1

@@ -27,8 +27,8 @@ unfoldable pub case_at : List ℕ → ℕ → Case
 case_at list at = record { kind = get_or list at 0; field = field list at; next = place list at 15 }
 
 -- there is such a kind, and the case ends within a list of the given length
-unfoldable pub well-formed : ℕ → Case → Bool
-well-formed n c = (leb 1 c.kind && leb c.kind 25) && leb c.next n
+unfoldable pub well_formed : ℕ → Case → Bool
+well_formed n c = (leb 1 c.kind && leb c.kind 25) && leb c.next n
 
 -- the case at a place ends within the list
 abbrev pub Whole : List ℕ → ℕ → Type 0

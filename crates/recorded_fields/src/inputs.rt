@@ -1,7 +1,7 @@
 // What the fields of a case hold that go into a call.
 ghost use Rattle.std.specs.Prelude.{◌≡◌, ◌≤◌};
 ghost use Rattle.recorded_fields.specs.Layout.{case_at, Whole};
-ghost use Rattle.recorded_fields.specs.Inputs.{number_of, delta-of, given-of, coupling-of, told_of};
+ghost use Rattle.recorded_fields.specs.Inputs.{number_of, delta_of, given_of, coupling_of, told_of};
 
 use crate::case::field;
 use matrices::coupling::KSParams;
@@ -25,7 +25,7 @@ pub fn number(list: &[u8], at: usize, index: usize) -> u64
 // What a shift adds.
 pub fn delta(list: &[u8], at: usize) -> i32
     requires { Whole list.now at }
-    ensures { result ≡ delta-of (case_at list.now at) }
+    ensures { result ≡ delta_of (case_at list.now at) }
 {
     i32_at(field(list, at, 3), 0)
 }
@@ -33,7 +33,7 @@ pub fn delta(list: &[u8], at: usize) -> i32
 // Whether weights are given.
 pub fn given(list: &[u8], at: usize) -> bool
     requires { Whole list.now at }
-    ensures { result ≡ given-of (case_at list.now at) }
+    ensures { result ≡ given_of (case_at list.now at) }
 {
     number(list, at, 0) == 1
 }
@@ -41,7 +41,7 @@ pub fn given(list: &[u8], at: usize) -> bool
 // g² and the two factors.
 pub fn coupling(list: &[u8], at: usize) -> KSParams
     requires { Whole list.now at }
-    ensures { result ≡ coupling-of (case_at list.now at) }
+    ensures { result ≡ coupling_of (case_at list.now at) }
 {
     let bytes = field(list, at, 7);
     KSParams {

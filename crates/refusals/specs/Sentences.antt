@@ -34,12 +34,12 @@ unfoldable pub numbers : List (ℕ × String) → List ℕ
 numbers table = map (λ (r : ℕ × String). r.0) table
 
 -- the bytes of the sentence with the number n in a table; none where no sentence has it
-unfoldable pub sentence-in : List (ℕ × String) → ℕ → List ℕ
-sentence-in [] n = []
-sentence-in (r ∷ table) n = cond (eqb n r.0) (ascii r.1) (sentence-in table n)
+unfoldable pub sentence_in : List (ℕ × String) → ℕ → List ℕ
+sentence_in [] n = []
+sentence_in (r ∷ table) n = cond (eqb n r.0) (ascii r.1) (sentence_in table n)
 
 unfoldable pub sentence : ℕ → List ℕ
-sentence n = sentence-in refusals n
+sentence n = sentence_in refusals n
 
 -- some sentence has the number n
 unfoldable pub in_table : ℕ → Bool
@@ -52,18 +52,18 @@ pub record PlainText (s : List ℕ) : Type 0 where
   pub plain : (i : ℕ) → i < length s → (32 ≤ get_or s i 0) × (get_or s i 0 ≤ 126)
 
 -- 15 for a list that is shorter than a text
-abbrev pub room-test : List ℕ → ℕ → ℕ × Bool
-room-test s room = (15, ltb room (length s))
+abbrev pub room_test : List ℕ → ℕ → ℕ × Bool
+room_test s room = (15, ltb room (length s))
 
 -- 13 for a number that is not in the table, then 15
-abbrev pub text-tests : ℕ → ℕ → List (ℕ × Bool)
-text-tests n room = (13, not (in_table n)) ∷ room-test (sentence n) room ∷ []
+abbrev pub text_tests : ℕ → ℕ → List (ℕ × Bool)
+text_tests n room = (13, not (in_table n)) ∷ room_test (sentence n) room ∷ []
 
 -- refusal_text: the number of bytes of the sentence is told, and the list begins with them.
-unfoldable pub text-call : ℕ → List ℕ → Call ℕ (List ℕ)
-text-call n old =
+unfoldable pub text_call : ℕ → List ℕ → Call ℕ (List ℕ)
+text_call n old =
     record {
-      tests = text-tests n (length old);
+      tests = text_tests n (length old);
       value = length (sentence n);
       before = old;
       after = front (sentence n) old;
@@ -72,6 +72,6 @@ text-call n old =
 
 -- ---- as the code keeps it
 -- a text goes to the front of a list
-unfoldable pub front-call : List ℕ → List ℕ → Call ℕ (List ℕ)
-front-call s old =
-    record { tests = room-test s (length old) ∷ []; value = length s; before = old; after = front s old; known = Unit {0} }
+unfoldable pub front_call : List ℕ → List ℕ → Call ℕ (List ℕ)
+front_call s old =
+    record { tests = room_test s (length old) ∷ []; value = length s; before = old; after = front s old; known = Unit {0} }

@@ -1,14 +1,14 @@
 // The sentences of the refusals: what is wrong, for a person to read.
 ghost use Rattle.mathematics.specs.Calls.{Answered};
-ghost use Rattle.answers.specs.Answer.{numberAnswer};
-ghost use Rattle.refusals.specs.Sentences.{text-call, front-call};
+ghost use Rattle.answers.specs.Answer.{number_answer};
+ghost use Rattle.refusals.specs.Sentences.{text_call, front_call};
 
 use answers::Answer;
 use lines::write_text;
 
 // A text goes to the front of a list.
 fn begin_with(list: &mut [u8], text: &[u8]) -> Answer
-    ensures { Answered (front-call text.now list.old) (numberAnswer result) list.new }
+    ensures { Answered (front_call text.now list.old) (number_answer result) list.new }
 {
     if list.len() < text.len() {
         return Answer::Refused(15);
@@ -18,7 +18,7 @@ fn begin_with(list: &mut [u8], text: &[u8]) -> Answer
 
 // The sentence with a number goes to the front of a list.
 pub fn refusal_text(number: usize, text: &mut [u8]) -> Answer
-    ensures { Answered (text-call number text.old) (numberAnswer result) text.new }
+    ensures { Answered (text_call number text.old) (number_answer result) text.new }
 {
     match number {
         1 => begin_with(text, b"the sheet has fewer than 11 bytes"),

@@ -4,15 +4,15 @@ use mathlib.Core.List.{◌++◌}
 use native.Mathlib.Omega.{arith}
 use lib.ListN.{length, length-append}
 use Rattle.lines.specs.Lines.{ascii, named}
-use Rattle.lines.proofs.Lengths.{number-long}
-use Rattle.replay.specs.Text.{casesLine, malformedLine}
+use Rattle.lines.proofs.Lengths.{number_long}
+use Rattle.replay.specs.Text.{cases_line, malformed_line}
 
-pub cases-line-long : (cases differ : ℕ) → cases < 2 ^ 64 → differ < 2 ^ 64 → length (casesLine cases differ) ≤ 65
-unfolding casesLine named ascii
-cases-line-long cases differ few fewer =
+pub cases_line_long : (cases differ : ℕ) → cases < 2 ^ 64 → differ < 2 ^ 64 → length (cases_line cases differ) ≤ 65
+unfolding cases_line named ascii
+cases_line_long cases differ few fewer =
     omega
-    (arith, length-append (named "replayed " cases ++ named " cases: " differ) (ascii " differ\n"), length-append (named "replayed " cases) (named " cases: " differ), number-long cases few, number-long differ fewer)
+    (arith, length-append (named "replayed " cases ++ named " cases: " differ) (ascii " differ\n"), length-append (named "replayed " cases) (named " cases: " differ), number_long cases few, number_long differ fewer)
 
-pub malformed-line-long : (at : ℕ) → at < 2 ^ 64 → length (malformedLine at) ≤ 39
-unfolding malformedLine named ascii
-malformed-line-long at small = omega (arith, length-append (named "malformed at byte " at) (ascii "\n"), number-long at small)
+pub malformed_line_long : (at : ℕ) → at < 2 ^ 64 → length (malformed_line at) ≤ 39
+unfolding malformed_line named ascii
+malformed_line_long at small = omega (arith, length-append (named "malformed at byte " at) (ascii "\n"), number_long at small)

@@ -3,19 +3,19 @@ use Rattle.std.specs.Prelude.{ℕ, zero, suc, ◌+◌, Bool, not, ◌&&◌, cond
 use Rattle.mathematics.specs.Counting.{keep}
 use Rattle.replay.specs.declared.walk.Replayed.{Replayed}
 use Rattle.replay.specs.declared.walk.Replayed.TheVariants.{Cases, Malformed}
-use Rattle.recorded_fields.specs.Layout.{Case, case_at, well-formed}
+use Rattle.recorded_fields.specs.Layout.{Case, case_at, well_formed}
 use Rattle.replay.specs.Agreement.{agreed}
 
 -- the cases from a place on, one behind the other, as long as they are well-formed, and k at most
-unfoldable pub casesFrom : ℕ → List ℕ → ℕ → List Case
-casesFrom zero list at = []
-casesFrom (suc k) list at =
-    cond (well-formed (length list) (case_at list at)) (case_at list at ∷ casesFrom k list (case_at list at).next) []
+unfoldable pub cases_from : ℕ → List ℕ → ℕ → List Case
+cases_from zero list at = []
+cases_from (suc k) list at =
+    cond (well_formed (length list) (case_at list at)) (case_at list at ∷ cases_from k list (case_at list at).next) []
 
--- all cases. Each has more than one byte, so that there are fewer than the list has bytes: proofs/Ending, `none-behind`, that no
+-- all cases. Each has more than one byte, so that there are fewer than the list has bytes: proofs/Ending, `none_behind`, that no
 -- well-formed case stands behind them.
 unfoldable pub cases : List ℕ → List Case
-cases list = casesFrom (length list) list 0
+cases list = cases_from (length list) list 0
 
 -- the place behind cases that begin at a place
 unfoldable pub behind : ℕ → List Case → ℕ

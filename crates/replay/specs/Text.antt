@@ -4,12 +4,12 @@ use Rattle.lines.specs.Lines.{ascii, named}
 use Rattle.replay.specs.declared.walk.Replayed.{Replayed}
 use Rattle.replay.specs.declared.walk.Replayed.TheVariants.{Cases, Malformed}
 
-unfoldable pub casesLine : ℕ → ℕ → List ℕ
-casesLine cases differ = (named "replayed " cases ++ named " cases: " differ) ++ ascii " differ\n"
+unfoldable pub cases_line : ℕ → ℕ → List ℕ
+cases_line cases differ = (named "replayed " cases ++ named " cases: " differ) ++ ascii " differ\n"
 
-unfoldable pub malformedLine : ℕ → List ℕ
-malformedLine at = named "malformed at byte " at ++ ascii "\n"
+unfoldable pub malformed_line : ℕ → List ℕ
+malformed_line at = named "malformed at byte " at ++ ascii "\n"
 
-unfoldable pub replayedText : Replayed → List ℕ
-replayedText (Cases cases differ) = casesLine cases differ
-replayedText (Malformed at) = malformedLine at
+unfoldable pub replayed_text : Replayed → List ℕ
+replayed_text (Cases cases differ) = cases_line cases differ
+replayed_text (Malformed at) = malformed_line at

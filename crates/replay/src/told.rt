@@ -2,14 +2,14 @@
 ghost use Rattle.std.specs.Prelude.{◌≤◌, length};
 ghost use Rattle.lines.specs.Put.{Put};
 ghost use Rattle.replay.specs.Cases.{replayed};
-ghost use Rattle.replay.specs.Text.{casesLine, malformedLine, replayedText};
+ghost use Rattle.replay.specs.Text.{cases_line, malformed_line, replayed_text};
 
 use crate::walk::{Replayed, replay};
 use lines::{write_byte, write_named, write_text};
 
 fn write_cases(out: &mut [u8], cases: usize, differ: usize) -> usize
     requires { 65 ≤ length out.old }
-    ensures { Put (casesLine cases differ) out.old 0 out.new result × (result ≤ length out.new) }
+    ensures { Put (cases_line cases differ) out.old 0 out.new result × (result ≤ length out.new) }
 {
     let counted = write_named(out, 0, b"replayed ", cases);
     let compared = write_named(out, counted, b" cases: ", differ);
@@ -18,7 +18,7 @@ fn write_cases(out: &mut [u8], cases: usize, differ: usize) -> usize
 
 fn write_malformed(out: &mut [u8], at: usize) -> usize
     requires { 65 ≤ length out.old }
-    ensures { Put (malformedLine at) out.old 0 out.new result × (result ≤ length out.new) }
+    ensures { Put (malformed_line at) out.old 0 out.new result × (result ≤ length out.new) }
 {
     let next = write_named(out, 0, b"malformed at byte ", at);
     write_byte(out, next, b'\n')
@@ -27,7 +27,7 @@ fn write_malformed(out: &mut [u8], at: usize) -> usize
 // The line for the bytes of a list: the place behind it.
 pub fn write_told(out: &mut [u8], list: &[u8]) -> usize
     requires { 65 ≤ length out.old }
-    ensures { Put (replayedText (replayed list.now)) out.old 0 out.new result × (result ≤ length out.new) }
+    ensures { Put (replayed_text (replayed list.now)) out.old 0 out.new result × (result ≤ length out.new) }
 {
     let told = replay(list);
     match told {

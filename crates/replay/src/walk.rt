@@ -1,6 +1,6 @@
 // The walk over the list of answers, case by case.
 ghost use Rattle.std.specs.Prelude.{◌≡◌, ◌≤◌, length};
-ghost use Rattle.recorded_fields.specs.Layout.{case_at, well-formed};
+ghost use Rattle.recorded_fields.specs.Layout.{case_at, well_formed};
 ghost use Rattle.replay.specs.Cases.{ends, replayed};
 
 use crate::compare::case_same;
@@ -16,7 +16,7 @@ pub enum Replayed {
 // Whether a whole case stands at a place.
 fn stands(list: &[u8], at: usize) -> bool
     requires { at ≤ length list.now }
-    ensures { result ≡ well-formed (length list.now) (case_at list.now at) }
+    ensures { result ≡ well_formed (length list.now) (case_at list.now at) }
 {
     let kind = byte_at(list, at);
     ((1 <= kind) & (kind <= 25)) & (place(list, at, FIELDS) <= list.len())

@@ -17,7 +17,7 @@ use lib.Pow.{pow_pos}
 use Rattle.mathematics.proofs.Tests.{and_parts}
 use Rattle.mathematics.proofs.Lists.{or_right}
 use Rattle.matrices.specs.declared.coupling.KSParams.{KSParams}
-use Rattle.matrices.specs.Coupling.{float_of, coupling-right, params-right}
+use Rattle.matrices.specs.Coupling.{float_of, coupling_right, params_right}
 use Rattle.matrices.specs.Squares.{energy}
 use Rattle.rows.specs.Row.{kept}
 
@@ -30,31 +30,31 @@ zero_is : float_of 0 ≡ fin false 0 (pos 0)
 unfolding float_of of_int round
 zero_is = refl
 
-one-is : float_of 1 ≡ fin false 1 (pos 0)
+one_is : float_of 1 ≡ fin false 1 (pos 0)
 unfolding float_of of_int round
-one-is = refl
+one_is = refl
 
-most-is : float_of (2 ^ 26) ≡ fin false 1 (pos 26)
+most_is : float_of (2 ^ 26) ≡ fin false 1 (pos 26)
 unfolding float_of of_int round
-most-is = refl
+most_is = refl
 
-lowest-is : div binary64 (float_of 1) (float_of (2 ^ 32)) ≡ fin false 1 (negsuc 31)
+lowest_is : div binary64 (float_of 1) (float_of (2 ^ 32)) ≡ fin false 1 (negsuc 31)
 unfolding float_of of_int div round
-lowest-is = refl
+lowest_is = refl
 
-highest-is : float_of (2 ^ 32) ≡ fin false 1 (pos 32)
+highest_is : float_of (2 ^ 32) ≡ fin false 1 (pos 32)
 unfolding float_of of_int round
-highest-is = refl
+highest_is = refl
 
-whole-rises : (j k : ℕ) → j ≤ k → T (le (float_of j) (float_of k))
+whole_rises : (j k : ℕ) → j ≤ k → T (le (float_of j) (float_of k))
 unfolding float_of of_int
-whole-rises j k h = round_mono binary64 j 1 k 1 (omega arith) (omega arith) (omega arith)
+whole_rises j k h = round_mono binary64 j 1 k 1 (omega arith) (omega arith) (omega arith)
 
 whole_above : (k : ℕ) → 1 ≤ k → T (le (fin false 1 (pos 0)) (float_of k))
-whole_above k h = rw one-is at (whole-rises 1 k h)
+whole_above k h = rw one_is at (whole_rises 1 k h)
 
-whole-positive : (k : ℕ) → 1 ≤ k → k ≤ 2 ^ 26 → T (positive (float_of k))
-whole-positive k h few = between (fin false 1 (pos 0)) (float_of k) (fin false 1 (pos 26)) tt tt (whole_above k h) (rw most-is at (whole-rises k (2 ^ 26) few))
+whole_positive : (k : ℕ) → 1 ≤ k → k ≤ 2 ^ 26 → T (positive (float_of k))
+whole_positive k h few = between (fin false 1 (pos 0)) (float_of k) (fin false 1 (pos 26)) tt tt (whole_above k h) (rw most_is at (whole_rises k (2 ^ 26) few))
 
 -- ---- above 0
 above_zero : (d m : ℕ) → 0 < m → ltb (0 * 1 * d) (m * 1) ≡ true
@@ -69,20 +69,20 @@ above_kept (fin true m e) p = absurd p
 above_kept (fin false m e) p = rw zero_is (or_right (lt (fin false m e) (fin false 0 (pos 0))) (lt (fin false 0 (pos 0)) (fin false m e)) (above_zero (down e) (m * up e) (mul-pos (ltb→lt 0 m p) (up_pos e))))
 
 -- what equals a float above 0
-equal-positive : (x y : Float) → T (positive y) → eq x y ≡ true → T (positive x) × T (le y x)
+equal_positive : (x y : Float) → T (positive y) → eq x y ≡ true → T (positive x) × T (le y x)
 unfolding eq
-equal-positive x nan p h = absurd p
-equal-positive x (inf t) p h = absurd p
-equal-positive x (fin true n d) p h = absurd p
-equal-positive nan (fin false n d) p h = absurd (false≢true h)
-equal-positive (inf s) (fin false n d) p h = absurd (false≢true h)
-equal-positive (fin true m e) (fin false n d) p h =
+equal_positive x nan p h = absurd p
+equal_positive x (inf t) p h = absurd p
+equal_positive x (fin true n d) p h = absurd p
+equal_positive nan (fin false n d) p h = absurd (false≢true h)
+equal_positive (inf s) (fin false n d) p h = absurd (false≢true h)
+equal_positive (fin true m e) (fin false n d) p h =
     let parts = and_parts (eqb (m * up e * down d) (n * up d * down e)) (eqb (m * up e * down d) 0) h in
     let same = eqb-true (m * up e * down d) (n * up d * down e) parts.0 in
     let none = eqb-true (m * up e * down d) 0 parts.1 in
     let some : 0 < n * up d * down e = mul-pos (mul-pos (ltb→lt 0 n p) (up_pos d)) (down_pos e) in
     absurd (omega arith)
-equal-positive (fin false m e) (fin false n d) p h =
+equal_positive (fin false m e) (fin false n d) p h =
     let parts = and_parts (eqb (m * up e * down d) (n * up d * down e)) true h in
     let same = eqb-true (m * up e * down d) (n * up d * down e) parts.0 in
     let some : 0 < n * up d * down e = mul-pos (mul-pos (ltb→lt 0 n p) (up_pos d)) (down_pos e) in
@@ -92,45 +92,45 @@ equal-positive (fin false m e) (fin false n d) p h =
     (q, cross→le (fin false n d) (fin false m e) p q under)
 
 -- a quotient by a power of two is a product with its inverse
-pub by-power : (k : ℕ) (x : Float) → T (positive x) → div binary64 x (fin false 1 (pos (suc k))) ≡ mul binary64 x (fin false 1 (negsuc k))
+pub by_power : (k : ℕ) (x : Float) → T (positive x) → div binary64 x (fin false 1 (pos (suc k))) ≡ mul binary64 x (fin false 1 (negsuc k))
 unfolding div mul
-by-power k nan p = absurd p
-by-power k (inf s) p = absurd p
-by-power k (fin true m e) p = absurd p
-by-power k (fin false m e) p =
+by_power k nan p = absurd p
+by_power k (inf s) p = absurd p
+by_power k (fin true m e) p = absurd p
+by_power k (fin false m e) p =
     let some : 0 < 1 * 2 ^ suc k = rw (one-mul (2 ^ suc k)) (pow_pos (suc k)) in
     let turned : down e * 2 ^ suc k ≡ 1 * 2 ^ suc k * down e = mul_comm (down e) (2 ^ suc k) ∙ ap (λ (z : ℕ). z * down e) (sym (one-mul (2 ^ suc k))) in
     round_same binary64 false (m * up e * 1) (1 * 2 ^ suc k * down e) (m * up e * 1) (down e * 2 ^ suc k)
     (mul-pos some (down_pos e)) (mul-pos (down_pos e) (pow_pos (suc k))) (ap (λ (z : ℕ). m * up e * 1 * z) turned)
 
 -- ---- a coupling in its range
-module _ (g : Float) (right : coupling-right g ≡ true) where
-  pub above-lowest : T (le (fin false 1 (negsuc 31)) g)
-  unfolding coupling-right
-  above-lowest = rw lowest-is at (holds (le (div binary64 (float_of 1) (float_of (2 ^ 32))) g) (and_parts (le (div binary64 (float_of 1) (float_of (2 ^ 32))) g) (le g (float_of (2 ^ 32))) right).0)
+module _ (g : Float) (right : coupling_right g ≡ true) where
+  pub above_lowest : T (le (fin false 1 (negsuc 31)) g)
+  unfolding coupling_right
+  above_lowest = rw lowest_is at (holds (le (div binary64 (float_of 1) (float_of (2 ^ 32))) g) (and_parts (le (div binary64 (float_of 1) (float_of (2 ^ 32))) g) (le g (float_of (2 ^ 32))) right).0)
 
-  pub below-highest : T (le g (fin false 1 (pos 32)))
-  unfolding coupling-right
-  below-highest = rw highest-is at (holds (le g (float_of (2 ^ 32))) (and_parts (le (div binary64 (float_of 1) (float_of (2 ^ 32))) g) (le g (float_of (2 ^ 32))) right).1)
+  pub below_highest : T (le g (fin false 1 (pos 32)))
+  unfolding coupling_right
+  below_highest = rw highest_is at (holds (le g (float_of (2 ^ 32))) (and_parts (le (div binary64 (float_of 1) (float_of (2 ^ 32))) g) (le g (float_of (2 ^ 32))) right).1)
 
-  pub coupling-positive : T (positive g)
-  coupling-positive = between (fin false 1 (negsuc 31)) g (fin false 1 (pos 32)) tt tt above-lowest below-highest
+  pub coupling_positive : T (positive g)
+  coupling_positive = between (fin false 1 (negsuc 31)) g (fin false 1 (pos 32)) tt tt above_lowest below_highest
 
 -- a float above 0 that another is not below
 pub record NotBelow (low x : Float) : Type 0 where
   pub positive : T (positive x)
-  pub not-below : T (le low x)
+  pub not_below : T (le low x)
 
 -- a record that is right has the factor of its coupling
-pub electric-low : (p own : KSParams) (low : Float) → T (positive low) → NotBelow low own.electric → params-right p own ≡ true → NotBelow low p.electric
-unfolding params-right
-electric-low p own low some h right =
-    let parts = and_parts (coupling-right p.g_squared) (eq p.electric own.electric && eq p.magnetic own.magnetic) right in
+pub electric_low : (p own : KSParams) (low : Float) → T (positive low) → NotBelow low own.electric → params_right p own ≡ true → NotBelow low p.electric
+unfolding params_right
+electric_low p own low some h right =
+    let parts = and_parts (coupling_right p.g_squared) (eq p.electric own.electric && eq p.magnetic own.magnetic) right in
     let same = (and_parts (eq p.electric own.electric) (eq p.magnetic own.magnetic) parts.1).0 in
-    let positives = equal-positive p.electric own.electric h.positive same in
+    let positives = equal_positive p.electric own.electric h.positive same in
     record {
       positive = positives.0;
-      not-below = le_trans_positive low own.electric p.electric some h.positive positives.0 h.not-below positives.1;
+      not_below = le_trans_positive low own.electric p.electric some h.positive positives.0 h.not_below positives.1;
     }
 
 -- ---- the products
@@ -152,11 +152,11 @@ none_kept (fin false m e) h =
 
 -- with 1 to 2^26, and with 0
 module _ (low x : Float) (some : T (positive low)) (once : T (positive (mul binary64 low (fin false 1 (pos 0))))) (h : NotBelow low x) where
-  pub energy-kept : (k : ℕ) → 1 ≤ k → k ≤ 2 ^ 26 → kept (energy x k) ≡ true
-  energy-kept k more few =
+  pub energy_kept : (k : ℕ) → 1 ≤ k → k ≤ 2 ^ 26 → kept (energy x k) ≡ true
+  energy_kept k more few =
       above_kept (energy x k)
       (above_of_le (mul binary64 low (fin false 1 (pos 0))) (energy x k) once
-      (mul_mono binary64 low x (fin false 1 (pos 0)) (float_of k) some h.positive tt (whole-positive k more few) h.not-below (whole_above k more)))
+      (mul_mono binary64 low x (fin false 1 (pos 0)) (float_of k) some h.positive tt (whole_positive k more few) h.not_below (whole_above k more)))
 
-  pub no-energy : kept (energy x 0) ≡ false
-  no-energy = rw zero_is (none_kept x h.positive)
+  pub no_energy : kept (energy x 0) ≡ false
+  no_energy = rw zero_is (none_kept x h.positive)

@@ -11,141 +11,141 @@ use lib.ListN.{get_or, length, take, drop, set, length-append, length-map}
 use lib.Seq.{paste, paste-suc, length-take-le, take-set-le, take-suc-set}
 use Rattle.mathematics.specs.Counting.{below}
 use Rattle.mathematics.specs.Writing.{put, front}
-use Rattle.mathematics.proofs.Below.{length-below}
-use Rattle.mathematics.proofs.Flat.{flatMap-last}
+use Rattle.mathematics.proofs.Below.{length_below}
+use Rattle.mathematics.proofs.Flat.{flat_map_last}
 use Rattle.mathematics.proofs.Front.{store}
-use Rattle.mathematics.proofs.Puts.{put_front, put-more}
+use Rattle.mathematics.proofs.Puts.{put_front, put_more}
 use Rattle.mathematics.proofs.Totals.{total}
 use Rattle.rows.specs.Entries.{pairs}
-use Rattle.rows.specs.RowLists.{rows-to, row-starts, row-columns, row-values, EntryPushed, RowAppended, RowsWritten}
-use Rattle.rows.proofs.Pairs.{pairs-length, pairs_set}
+use Rattle.rows.specs.RowLists.{rows_to, row_starts, row_columns, row_values, EntryPushed, RowAppended, RowsWritten}
+use Rattle.rows.proofs.Pairs.{pairs_length, pairs_set}
 
 -- ---- the entries of the first rows
 module _ (row : ℕ → List (ℕ × Float)) where
-  pub rows_next : (i : ℕ) → rows-to row (i + 1) ≡ rows-to row i ++ row i
-  unfolding rows-to below
-  rows_next i = rw (add-one i) (flatMap-last row (below i) i)
+  pub rows_next : (i : ℕ) → rows_to row (i + 1) ≡ rows_to row i ++ row i
+  unfolding rows_to below
+  rows_next i = rw (add-one i) (flat_map_last row (below i) i)
 
-  pub rows-length-next : (i : ℕ) → length (rows-to row (i + 1)) ≡ length (rows-to row i) + length (row i)
-  rows-length-next i = rw (rows_next i) (length-append (rows-to row i) (row i))
+  pub rows_length_next : (i : ℕ) → length (rows_to row (i + 1)) ≡ length (rows_to row i) + length (row i)
+  rows_length_next i = rw (rows_next i) (length-append (rows_to row i) (row i))
 
   -- as many as all rows have
-  pub rows-length : (n : ℕ) → length (rows-to row n) ≡ total (λ i. length (row i)) n
-  unfolding rows-to below total flat_map
-  rows-length zero = refl
-  rows-length (suc n) = rw (flatMap-last row (below n) n, length-append (flat_map row (below n)) (row n)) (ap (λ k. k + length (row n)) (rows-length n))
+  pub rows_length : (n : ℕ) → length (rows_to row n) ≡ total (λ i. length (row i)) n
+  unfolding rows_to below total flat_map
+  rows_length zero = refl
+  rows_length (suc n) = rw (flat_map_last row (below n) n, length-append (flat_map row (below n)) (row n)) (ap (λ k. k + length (row n)) (rows_length n))
 
-  rises_by : (d i : ℕ) → length (rows-to row i) ≤ length (rows-to row (i + d))
+  rises_by : (d i : ℕ) → length (rows_to row i) ≤ length (rows_to row (i + d))
   rises_by zero i = let e : i + 0 ≡ i = omega arith in rw e (omega arith)
   rises_by (suc d) i =
       let e : i + suc d ≡ i + d + 1 = omega arith in
-      rw (e, rows-length-next (i + d)) (omega (arith, rises_by d i))
+      rw (e, rows_length_next (i + d)) (omega (arith, rises_by d i))
 
-  pub rows-rise : (i n : ℕ) → i ≤ n → length (rows-to row i) ≤ length (rows-to row n)
-  rows-rise i n h =
+  pub rows_rise : (i n : ℕ) → i ≤ n → length (rows_to row i) ≤ length (rows_to row n)
+  rows_rise i n h =
       let e : i + (n - i) ≡ n = omega arith in
       rw e at (rises_by (n - i) i)
 
-  pub starts-length : (n : ℕ) → length (row-starts row n) ≡ n + 1
-  unfolding row-starts
-  starts-length n = length-map (below (n + 1)) (λ i. length (rows-to row i)) ∙ length-below (n + 1)
+  pub starts_length : (n : ℕ) → length (row_starts row n) ≡ n + 1
+  unfolding row_starts
+  starts_length n = length-map (below (n + 1)) (λ i. length (rows_to row i)) ∙ length_below (n + 1)
 
-  starts-next : (i : ℕ) → row-starts row (i + 1) ≡ row-starts row i ++ (length (rows-to row (i + 1)) ∷ [])
-  unfolding row-starts below
-  starts-next i =
-      ap (λ k. map (λ i. length (rows-to row i)) (below k)) (add-one (i + 1))
-      ∙ map-append (λ i. length (rows-to row i)) (below (i + 1)) ((i + 1) ∷ [])
+  starts_next : (i : ℕ) → row_starts row (i + 1) ≡ row_starts row i ++ (length (rows_to row (i + 1)) ∷ [])
+  unfolding row_starts below
+  starts_next i =
+      ap (λ k. map (λ i. length (rows_to row i)) (below k)) (add-one (i + 1))
+      ∙ map-append (λ i. length (rows_to row i)) (below (i + 1)) ((i + 1) ∷ [])
 
   -- ---- written over three lists
   module _ (starts columns : List ℕ) (values : List Float) where
     pub none_written : 0 < length starts → RowsWritten row 0 0 starts columns values (set starts 0 0) columns values
-    unfolding rows-to row-starts row-columns row-values below flat_map
-    none_written some = record { next = refl; starts-are = first starts some; columns-are = refl; values-are = refl }
+    unfolding rows_to row_starts row_columns row_values below flat_map
+    none_written some = record { next = refl; starts_are = first starts some; columns_are = refl; values_are = refl }
       where
         first : (l : List ℕ) → 0 < length l → set l 0 0 ≡ 0 ∷ drop 1 l
         first [] h = absurd (omega arith)
         first (x ∷ l) h = refl
 
   -- one row more, behind those that stand
-  behind : {A : Type 0} (f : ℕ × Float → A) (old now new : List A) (i at : ℕ) → at ≡ length (rows-to row i) → at ≤ length old
-      → now ≡ front (map f (rows-to row i)) old → new ≡ put now at (map f (row i)) → new ≡ front (map f (rows-to row (i + 1))) old
+  behind : {A : Type 0} (f : ℕ × Float → A) (old now new : List A) (i at : ℕ) → at ≡ length (rows_to row i) → at ≤ length old
+      → now ≡ front (map f (rows_to row i)) old → new ≡ put now at (map f (row i)) → new ≡ front (map f (rows_to row (i + 1))) old
   behind f old now new i at e room is written =
-      let long : length (map f (rows-to row i)) ≡ 0 + at = length-map (rows-to row i) f ∙ sym e ∙ sym (zero-add at) in
-      written ∙ rw (is, ← (put_front old (map f (rows-to row i))))
-      (ap (λ k. put (put old 0 (map f (rows-to row i))) k (map f (row i))) (sym (zero-add at) ∙ sym long ∙ sym (zero-add _))
-      ∙ (put-more old 0 (map f (rows-to row i)) (map f (row i)) (omega arith)
-      ∙ (put_front old (map f (rows-to row i) ++ map f (row i))
-      ∙ ap (λ l. front l old) (sym (map-append f (rows-to row i) (row i)) ∙ ap (map f) (sym (rows_next i))))))
+      let long : length (map f (rows_to row i)) ≡ 0 + at = length-map (rows_to row i) f ∙ sym e ∙ sym (zero-add at) in
+      written ∙ rw (is, ← (put_front old (map f (rows_to row i))))
+      (ap (λ k. put (put old 0 (map f (rows_to row i))) k (map f (row i))) (sym (zero-add at) ∙ sym long ∙ sym (zero-add _))
+      ∙ (put_more old 0 (map f (rows_to row i)) (map f (row i)) (omega arith)
+      ∙ (put_front old (map f (rows_to row i) ++ map f (row i))
+      ∙ ap (λ l. front l old) (sym (map-append f (rows_to row i) (row i)) ∙ ap (map f) (sym (rows_next i))))))
 
   pub row_written : (starts columns : List ℕ) (values : List Float) (starts₁ columns₁ : List ℕ) (values₁ : List Float) (starts₂ columns₂ : List ℕ) (values₂ : List Float) (i at r : ℕ)
-      → i + 1 < length starts → length (rows-to row (i + 1)) ≤ length columns → length (rows-to row (i + 1)) ≤ length values
+      → i + 1 < length starts → length (rows_to row (i + 1)) ≤ length columns → length (rows_to row (i + 1)) ≤ length values
       → RowsWritten row i at starts columns values starts₁ columns₁ values₁ → RowAppended (row i) i at starts₁ columns₁ values₁ r starts₂ columns₂ values₂
       → RowsWritten row (i + 1) r starts columns values starts₂ columns₂ values₂
-  unfolding row-columns row-values
-  row_written starts columns values starts₁ columns₁ values₁ starts₂ columns₂ values₂ i at r room columns-room values-room so_far more =
-      let next : r ≡ length (rows-to row (i + 1)) = omega (arith, more.next, so_far.next, rows-length-next i) in
-      let count = rows-length-next i in
+  unfolding row_columns row_values
+  row_written starts columns values starts₁ columns₁ values₁ starts₂ columns₂ values₂ i at r room columns_room values_room so_far more =
+      let next : r ≡ length (rows_to row (i + 1)) = omega (arith, more.next, so_far.next, rows_length_next i) in
+      let count = rows_length_next i in
       let start = so_far.next in
       record {
         next = next;
-        starts-are =
-            more.starts-are ∙ rw (so_far.starts-are, starts-length i, next)
-            (store (row-starts row i) starts (i + 1) (length (rows-to row (i + 1))) 0 (starts-length i) room
-            ∙ ap (λ l. l ++ drop (i + 1 + 1) starts) (sym (starts-next i))
-            ∙ ap (λ k. row-starts row (i + 1) ++ drop k starts) (sym (starts-length (i + 1))));
-        columns-are = behind (λ e. e.0) columns columns₁ columns₂ i at so_far.next (omega arith) so_far.columns-are more.columns-are;
-        values-are = behind (λ e. e.1) values values₁ values₂ i at so_far.next (omega arith) so_far.values-are more.values-are;
+        starts_are =
+            more.starts_are ∙ rw (so_far.starts_are, starts_length i, next)
+            (store (row_starts row i) starts (i + 1) (length (rows_to row (i + 1))) 0 (starts_length i) room
+            ∙ ap (λ l. l ++ drop (i + 1 + 1) starts) (sym (starts_next i))
+            ∙ ap (λ k. row_starts row (i + 1) ++ drop k starts) (sym (starts_length (i + 1))));
+        columns_are = behind (λ e. e.0) columns columns₁ columns₂ i at so_far.next (omega arith) so_far.columns_are more.columns_are;
+        values_are = behind (λ e. e.1) values values₁ values₂ i at so_far.next (omega arith) so_far.values_are more.values_are;
       }
 
 -- ---- a row in two lists
 -- an entry behind the first n, where it is taken
 module _ (columns : List ℕ) (values : List Float) (n column : ℕ) (value : Float) (room : n < length columns) (same : length columns ≡ length values) where
-  pub entry-taken : (taken : Bool) → taken ≡ true → EntryPushed (pairs columns values) n (column, value) taken (n + 1) (pairs (set columns n column) (set values n value))
-  entry-taken taken is =
+  pub entry_taken : (taken : Bool) → taken ≡ true → EntryPushed (pairs columns values) n (column, value) taken (n + 1) (pairs (set columns n column) (set values n value))
+  entry_taken taken is =
       record {
-        front = rw (is, pairs_set columns values n column value, add-one n) (take-suc-set (pairs columns values) n (column, value) (omega (arith, pairs-length columns values same)));
+        front = rw (is, pairs_set columns values n column value, add-one n) (take-suc-set (pairs columns values) n (column, value) (omega (arith, pairs_length columns values same)));
         count = rw is;
       }
 
-  pub entry-left : (taken : Bool) → taken ≡ false → EntryPushed (pairs columns values) n (column, value) taken n (pairs (set columns n column) (set values n value))
-  entry-left taken is =
+  pub entry_left : (taken : Bool) → taken ≡ false → EntryPushed (pairs columns values) n (column, value) taken n (pairs (set columns n column) (set values n value))
+  entry_left taken is =
       record {
         front = rw (is, pairs_set columns values n column value) (take-set-le n (pairs columns values) n (column, value) (omega arith) ∙ sym (append-nil (take n (pairs columns values))));
         count = rw is (sym (add-zero n));
       }
 
-columns-taken : (columns : List ℕ) (values : List Float) (m : ℕ) → length columns ≡ length values → map (λ e. e.0) (take m (pairs columns values)) ≡ take m columns
+columns_taken : (columns : List ℕ) (values : List Float) (m : ℕ) → length columns ≡ length values → map (λ e. e.0) (take m (pairs columns values)) ≡ take m columns
 unfolding pairs
-columns-taken [] values zero e = refl
-columns-taken [] values (suc m) e = refl
-columns-taken (j ∷ columns) [] m e = absurd (omega arith)
-columns-taken (j ∷ columns) (x ∷ values) zero e = refl
-columns-taken (j ∷ columns) (x ∷ values) (suc m) e = ap (λ l. j ∷ l) (columns-taken columns values m (omega arith))
+columns_taken [] values zero e = refl
+columns_taken [] values (suc m) e = refl
+columns_taken (j ∷ columns) [] m e = absurd (omega arith)
+columns_taken (j ∷ columns) (x ∷ values) zero e = refl
+columns_taken (j ∷ columns) (x ∷ values) (suc m) e = ap (λ l. j ∷ l) (columns_taken columns values m (omega arith))
 
-values-taken : (columns : List ℕ) (values : List Float) (m : ℕ) → length columns ≡ length values → map (λ e. e.1) (take m (pairs columns values)) ≡ take m values
+values_taken : (columns : List ℕ) (values : List Float) (m : ℕ) → length columns ≡ length values → map (λ e. e.1) (take m (pairs columns values)) ≡ take m values
 unfolding pairs
-values-taken [] [] zero e = refl
-values-taken [] [] (suc m) e = refl
-values-taken [] (x ∷ values) m e = absurd (omega arith)
-values-taken (j ∷ columns) [] m e = absurd (omega arith)
-values-taken (j ∷ columns) (x ∷ values) zero e = refl
-values-taken (j ∷ columns) (x ∷ values) (suc m) e = ap (λ l. x ∷ l) (values-taken columns values m (omega arith))
+values_taken [] [] zero e = refl
+values_taken [] [] (suc m) e = refl
+values_taken [] (x ∷ values) m e = absurd (omega arith)
+values_taken (j ∷ columns) [] m e = absurd (omega arith)
+values_taken (j ∷ columns) (x ∷ values) zero e = refl
+values_taken (j ∷ columns) (x ∷ values) (suc m) e = ap (λ l. x ∷ l) (values_taken columns values m (omega arith))
 
 -- one entry more of a list that is copied from a place on
-pub paste-turn : {A : Type 0} (d : List A) (at : ℕ) (s now : List A) (k : ℕ) (z : A) → at + k < length d → k < length s → now ≡ paste d at s k → set now (at + k) (get_or s k z) ≡ paste d at s (k + 1)
-paste-turn d at s now k z room enough is = rw (is, add-one k) (paste-suc d at s k z room enough)
+pub paste_turn : {A : Type 0} (d : List A) (at : ℕ) (s now : List A) (k : ℕ) (z : A) → at + k < length d → k < length s → now ≡ paste d at s k → set now (at + k) (get_or s k z) ≡ paste d at s (k + 1)
+paste_turn d at s now k z room enough is = rw (is, add-one k) (paste-suc d at s k z room enough)
 
-taken-put : {A : Type 0} (d : List A) (at : ℕ) (s : List A) (m : ℕ) → m ≤ length s → paste d at s m ≡ put d at (take m s)
+taken_put : {A : Type 0} (d : List A) (at : ℕ) (s : List A) (m : ℕ) → m ≤ length s → paste d at s m ≡ put d at (take m s)
 unfolding put
-taken-put d at s m h = rw (length-take-le m s h)
+taken_put d at s m h = rw (length-take-le m s h)
 
-pub row_copied : (row-columns : List ℕ) (row-values : List Float) (m i at : ℕ) (starts columns : List ℕ) (values : List Float) → m ≤ length row-columns → length row-columns ≡ length row-values
-    → RowAppended (take m (pairs row-columns row-values)) i at starts columns values (at + m) (set starts (i + 1) (at + m)) (paste columns at row-columns m) (paste values at row-values m)
-row_copied row-columns row-values m i at starts columns values h same =
-    let long : length (take m (pairs row-columns row-values)) ≡ m = length-take-le m (pairs row-columns row-values) (omega (arith, pairs-length row-columns row-values same)) in
+pub row_copied : (row_columns : List ℕ) (row_values : List Float) (m i at : ℕ) (starts columns : List ℕ) (values : List Float) → m ≤ length row_columns → length row_columns ≡ length row_values
+    → RowAppended (take m (pairs row_columns row_values)) i at starts columns values (at + m) (set starts (i + 1) (at + m)) (paste columns at row_columns m) (paste values at row_values m)
+row_copied row_columns row_values m i at starts columns values h same =
+    let long : length (take m (pairs row_columns row_values)) ≡ m = length-take-le m (pairs row_columns row_values) (omega (arith, pairs_length row_columns row_values same)) in
     record {
       next = rw long;
-      starts-are = refl;
-      columns-are = rw (columns-taken row-columns row-values m same) (taken-put columns at row-columns m h);
-      values-are = rw (values-taken row-columns row-values m same) (taken-put values at row-values m (omega arith));
+      starts_are = refl;
+      columns_are = rw (columns_taken row_columns row_values m same) (taken_put columns at row_columns m h);
+      values_are = rw (values_taken row_columns row_values m same) (taken_put values at row_values m (omega arith));
     }

@@ -1,14 +1,14 @@
 // What the exported functions on row lists do that are of no mode.
 ghost use Rattle.std.specs.Prelude.{◌≡◌};
-ghost use Rattle.matvec.specs.Product.{productAnswer, product-call};
-ghost use Rattle.exports.specs.Exports.{toldOf, zero_of, zero-told, Exported};
+ghost use Rattle.matvec.specs.Product.{product_answer, product_call};
+ghost use Rattle.exports.specs.Exports.{outcome_told, zero_of, zero_told, Exported};
 
 use exports::{Told, signed};
 use matvec::product::{Product, matvec};
 
 // The number of rows is not told: no bound of it is known.
 fn told_product(answer: Product) -> Told
-    ensures { result ≡ toldOf (zero_of (productAnswer answer)) }
+    ensures { result ≡ outcome_told (zero_of (product_answer answer)) }
 {
     match answer {
         Product::Rows(_) => Told {
@@ -30,7 +30,7 @@ pub fn export_matvec(
     vector: &[f64],
     res: &mut [f64],
 ) -> i64
-    ensures { Exported (zero-told (product-call starts.now columns.now values.now vector.now res.old)) result res.new }
+    ensures { Exported (zero_told (product_call starts.now columns.now values.now vector.now res.old)) result res.new }
 {
     signed(told_product(matvec(starts, columns, values, vector, res)))
 }

@@ -7,7 +7,7 @@ use native.Mathlib.Nat.{add-zero, add-mul}
 use native.Mathlib.Decide.{dec_le}
 use lib.ListN.{length, length-append}
 use Rattle.mathematics.specs.Counting.{below}
-use Rattle.mathematics.proofs.Flat.{flatMap-last, flatten-append}
+use Rattle.mathematics.proofs.Flat.{flat_map_last, flatten_append}
 use Rattle.runs.specs.Runs.{between}
 
 module _ {A : Type 0} (f : ℕ → List A) where
@@ -15,54 +15,54 @@ module _ {A : Type 0} (f : ℕ → List A) where
   unfolding between below flat_map
   between_none a b h = rw h
 
-  pub between-same : (a b c : ℕ) → b - a ≡ c - a → between f a b ≡ between f a c
+  pub between_same : (a b c : ℕ) → b - a ≡ c - a → between f a b ≡ between f a c
   unfolding between
-  between-same a b c h = rw h
+  between_same a b c h = rw h
 
   pub between_next : (a b : ℕ) → a ≤ b → between f a (b + 1) ≡ between f a b ++ f b
   unfolding between below
   between_next a b h =
       let e : b + 1 - a ≡ suc (b - a) = omega arith in
       let g : a + (b - a) ≡ b = omega arith in
-      rw e (flatMap-last (λ i. f (a + i)) (below (b - a)) (b - a) ∙ rw g)
+      rw e (flat_map_last (λ i. f (a + i)) (below (b - a)) (b - a) ∙ rw g)
 
-  between-on : (a b j : ℕ) → a ≤ b → between f a (b + j) ≡ between f a b ++ between f b (b + j)
-  between-on a b zero h =
+  between_on : (a b j : ℕ) → a ≤ b → between f a (b + j) ≡ between f a b ++ between f b (b + j)
+  between_on a b zero h =
       let none : b - b ≡ 0 = omega arith in
       rw (add-zero b, between_none b b none) (sym (append-nil (between f a b)))
-  between-on a b (suc j) h =
+  between_on a b (suc j) h =
       let e : b + suc j ≡ b + j + 1 = omega arith in
-      rw (e, between_next a (b + j) (omega arith), between_next b (b + j) (omega arith), between-on a b j h) (append_assoc (between f a b) (between f b (b + j)) (f (b + j)))
+      rw (e, between_next a (b + j) (omega arith), between_next b (b + j) (omega arith), between_on a b j h) (append_assoc (between f a b) (between f b (b + j)) (f (b + j)))
 
   pub between_split : (a b c : ℕ) → a ≤ b → b ≤ c → between f a c ≡ between f a b ++ between f b c
   between_split a b c h k =
       let e : b + (c - b) ≡ c = omega arith in
-      rw e at (between-on a b (c - b) h)
+      rw e at (between_on a b (c - b) h)
 
-  between-empty : (a j : ℕ) → ((i : ℕ) → a ≤ i → i < a + j → f i ≡ []) → between f a (a + j) ≡ []
-  between-empty a zero h = between_none a (a + 0) (omega arith)
-  between-empty a (suc j) h =
+  between_empty : (a j : ℕ) → ((i : ℕ) → a ≤ i → i < a + j → f i ≡ []) → between f a (a + j) ≡ []
+  between_empty a zero h = between_none a (a + 0) (omega arith)
+  between_empty a (suc j) h =
       let e : a + suc j ≡ a + j + 1 = omega arith in
-      rw (e, between_next a (a + j) (omega arith), between-empty a j (λ i l m. h i l (omega arith)), h (a + j) (omega arith) (omega arith))
+      rw (e, between_next a (a + j) (omega arith), between_empty a j (λ i l m. h i l (omega arith)), h (a + j) (omega arith) (omega arith))
 
   -- all of them, where those outside of a part are empty
-  pub between-part : (k from to : ℕ) → to ≤ k → ((i : ℕ) → i < k → (from ≤ i → i < to → ⊥) → f i ≡ []) → between f 0 k ≡ between f from to
-  between-part k from to bound empty = go (dec_le from to)
+  pub between_part : (k from to : ℕ) → to ≤ k → ((i : ℕ) → i < k → (from ≤ i → i < to → ⊥) → f i ≡ []) → between f 0 k ≡ between f from to
+  between_part k from to bound empty = go (dec_le from to)
     where
       go : Dec (from ≤ to) → between f 0 k ≡ between f from to
       go (yes h) =
           let e : to + (k - to) ≡ k = omega arith in
           let none : 0 + from ≡ from = omega arith in
-          let before = rw none at (between-empty 0 from (λ i l m. empty i (omega arith) (λ a b. omega arith))) in
-          let behind = rw e at (between-empty to (k - to) (λ i l m. empty i (omega arith) (λ a b. omega arith))) in
+          let before = rw none at (between_empty 0 from (λ i l m. empty i (omega arith) (λ a b. omega arith))) in
+          let behind = rw e at (between_empty to (k - to) (λ i l m. empty i (omega arith) (λ a b. omega arith))) in
           between_split 0 from k (omega arith) (omega arith)
           ∙ rw (before, between_split from to k h bound, behind) (append-nil (between f from to))
       go (no h) =
           let none : 0 + k ≡ k = omega arith in
-          (rw none at (between-empty 0 k (λ i l m. empty i (omega arith) (λ a b. omega arith)))) ∙ sym (between_none from to (omega arith))
+          (rw none at (between_empty 0 k (λ i l m. empty i (omega arith) (λ a b. omega arith)))) ∙ sym (between_none from to (omega arith))
 
-  pub between-few : (n : ℕ) → ((i : ℕ) → length (f i) ≤ n) → (a b : ℕ) → a ≤ b → length (between f a b) ≤ (b - a) * n
-  between-few n few a b h =
+  pub between_few : (n : ℕ) → ((i : ℕ) → length (f i) ≤ n) → (a b : ℕ) → a ≤ b → length (between f a b) ≤ (b - a) * n
+  between_few n few a b h =
       let e : a + (b - a) ≡ b = omega arith in
       rw e at (go (b - a))
     where
@@ -75,9 +75,9 @@ module _ {A : Type 0} (f : ℕ → List A) where
           rw (e, between_next a (a + j) (omega arith), length-append (between f a (a + j)) (f (a + j)), ← e, d) (omega (arith, few (a + j), rw d' at (go j)))
 
 -- lists of m entries each, all in one
-pub between-flat : {B : Type 0} (f : ℕ → List (List B)) (m : ℕ) → ((i : ℕ) → length (flatten (f i)) ≡ length (f i) * m) → (a b : ℕ) → length (flatten (between f a b)) ≡ length (between f a b) * m
+pub between_flat : {B : Type 0} (f : ℕ → List (List B)) (m : ℕ) → ((i : ℕ) → length (flatten (f i)) ≡ length (f i) * m) → (a b : ℕ) → length (flatten (between f a b)) ≡ length (between f a b) * m
 unfolding flatten
-between-flat f m each a b = go (dec_le a b)
+between_flat f m each a b = go (dec_le a b)
   where
     on : (j : ℕ) → length (flatten (between f a (a + j))) ≡ length (between f a (a + j)) * m
     on zero = rw (between_none f a (a + 0) (omega arith)) (omega arith)
@@ -85,7 +85,7 @@ between-flat f m each a b = go (dec_le a b)
         let e : a + suc j ≡ a + j + 1 = omega arith in
         let one = between f a (a + j) in
         let two = f (a + j) in
-        rw (e, between_next f a (a + j) (omega arith), flatten-append one two, length-append (flatten one) (flatten two), length-append one two, on j, each (a + j)) (sym (add-mul (length one) (length two) m))
+        rw (e, between_next f a (a + j) (omega arith), flatten_append one two, length-append (flatten one) (flatten two), length-append one two, on j, each (a + j)) (sym (add-mul (length one) (length two) m))
 
     go : Dec (a ≤ b) → length (flatten (between f a b)) ≡ length (between f a b) * m
     go (yes h) = let e : a + (b - a) ≡ b = omega arith in rw e at (on (b - a))

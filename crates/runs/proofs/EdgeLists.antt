@@ -13,31 +13,31 @@ use lib.Seq.{get_or-take, length-take-le, take-suc-set}
 use borrow.Author.Tests.{eq-eqb, eqb-true, leb-true, leb-false, ltb-true, le-leb, lt-ltb}
 use Rattle.mathematics.specs.Integers.{equal}
 use Rattle.mathematics.specs.Counting.{below, keep}
-use Rattle.mathematics.proofs.Integers.{equal-true}
+use Rattle.mathematics.proofs.Integers.{equal_true}
 use Rattle.mathematics.proofs.Tests.{and_parts, and_both, same_tests}
-use Rattle.mathematics.proofs.Below.{below_each, below-member, map_at, keep-next, keep-skip}
-use Rattle.mathematics.proofs.Ordered.{each_at, keep-each, keep-passes, keep-member, member-place}
-use Rattle.cycles.specs.Cycles.{with-cycle}
+use Rattle.mathematics.proofs.Below.{below_each, below_member, map_at, keep_next, keep_skip}
+use Rattle.mathematics.proofs.Ordered.{each_at, keep_each, keep_passes, keep_member, member_place}
+use Rattle.cycles.specs.Cycles.{with_cycle}
 use Rattle.walker.specs.declared.blocks.Span.{Span}
 use Rattle.walker.specs.Steps.{Small}
 use Rattle.walker.specs.Blocks.{SpanTo, SpanOfBlock}
-use Rattle.runs.specs.Edges.{kind, of-kind, Edges, Listed, Judged, picked}
+use Rattle.runs.specs.Edges.{kind, of_kind, Edges, Listed, Judged, picked}
 use Rattle.walker.proofs.Candidates.{within}
-use Rattle.walker.proofs.Interval.{moves, inside-span, span-inside, within-entries, entries-within, rows-by-tests}
-use Rattle.walker.proofs.Narrowing.{span-bound}
+use Rattle.walker.proofs.Interval.{moves, inside_span, span_inside, within_entries, entries_within, rows_by_tests}
+use Rattle.walker.proofs.Narrowing.{span_bound}
 
 -- ---- the lists are made edge by edge
-pub none-edges : (z y : List ℤ) (k : ℕ) (list : List ℕ) → length list ≡ 63 → Edges z y k 0 list 0
+pub none_edges : (z y : List ℤ) (k : ℕ) (list : List ℕ) → length list ≡ 63 → Edges z y k 0 list 0
 unfolding below keep
-none-edges z y k list long = record { long = long; few = omega arith; stands = refl }
+none_edges z y k list long = record { long = long; few = omega arith; stands = refl }
 
 module _ (z y : List ℤ) (k e : ℕ) (list : List ℕ) (count : ℕ) (h : Edges z y k e list count) where
-  pub edges-same : of-kind z y k e ≡ false → Edges z y k (e + 1) list count
-  edges-same t =
+  pub edges_same : of_kind z y k e ≡ false → Edges z y k (e + 1) list count
+  edges_same t =
       let few = h.few in
-      record { long = h.long; few = omega arith; stands = h.stands ∙ sym (keep-skip (of-kind z y k) e t) }
+      record { long = h.long; few = omega arith; stands = h.stands ∙ sym (keep_skip (of_kind z y k) e t) }
 
-  pub edges_more : e < 63 → of-kind z y k e ≡ true → Edges z y k (e + 1) (set list count e) (count + 1)
+  pub edges_more : e < 63 → of_kind z y k e ≡ true → Edges z y k (e + 1) (set list count e) (count + 1)
   edges_more inside t =
       let few = h.few in
       let long = h.long in
@@ -45,130 +45,130 @@ module _ (z y : List ℤ) (k e : ℕ) (list : List ℕ) (count : ℕ) (h : Edges
       record {
         long = length-set list count e ∙ h.long;
         few = omega arith;
-        stands = rw (add-one count) (take-suc-set list count e room) ∙ ap (λ l. l ++ (e ∷ [])) h.stands ∙ sym (keep-next (of-kind z y k) e t);
+        stands = rw (add-one count) (take-suc-set list count e room) ∙ ap (λ l. l ++ (e ∷ [])) h.stands ∙ sym (keep_next (of_kind z y k) e t);
       }
 
 -- ---- what stands in them
 module _ (z y : List ℤ) (k m : ℕ) (small : m ≤ 63) (list : List ℕ) (count : ℕ) (h : Edges z y k m list count) where
   kept : List ℕ
-  kept = keep (of-kind z y k) (below m)
+  kept = keep (of_kind z y k) (below m)
 
-  kept-long : length kept ≡ count
+  kept_long : length kept ≡ count
   unfolding kept
-  kept-long = sym (ap length h.stands) ∙ length-take-le count list (omega (arith, h.few, h.long))
+  kept_long = sym (ap length h.stands) ∙ length-take-le count list (omega (arith, h.few, h.long))
 
   kept_at : (q : ℕ) → q < count → get_or list q 0 ≡ get_or kept q 0
   unfolding kept
   kept_at q l = sym (get_or-take count list q 0 l) ∙ ap (λ l. get_or l q 0) h.stands
 
-  pub edge-inside : (q : ℕ) → q < count → get_or list q 0 < m
+  pub edge_inside : (q : ℕ) → q < count → get_or list q 0 < m
   unfolding kept
-  edge-inside q l = rw (kept_at q l) (each_at 0 (keep-each (of-kind z y k) (below_each m)) q (omega (arith, kept-long)))
+  edge_inside q l = rw (kept_at q l) (each_at 0 (keep_each (of_kind z y k) (below_each m)) q (omega (arith, kept_long)))
 
-  pub edge-kind : (q : ℕ) → q < count → of-kind z y k (get_or list q 0) ≡ true
+  pub edge_kind : (q : ℕ) → q < count → of_kind z y k (get_or list q 0) ≡ true
   unfolding kept
-  edge-kind q l = rw (kept_at q l) (each_at 0 (keep-passes (of-kind z y k) (below m)) q (omega (arith, kept-long)))
+  edge_kind q l = rw (kept_at q l) (each_at 0 (keep_passes (of_kind z y k) (below m)) q (omega (arith, kept_long)))
 
-  pub edge-found : (e : ℕ) → e < m → of-kind z y k e ≡ true → (q : ℕ) × (q < count) × (get_or list q 0 ≡ e)
+  pub edge_found : (e : ℕ) → e < m → of_kind z y k e ≡ true → (q : ℕ) × (q < count) × (get_or list q 0 ≡ e)
   unfolding kept
-  edge-found e l t =
-      let r = member-place 0 (keep-member (of-kind z y k) {x = e} {l = below m} t (below-member m e l)) in
-      (r.0, omega (arith, r.1, kept-long), kept_at r.0 (omega (arith, r.1, kept-long)) ∙ r.2)
+  edge_found e l t =
+      let r = member_place 0 (keep_member (of_kind z y k) {x = e} {l = below m} t (below_member m e l)) in
+      (r.0, omega (arith, r.1, kept_long), kept_at r.0 (omega (arith, r.1, kept_long)) ∙ r.2)
 
-  pub edges-listed : Listed m list count
-  edges-listed = record { long = h.long; few = omega (arith, h.few); inside = edge-inside }
+  pub edges_listed : Listed m list count
+  edges_listed = record { long = h.long; few = omega (arith, h.few); inside = edge_inside }
 
 -- ---- the values on listed edges
 module _ (list : List ℕ) (count : ℕ) (s : List ℤ) (room : count ≤ length list) where
-  pub picked-at : (q : ℕ) → q < count → get_or (picked list count s) q (pos 0) ≡ get_or s (get_or list q 0) (pos 0)
+  pub picked_at : (q : ℕ) → q < count → get_or (picked list count s) q (pos 0) ≡ get_or s (get_or list q 0) (pos 0)
   unfolding picked
-  picked-at q k =
+  picked_at q k =
       map_at (λ e. get_or s e (pos 0)) (take count list) q 0 (pos 0) (omega (arith, length-take-le count list room))
       ∙ ap (λ e. get_or s e (pos 0)) (get_or-take count list q 0 k)
 
-  pub picked-long : length (picked list count s) ≡ count
+  pub picked_long : length (picked list count s) ≡ count
   unfolding picked
-  picked-long = length-map (take count list) (λ e. get_or s e (pos 0)) ∙ length-take-le count list room
+  picked_long = length-map (take count list) (λ e. get_or s e (pos 0)) ∙ length-take-le count list room
 
-  pub picked-small : (B : ℕ) → Small B s → Small B (picked list count s)
-  picked-small B h q = go (dec_lt q count)
+  pub picked_small : (B : ℕ) → Small B s → Small B (picked list count s)
+  picked_small B h q = go (dec_lt q count)
     where
       go : Dec (q < count) → nat_abs (get_or (picked list count s) q (pos 0)) ≤ B
-      go (yes k) = rw (picked-at q k) (h (get_or list q 0))
-      go (no k) = rw (get_or-eq_default (picked list count s) (pos 0) {n = q} (omega (arith, picked-long))) (omega arith)
+      go (yes k) = rw (picked_at q k) (h (get_or list q 0))
+      go (no k) = rw (get_or-eq_default (picked list count s) (pos 0) {n = q} (omega (arith, picked_long))) (omega arith)
 
 -- ---- listed edges are judged
 module _ (L : ℕ) (s : List ℤ) (list : List ℕ) (count : ℕ) where
-  pub judged-out : (q : ℕ) → q < count → leb (nat_abs (get_or s (get_or list q 0) (pos 0))) L ≡ false → Judged L s list count false
-  judged-out q k t = record { all = λ e. absurd (false≢true e); some = λ e. (q, k, leb-false _ L t) }
+  pub judged_out : (q : ℕ) → q < count → leb (nat_abs (get_or s (get_or list q 0) (pos 0))) L ≡ false → Judged L s list count false
+  judged_out q k t = record { all = λ e. absurd (false≢true e); some = λ e. (q, k, leb-false _ L t) }
 
-  pub judged-in : ((q : ℕ) → q < count → nat_abs (get_or s (get_or list q 0) (pos 0)) ≤ L) → Judged L s list count true
-  judged-in h = record { all = λ e. h; some = λ e. absurd (false≢true (sym e)) }
+  pub judged_in : ((q : ℕ) → q < count → nat_abs (get_or s (get_or list q 0) (pos 0)) ≤ L) → Judged L s list count true
+  judged_in h = record { all = λ e. h; some = λ e. absurd (false≢true (sym e)) }
 
 -- ---- what a kind says
 module _ (z y : List ℤ) (e : ℕ) where
-  pub kind-still : equal (get_or z e (pos 0)) (pos 0) ≡ true → equal (get_or y e (pos 0)) (pos 0) ≡ true → of-kind z y 0 e ≡ true
-  unfolding kind of-kind
-  kind-still t u = rw (t, u) (eq-eqb 0 0 refl)
+  pub kind_still : equal (get_or z e (pos 0)) (pos 0) ≡ true → equal (get_or y e (pos 0)) (pos 0) ≡ true → of_kind z y 0 e ≡ true
+  unfolding kind of_kind
+  kind_still t u = rw (t, u) (eq-eqb 0 0 refl)
 
-  pub kind-side : equal (get_or z e (pos 0)) (pos 0) ≡ true → equal (get_or y e (pos 0)) (pos 0) ≡ false → of-kind z y 1 e ≡ true
-  unfolding kind of-kind
-  kind-side t u = rw (t, u) (eq-eqb 1 1 refl)
+  pub kind_side : equal (get_or z e (pos 0)) (pos 0) ≡ true → equal (get_or y e (pos 0)) (pos 0) ≡ false → of_kind z y 1 e ≡ true
+  unfolding kind of_kind
+  kind_side t u = rw (t, u) (eq-eqb 1 1 refl)
 
-  pub kind-moved : equal (get_or z e (pos 0)) (pos 0) ≡ false → of-kind z y 2 e ≡ true
-  unfolding kind of-kind
-  kind-moved t = rw t (eq-eqb 2 2 refl)
+  pub kind_moved : equal (get_or z e (pos 0)) (pos 0) ≡ false → of_kind z y 2 e ≡ true
+  unfolding kind of_kind
+  kind_moved t = rw t (eq-eqb 2 2 refl)
 
-  kind-cases : (b d : Bool) (k : ℕ) → k < 2 → eqb (cond b (cond d 0 1) 2) k ≡ true → b ≡ true
-  kind-cases true d k h t = refl
-  kind-cases false d k h t = absurd (omega (arith, eqb-true 2 k t))
+  kind_cases : (b d : Bool) (k : ℕ) → k < 2 → eqb (cond b (cond d 0 1) 2) k ≡ true → b ≡ true
+  kind_cases true d k h t = refl
+  kind_cases false d k h t = absurd (omega (arith, eqb-true 2 k t))
 
-  pub still-first : (k : ℕ) → k < 2 → of-kind z y k e ≡ true → equal (get_or z e (pos 0)) (pos 0) ≡ true
-  unfolding kind of-kind
-  still-first k h t = kind-cases (equal (get_or z e (pos 0)) (pos 0)) (equal (get_or y e (pos 0)) (pos 0)) k h t
+  pub still_first : (k : ℕ) → k < 2 → of_kind z y k e ≡ true → equal (get_or z e (pos 0)) (pos 0) ≡ true
+  unfolding kind of_kind
+  still_first k h t = kind_cases (equal (get_or z e (pos 0)) (pos 0)) (equal (get_or y e (pos 0)) (pos 0)) k h t
 
-  none-cases : (b d : Bool) → eqb (cond b (cond d 0 1) 2) 0 ≡ true → d ≡ true
-  none-cases true true t = refl
-  none-cases true false t = absurd (omega (arith, eqb-true 1 0 t))
-  none-cases false d t = absurd (omega (arith, eqb-true 2 0 t))
+  none_cases : (b d : Bool) → eqb (cond b (cond d 0 1) 2) 0 ≡ true → d ≡ true
+  none_cases true true t = refl
+  none_cases true false t = absurd (omega (arith, eqb-true 1 0 t))
+  none_cases false d t = absurd (omega (arith, eqb-true 2 0 t))
 
-  pub still-second : of-kind z y 0 e ≡ true → equal (get_or y e (pos 0)) (pos 0) ≡ true
-  unfolding kind of-kind
-  still-second t = none-cases (equal (get_or z e (pos 0)) (pos 0)) (equal (get_or y e (pos 0)) (pos 0)) t
+  pub still_second : of_kind z y 0 e ≡ true → equal (get_or y e (pos 0)) (pos 0) ≡ true
+  unfolding kind of_kind
+  still_second t = none_cases (equal (get_or z e (pos 0)) (pos 0)) (equal (get_or y e (pos 0)) (pos 0)) t
 
-pub sign-none : (x t y : ℤ) → equal y (pos 0) ≡ true → x +ℤ t *ℤ y ≡ x
-sign-none x t y h = rw (equal-true y (pos 0) h, *ℤ-zero t) (+ℤ_idr x)
+pub sign_none : (x t y : ℤ) → equal y (pos 0) ≡ true → x +ℤ t *ℤ y ≡ x
+sign_none x t y h = rw (equal_true y (pos 0) h, *ℤ-zero t) (+ℤ_idr x)
 
 -- ---- the block: the edges that its cycle does not move are within the bounds, and those that it moves narrow it
 module _ (L n : ℕ) (s z y : List ℤ) (signs : Small 1 z) (long : length z ≡ length s) (few : length s ≤ 63) (moved : List ℕ) (b : ℕ) (goes : Edges z y 2 (length s) moved b) where
   room : b ≤ length moved
   room = omega (arith, goes.few, goes.long)
 
-  pub lists-span : ((e : ℕ) → e < length s → equal (get_or z e (pos 0)) (pos 0) ≡ true → nat_abs (get_or s e (pos 0)) ≤ L) → (r : Span) → SpanTo L n (picked moved b s) (picked moved b z) b r → SpanOfBlock L n s z r
-  lists-span inside r h =
+  pub lists_span : ((e : ℕ) → e < length s → equal (get_or z e (pos 0)) (pos 0) ≡ true → nat_abs (get_or s e (pos 0)) ≤ L) → (r : Span) → SpanTo L n (picked moved b s) (picked moved b z) b r → SpanOfBlock L n s z r
+  lists_span inside r h =
       let x = picked moved b s in
       let w = picked moved b z in
-      let small = picked-small moved b z room 1 signs in
-      let bound = span-bound L n x w b r h in
+      let small = picked_small moved b z room 1 signs in
+      let bound = span_bound L n x w b r h in
       record {
         is =
-            rows-by-tests L n s z signs long r.from r.to bound
+            rows_by_tests L n s z signs long r.from r.to bound
             (λ d k.
-            same_tests (within L (with-cycle s (pos d) z)) _
+            same_tests (within L (with_cycle s (pos d) z)) _
             (λ t.
-            let i = inside-span L n x w small d b k (λ q l. rw (picked-at moved b s room q l, picked-at moved b z room q l) (within-entries L n s z signs long d t (get_or moved q 0) (edge-inside z y 2 (length s) few moved b goes q l))) in
+            let i = inside_span L n x w small d b k (λ q l. rw (picked_at moved b s room q l, picked_at moved b z room q l) (within_entries L n s z signs long d t (get_or moved q 0) (edge_inside z y 2 (length s) few moved b goes q l))) in
             and_both _ _ (le-leb _ d (rw h.from i.0)) (lt-ltb d _ (rw h.to i.1)))
             (λ t.
             let p = and_parts (leb r.from d) (ltb d r.to) t in
             let from = rw h.from at (leb-true _ d p.0) in
             let to = rw h.to at (ltb-true d _ p.1) in
-            entries-within L n s z signs long d (λ e l. entry d e l (λ q j. span-inside L n x w small d b k from to q j) (equal (get_or z e (pos 0)) (pos 0)) refl)));
+            entries_within L n s z signs long d (λ e l. entry d e l (λ q j. span_inside L n x w small d b k from to q j) (equal (get_or z e (pos 0)) (pos 0)) refl)));
         bound = bound;
       }
     where
-      entry : (d e : ℕ) → e < length s → ((q : ℕ) → q < b → nat_abs (moves L n (picked moved b s) (picked moved b z) (picked-small moved b z room 1 signs) d q) ≤ L)
+      entry : (d e : ℕ) → e < length s → ((q : ℕ) → q < b → nat_abs (moves L n (picked moved b s) (picked moved b z) (picked_small moved b z room 1 signs) d q) ≤ L)
           → (t : Bool) → equal (get_or z e (pos 0)) (pos 0) ≡ t → nat_abs (moves L n s z signs d e) ≤ L
-      entry d e l h true t = rw (sign-none (get_or s e (pos 0)) (pos d) (get_or z e (pos 0)) t) (inside e l t)
+      entry d e l h true t = rw (sign_none (get_or s e (pos 0)) (pos d) (get_or z e (pos 0)) t) (inside e l t)
       entry d e l h false t =
-          let f = edge-found z y 2 (length s) few moved b goes e l (kind-moved z y e t) in
-          rw (← f.2, ← (picked-at moved b s room f.0 f.1), ← (picked-at moved b z room f.0 f.1)) (h f.0 f.1)
+          let f = edge_found z y 2 (length s) few moved b goes e l (kind_moved z y e t) in
+          rw (← f.2, ← (picked_at moved b s room f.0 f.1), ← (picked_at moved b z room f.0 f.1)) (h f.0 f.1)

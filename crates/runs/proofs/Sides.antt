@@ -10,130 +10,130 @@ use lib.ListN.{get_or, length}
 use borrow.Author.Tests.{leb-true}
 use Rattle.mathematics.specs.Integers.{equal}
 use Rattle.mathematics.proofs.Tests.{and_parts, same_tests}
-use Rattle.cycles.specs.Cycles.{with-cycle}
-use Rattle.cycles.proofs.Adding.{added-at, added-length}
+use Rattle.cycles.specs.Cycles.{with_cycle}
+use Rattle.cycles.proofs.Adding.{added_at, added_length}
 use Rattle.walker.specs.declared.blocks.Span.{Span}
-use Rattle.walker.specs.Walker.{block, first-within, end-within}
+use Rattle.walker.specs.Walker.{block, first_within, end_within}
 use Rattle.walker.specs.Steps.{Small}
 use Rattle.walker.specs.Blocks.{SpanTo, SpanOfBlock}
-use Rattle.walker.proofs.BlockRows.{rows_none, rows-length, rows_long}
+use Rattle.walker.proofs.BlockRows.{rows_none, rows_length, rows_long}
 use Rattle.walker.proofs.Candidates.{within}
-use Rattle.walker.proofs.Interval.{stop-bound, inside-span, span-inside, within-entries, rows-by-tests}
-use Rattle.walker.proofs.Narrowing.{span-bound}
+use Rattle.walker.proofs.Interval.{stop_bound, inside_span, span_inside, within_entries, rows_by_tests}
+use Rattle.walker.proofs.Narrowing.{span_bound}
 use Rattle.walker.proofs.Walk.{added_none}
 use Rattle.runs.specs.Edges.{Edges, Listed, picked}
-use Rattle.runs.specs.Runs.{run-states, RunFit, Staying, SideSpan, Inside}
-use Rattle.runs.proofs.Between.{between-part, between-few, between-flat}
-use Rattle.runs.proofs.EdgeLists.{edge-inside, edge-kind, edge-found, picked-at, picked-small, kind-still, kind-side, still-first, still-second, sign-none, lists-span}
+use Rattle.runs.specs.Runs.{run_states, RunFit, Staying, SideSpan, Inside}
+use Rattle.runs.proofs.Between.{between_part, between_few, between_flat}
+use Rattle.runs.proofs.EdgeLists.{edge_inside, edge_kind, edge_found, picked_at, picked_small, kind_still, kind_side, still_first, still_second, sign_none, lists_span}
 
 -- ---- the span of a run, by lists of edges
 module _ (L : ℕ) (s y : List ℤ) (signs : Small 1 y) (still side : List ℕ) (a b k : ℕ) (listed : Listed (length s) side b) where
   room : b ≤ length side
   room = omega (arith, listed.long, listed.few)
 
-  pub side-span : ((q : ℕ) → q < a → nat_abs (get_or s (get_or still q 0) (pos 0)) ≤ L) → (r : Span) → SpanTo L k (picked side b (with-cycle s (pos 0) y)) (picked side b y) b r → SideSpan L s y still a side b k r
-  side-span stays r h =
+  pub side_span : ((q : ℕ) → q < a → nat_abs (get_or s (get_or still q 0) (pos 0)) ≤ L) → (r : Span) → SpanTo L k (picked side b (with_cycle s (pos 0) y)) (picked side b y) b r → SideSpan L s y still a side b k r
+  side_span stays r h =
       let x = picked side b s in
       let w = picked side b y in
-      let small = picked-small side b y room 1 signs in
+      let small = picked_small side b y room 1 signs in
       let is : SpanTo L k x w b r = rw (added_none s y) at h in
-      let bound = span-bound L k x w b r is in
+      let bound = span_bound L k x w b r is in
       record {
         bound = bound;
         inside = λ i low high.
             record {
-              still-within = stays;
-              side-within = λ q l.
-                  rw (← (picked-at side b s room q l), ← (picked-at side b y room q l))
-                  (span-inside L k x w small i b (omega arith) (omega (arith, is.from)) (omega (arith, is.to)) q l);
+              still_within = stays;
+              side_within = λ q l.
+                  rw (← (picked_at side b s room q l), ← (picked_at side b y room q l))
+                  (span_inside L k x w small i b (omega arith) (omega (arith, is.from)) (omega (arith, is.to)) q l);
             };
         outside = λ i low stay.
-            let r = inside-span L k x w small i b low (λ q l. rw (picked-at side b s room q l, picked-at side b y room q l) (stay.side-within q l)) in
+            let r = inside_span L k x w small i b low (λ q l. rw (picked_at side b s room q l, picked_at side b y room q l) (stay.side_within q l)) in
             (omega (arith, is.from, r.0), omega (arith, is.to, r.1));
       }
 
-  pub side-none : (q : ℕ) × (q < a) × (L < nat_abs (get_or s (get_or still q 0) (pos 0))) → SideSpan L s y still a side b k (record { from = k; to = k })
-  side-none (q, l, out) =
+  pub side_none : (q : ℕ) × (q < a) × (L < nat_abs (get_or s (get_or still q 0) (pos 0))) → SideSpan L s y still a side b k (record { from = k; to = k })
+  side_none (q, l, out) =
       record {
         bound = omega arith;
         inside = λ i low high. absurd (omega arith);
-        outside = λ i low stay. absurd (omega (arith, stay.still-within q l));
+        outside = λ i low stay. absurd (omega (arith, stay.still_within q l));
       }
 
 -- ---- its blocks
-module _ (L : ℕ) (s z y : List ℤ) (few : length s ≤ 63) (first-signs : Small 1 z) (first-long : length z ≡ length s) (second-long : length y ≡ length s) (still side : List ℕ) (a b k : ℕ)
+module _ (L : ℕ) (s z y : List ℤ) (few : length s ≤ 63) (first_signs : Small 1 z) (first_long : length z ≡ length s) (second_long : length y ≡ length s) (still side : List ℕ) (a b k : ℕ)
     (rests : Edges z y 0 (length s) still a) (goes : Edges z y 1 (length s) side b) (r : Span) (spans : SideSpan L s y still a side b k r) where
   abbrev at_block : ℕ → List ℤ
-  at_block i = with-cycle s (pos i) y
+  at_block i = with_cycle s (pos i) y
 
-  pub sides-inside : Inside L s z y r
-  sides-inside i low high e l t = rw (added-at s (pos i) y e second-long) (go (equal (get_or y e (pos 0)) (pos 0)) refl)
+  pub sides_inside : Inside L s z y r
+  sides_inside i low high e l t = rw (added_at s (pos i) y e second_long) (go (equal (get_or y e (pos 0)) (pos 0)) refl)
     where
       go : (u : Bool) → equal (get_or y e (pos 0)) (pos 0) ≡ u → nat_abs (get_or s e (pos 0) +ℤ pos i *ℤ get_or y e (pos 0)) ≤ L
       go true u =
-          let f = edge-found z y 0 (length s) few still a rests e l (kind-still z y e t u) in
-          rw (sign-none (get_or s e (pos 0)) (pos i) (get_or y e (pos 0)) u, ← f.2) ((spans.inside i low high).still-within f.0 f.1)
+          let f = edge_found z y 0 (length s) few still a rests e l (kind_still z y e t u) in
+          rw (sign_none (get_or s e (pos 0)) (pos i) (get_or y e (pos 0)) u, ← f.2) ((spans.inside i low high).still_within f.0 f.1)
       go false u =
-          let f = edge-found z y 1 (length s) few side b goes e l (kind-side z y e t u) in
-          rw (← f.2) ((spans.inside i low high).side-within f.0 f.1)
+          let f = edge_found z y 1 (length s) few side b goes e l (kind_side z y e t u) in
+          rw (← f.2) ((spans.inside i low high).side_within f.0 f.1)
 
   -- a state of a block stays within the bounds there
-  stays : (i n d : ℕ) → within L (with-cycle (at_block i) (pos d) z) ≡ true → Staying L s y still a side b i
+  stays : (i n d : ℕ) → within L (with_cycle (at_block i) (pos d) z) ≡ true → Staying L s y still a side b i
   stays i n d t =
-      let long : length z ≡ length (at_block i) = first-long ∙ sym (added-length s (pos i) y) in
+      let long : length z ≡ length (at_block i) = first_long ∙ sym (added_length s (pos i) y) in
       let value : (e : ℕ) → e < length s → equal (get_or z e (pos 0)) (pos 0) ≡ true → nat_abs (get_or s e (pos 0) +ℤ pos i *ℤ get_or y e (pos 0)) ≤ L =
       λ e l u.
-      rw (sign-none (get_or (at_block i) e (pos 0)) (pos d) (get_or z e (pos 0)) u, added-at s (pos i) y e second-long)
-      at (within-entries L n (at_block i) z first-signs long d t e (rw (added-length s (pos i) y) l)) in
+      rw (sign_none (get_or (at_block i) e (pos 0)) (pos d) (get_or z e (pos 0)) u, added_at s (pos i) y e second_long)
+      at (within_entries L n (at_block i) z first_signs long d t e (rw (added_length s (pos i) y) l)) in
       record {
-        still-within = λ q l.
-            let kind = edge-kind z y 0 (length s) few still a rests q l in
-            rw (sign-none (get_or s (get_or still q 0) (pos 0)) (pos i) (get_or y (get_or still q 0) (pos 0)) (still-second z y (get_or still q 0) kind))
-            at (value (get_or still q 0) (edge-inside z y 0 (length s) few still a rests q l) (still-first z y (get_or still q 0) 0 (omega arith) kind));
-        side-within = λ q l. value (get_or side q 0) (edge-inside z y 1 (length s) few side b goes q l) (still-first z y (get_or side q 0) 1 (omega arith) (edge-kind z y 1 (length s) few side b goes q l));
+        still_within = λ q l.
+            let kind = edge_kind z y 0 (length s) few still a rests q l in
+            rw (sign_none (get_or s (get_or still q 0) (pos 0)) (pos i) (get_or y (get_or still q 0) (pos 0)) (still_second z y (get_or still q 0) kind))
+            at (value (get_or still q 0) (edge_inside z y 0 (length s) few still a rests q l) (still_first z y (get_or still q 0) 0 (omega arith) kind));
+        side_within = λ q l. value (get_or side q 0) (edge_inside z y 1 (length s) few side b goes q l) (still_first z y (get_or side q 0) 1 (omega arith) (edge_kind z y 1 (length s) few side b goes q l));
       }
 
   -- the other blocks are empty
-  sides-outside : (n i : ℕ) → i < k → (r.from ≤ i → i < r.to → ⊥) → block L n (at_block i) z ≡ []
-  sides-outside n i low out =
-      let long : length z ≡ length (at_block i) = first-long ∙ sym (added-length s (pos i) y) in
+  sides_outside : (n i : ℕ) → i < k → (r.from ≤ i → i < r.to → ⊥) → block L n (at_block i) z ≡ []
+  sides_outside n i low out =
+      let long : length z ≡ length (at_block i) = first_long ∙ sym (added_length s (pos i) y) in
       let none : n - n ≡ 0 = omega arith in
-      sym (rows-by-tests L n (at_block i) z first-signs long n n (omega arith)
+      sym (rows_by_tests L n (at_block i) z first_signs long n n (omega arith)
       (λ d l.
-      same_tests (within L (with-cycle (at_block i) (pos d) z)) _
+      same_tests (within L (with_cycle (at_block i) (pos d) z)) _
       (λ t. let p = spans.outside i low (stays i n d t) in absurd (out p.0 p.1))
       (λ t. absurd (omega (arith, leb-true n d (and_parts (leb n d) (ltb d n) t).0)))))
       ∙ rows_none (at_block i) z n n none
 
-  pub run-whole : (n : ℕ) → run-states L n s z y 0 k ≡ run-states L n s z y r.from r.to
-  run-whole n = between-part (λ i. block L n (at_block i) z) k r.from r.to spans.bound (sides-outside n)
+  pub run_whole : (n : ℕ) → run_states L n s z y 0 k ≡ run_states L n s z y r.from r.to
+  run_whole n = between_part (λ i. block L n (at_block i) z) k r.from r.to spans.bound (sides_outside n)
 
 -- ---- a block has no more states than candidates
-pub run-few : (L n : ℕ) (s z y : List ℤ) (from to : ℕ) → from ≤ to → length (run-states L n s z y from to) ≤ (to - from) * n
+pub run_few : (L n : ℕ) (s z y : List ℤ) (from to : ℕ) → from ≤ to → length (run_states L n s z y from to) ≤ (to - from) * n
 unfolding block
-run-few L n s z y from to h = between-few (λ i. block L n (with-cycle s (pos i) y) z) n few from to h
+run_few L n s z y from to h = between_few (λ i. block L n (with_cycle s (pos i) y) z) n few from to h
   where
-    few : (i : ℕ) → length (block L n (with-cycle s (pos i) y) z) ≤ n
+    few : (i : ℕ) → length (block L n (with_cycle s (pos i) y) z) ≤ n
     few i =
-        let t = with-cycle s (pos i) y in
-        rw (rows-length t z (first-within L n t z (length t)) (end-within L n t z (length t))) (omega (arith, stop-bound L n t z (length t)))
+        let t = with_cycle s (pos i) y in
+        rw (rows_length t z (first_within L n t z (length t)) (end_within L n t z (length t))) (omega (arith, stop_bound L n t z (length t)))
 
 -- the entries of a run's states
-pub run-flat : (L n : ℕ) (s z y : List ℤ) (from to : ℕ) → length (flatten (run-states L n s z y from to)) ≡ length (run-states L n s z y from to) * length s
+pub run_flat : (L n : ℕ) (s z y : List ℤ) (from to : ℕ) → length (flatten (run_states L n s z y from to)) ≡ length (run_states L n s z y from to) * length s
 unfolding block
-run-flat L n s z y from to = between-flat (λ i. block L n (with-cycle s (pos i) y) z) (length s) each from to
+run_flat L n s z y from to = between_flat (λ i. block L n (with_cycle s (pos i) y) z) (length s) each from to
   where
-    each : (i : ℕ) → length (flatten (block L n (with-cycle s (pos i) y) z)) ≡ length (block L n (with-cycle s (pos i) y) z) * length s
+    each : (i : ℕ) → length (flatten (block L n (with_cycle s (pos i) y) z)) ≡ length (block L n (with_cycle s (pos i) y) z) * length s
     each i =
-        let t = with-cycle s (pos i) y in
-        let a = first-within L n t z (length t) in
-        let b = end-within L n t z (length t) in
-        rows_long t z a b ∙ rw (rows-length t z a b, added-length s (pos i) y)
+        let t = with_cycle s (pos i) y in
+        let a = first_within L n t z (length t) in
+        let b = end_within L n t z (length t) in
+        rows_long t z a b ∙ rw (rows_length t z a b, added_length s (pos i) y)
 
 -- ---- the block with number i, by the edges that the first cycle moves
 module _ (L n : ℕ) (s z y : List ℤ) (k : ℕ) (fit : RunFit L n s z y k) (moved : List ℕ) (c : ℕ) (moves : Edges z y 2 (length s) moved c) (r : Span) (inside : Inside L s z y r) (i : ℕ) (low : r.from ≤ i) (high : i < r.to) where
-  pub block-spans : (p : Span) → SpanTo L n (picked moved c (with-cycle s (pos i) y)) (picked moved c z) c p → SpanOfBlock L n (with-cycle s (pos i) y) z p
-  block-spans p h =
-      let t = with-cycle s (pos i) y in
-      let same = added-length s (pos i) y in
-      lists-span L n t z y fit.first-signs (fit.first-long ∙ sym same) (rw same fit.edges_few) moved c (rw same moves) (λ e l u. inside i low high e (rw same at l) u) p h
+  pub block_spans : (p : Span) → SpanTo L n (picked moved c (with_cycle s (pos i) y)) (picked moved c z) c p → SpanOfBlock L n (with_cycle s (pos i) y) z p
+  block_spans p h =
+      let t = with_cycle s (pos i) y in
+      let same = added_length s (pos i) y in
+      lists_span L n t z y fit.first_signs (fit.first_long ∙ sym same) (rw same fit.edges_few) moved c (rw same moves) (λ e l u. inside i low high e (rw same at l) u) p h

@@ -8,88 +8,88 @@ use lib.IntN.{ℤ}
 use lib.ListN.{length, take, drop, length-append}
 use Rattle.cycles.specs.Cycles.{row}
 use Rattle.walker.specs.declared.blocks.Span.{Span}
-use Rattle.walker.specs.Walker.{stepped, width, walked-states}
+use Rattle.walker.specs.Walker.{stepped, width, walked_states}
 use Rattle.walker.specs.Steps.{Small, CyclesFit, FreeFit, Walkable, Runs}
-use Rattle.walker.proofs.Stepping.{cycle-long}
+use Rattle.walker.proofs.Stepping.{cycle_long}
 use Rattle.runs.specs.Edges.{Edges, Listed}
-use Rattle.runs.specs.Runs.{run-states, RunFit, SideSpan, Inside}
-use Rattle.runs.proofs.EdgeLists.{edges-listed}
-use Rattle.runs.proofs.Sides.{sides-inside, run-whole}
-use Rattle.runs.proofs.Walked.{run-some, this-run-fits, run-first}
+use Rattle.runs.specs.Runs.{run_states, RunFit, SideSpan, Inside}
+use Rattle.runs.proofs.EdgeLists.{edges_listed}
+use Rattle.runs.proofs.Sides.{sides_inside, run_whole}
+use Rattle.runs.proofs.Walked.{run_some, this_run_fits, run_first}
 
 -- ---- the first two cycles as parts of the table
 module _ (free : List ℕ) (cycles : List ℤ) (L n : ℕ) (s : List ℤ) (k : ℕ) (fit : Walkable free cycles L n s k) where
   pub first_part : take (length s - 0) cycles ≡ row (length s) cycles 0
   first_part = rw (sub-zero (length s))
 
-  pub second-part : take (63 + length s - 63) (drop 63 cycles) ≡ row (length s) cycles 1
-  second-part = let e : 63 + length s - 63 ≡ length s = omega arith in rw e
+  pub second_part : take (63 + length s - 63) (drop 63 cycles) ≡ row (length s) cycles 1
+  second_part = let e : 63 + length s - 63 ≡ length s = omega arith in rw e
 
-  pub parts-ask : (length (take (length s - 0) cycles) ≤ 63) × (length (take (63 + length s - 63) (drop 63 cycles)) ≡ length (take (length s - 0) cycles))
-  parts-ask =
-      let long = cycle-long (length s) n L cycles fit.cycles-fit in
+  pub parts_ask : (length (take (length s - 0) cycles) ≤ 63) × (length (take (63 + length s - 63) (drop 63 cycles)) ≡ length (take (length s - 0) cycles))
+  parts_ask =
+      let long = cycle_long (length s) n L cycles fit.cycles_fit in
       let one = ap length first_part ∙ long 0 (omega arith) in
-      let two = ap length second-part ∙ long 1 (omega arith) in
-      (omega (arith, one, fit.cycles-fit.edges_few), two ∙ sym one)
+      let two = ap length second_part ∙ long 1 (omega arith) in
+      (omega (arith, one, fit.cycles_fit.edges_few), two ∙ sym one)
 
   -- their edges of one kind
-  pub edges-here : {kind : ℕ} {list : List ℕ} {count : ℕ} → Edges (take (length s - 0) cycles) (take (63 + length s - 63) (drop 63 cycles)) kind (length (take (length s - 0) cycles)) list count
+  pub edges_here : {kind : ℕ} {list : List ℕ} {count : ℕ} → Edges (take (length s - 0) cycles) (take (63 + length s - 63) (drop 63 cycles)) kind (length (take (length s - 0) cycles)) list count
       → Edges (take (length s - 0) cycles) (take (63 + length s - 63) (drop 63 cycles)) kind (length s) list count
-  edges-here h = rw (ap length first_part ∙ cycle-long (length s) n L cycles fit.cycles-fit 0 (omega arith)) at h
+  edges_here h = rw (ap length first_part ∙ cycle_long (length s) n L cycles fit.cycles_fit 0 (omega arith)) at h
 
 -- ---- the run
 module _ (free : List ℕ) (cycles : List ℤ) (L n : ℕ) (s : List ℤ) (left : ℕ) (fit : Walkable free cycles L n s left) (runs : Runs free cycles L n s) (more : 0 < left) (run : ℕ) (is : run ≡ min left (width L (n - 1)))
     (z y : List ℤ) (first : z ≡ row (length s) cycles 0) (second : y ≡ row (length s) cycles 1) (still side : List ℕ) (a b : ℕ) (rests : Edges z y 0 (length s) still a) (goes : Edges z y 1 (length s) side b) where
   run_fits : RunFit L (width L n) s z y run
-  run_fits = rw (first, second) (this-run-fits free cycles L n s left fit runs more run is)
+  run_fits = rw (first, second) (this_run_fits free cycles L n s left fit runs more run is)
 
-  pub step-may : CyclesFit (length s) n L cycles × FreeFit (length s) n free × Small (2 ^ 20) s
-  step-may = (fit.cycles-fit, fit.free-fit, run_fits.start)
+  pub step_may : CyclesFit (length s) n L cycles × FreeFit (length s) n free × Small (2 ^ 20) s
+  step_may = (fit.cycles_fit, fit.free_fit, run_fits.start)
 
-  pub span-asks : Listed (length s) still a × Listed (length s) side b × (length y ≡ length s) × Small (2 ^ 20) s × Small 1 y × (L ≤ 1000)
-  span-asks = (
-    edges-listed z y 0 (length s) run_fits.edges_few still a rests,
-    edges-listed z y 1 (length s) run_fits.edges_few side b goes,
-    run_fits.second-long,
+  pub span_asks : Listed (length s) still a × Listed (length s) side b × (length y ≡ length s) × Small (2 ^ 20) s × Small 1 y × (L ≤ 1000)
+  span_asks = (
+    edges_listed z y 0 (length s) run_fits.edges_few still a rests,
+    edges_listed z y 1 (length s) run_fits.edges_few side b goes,
+    run_fits.second_long,
     run_fits.start,
-    run_fits.second-signs,
+    run_fits.second_signs,
     run_fits.truncation,
   )
 
-  pub fewer-left : (run ≤ left) × (left - run < left)
-  fewer-left = let some = run-some free cycles L n s left fit runs more run is in (some.0, omega (arith, some.0, some.1))
+  pub fewer_left : (run ≤ left) × (left - run < left)
+  fewer_left = let some = run_some free cycles L n s left fit runs more run is in (some.0, omega (arith, some.0, some.1))
 
   module _ (r : Span) (spans : SideSpan L s y still a side b run r) where
-    pub turn-fits : RunFit L (width L n) s z y r.to
-    turn-fits =
+    pub turn_fits : RunFit L (width L n) s z y r.to
+    turn_fits =
         let f = run_fits in
         record {
           edges_few = f.edges_few;
           truncation = f.truncation;
           wide = f.wide;
           few = omega (arith, f.few, spans.bound);
-          first-long = f.first-long;
-          second-long = f.second-long;
-          first-signs = f.first-signs;
-          second-signs = f.second-signs;
+          first_long = f.first_long;
+          second_long = f.second_long;
+          first_signs = f.first_signs;
+          second_signs = f.second_signs;
           start = f.start;
           values = λ i h. f.values i (omega (arith, spans.bound));
         }
 
     pub turn_inside : Inside L s z y r
-    turn_inside = sides-inside L s z y run_fits.edges_few run_fits.first-signs run_fits.first-long run_fits.second-long still side a b run rests goes r spans
+    turn_inside = sides_inside L s z y run_fits.edges_few run_fits.first_signs run_fits.first_long run_fits.second_long still side a b run rests goes r spans
 
     module _ (new : List ℤ) (made : new ≡ stepped free (row (length s) cycles) L (n - 2) 2 s) where
       abbrev rest : List (List ℤ)
-      rest = walked-states free (row (length new) cycles) L n new (left - run)
+      rest = walked_states free (row (length new) cycles) L n new (left - run)
 
       abbrev these : List (List ℤ)
-      these = run-states L (width L n) s z y r.from r.to
+      these = run_states L (width L n) s z y r.from r.to
 
-      pub turn-states : walked-states free (row (length s) cycles) L n s left ≡ these ++ rest
-      turn-states =
-          let whole : run-states L (width L n) s (row (length s) cycles 0) (row (length s) cycles 1) 0 run ≡ these = rw (← first, ← second) (run-whole L s z y run_fits.edges_few run_fits.first-signs run_fits.first-long run_fits.second-long still side a b run rests goes r spans (width L n)) in
-          run-first free cycles L n s left fit runs more run is new made ∙ ap (λ l. l ++ rest) whole
+      pub turn_states : walked_states free (row (length s) cycles) L n s left ≡ these ++ rest
+      turn_states =
+          let whole : run_states L (width L n) s (row (length s) cycles 0) (row (length s) cycles 1) 0 run ≡ these = rw (← first, ← second) (run_whole L s z y run_fits.edges_few run_fits.first_signs run_fits.first_long run_fits.second_long still side a b run rests goes r spans (width L n)) in
+          run_first free cycles L n s left fit runs more run is new made ∙ ap (λ l. l ++ rest) whole
 
-      pub turn-counts : length (walked-states free (row (length s) cycles) L n s left) ≡ length these + length rest
-      turn-counts = ap length turn-states ∙ length-append these rest
+      pub turn_counts : length (walked_states free (row (length s) cycles) L n s left) ≡ length these + length rest
+      turn_counts = ap length turn_states ∙ length-append these rest

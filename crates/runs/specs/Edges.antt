@@ -8,14 +8,14 @@ unfoldable pub kind : ℤ → ℤ → ℕ
 kind first second = cond (equal first (pos 0)) (cond (equal second (pos 0)) 0 1) 2
 
 -- whether an edge is of a kind
-unfoldable pub of-kind : List ℤ → List ℤ → ℕ → ℕ → Bool
-of-kind first second k e = eqb (kind (get_or first e (pos 0)) (get_or second e (pos 0))) k
+unfoldable pub of_kind : List ℤ → List ℤ → ℕ → ℕ → Bool
+of_kind first second k e = eqb (kind (get_or first e (pos 0)) (get_or second e (pos 0))) k
 
 -- the edges of one kind among the first m
 pub record Edges (first second : List ℤ) (k m : ℕ) (list : List ℕ) (count : ℕ) : Type 0 where
   pub long : length list ≡ 63
   pub few : count ≤ m
-  pub stands : take count list ≡ keep (of-kind first second k) (below m)
+  pub stands : take count list ≡ keep (of_kind first second k) (below m)
 
 -- a list that begins with numbers below m
 pub record Listed (m : ℕ) (list : List ℕ) (count : ℕ) : Type 0 where

@@ -1,9 +1,9 @@
 -- Rows made of others by adding to each entry, as the code makes them.
 use Rattle.std.specs.Prelude.{ℕ, zero, suc, ◌+◌, ◌-◌, ◌*◌, ◌^◌, ◌≤◌, ◌<◌, ◌≡◌, ℤ, pos, length, take, drop}
 use mathlib.Core.List.{List, [], ◌++◌, flatten}
-use Rattle.cycles.specs.Cycles.{with-cycle}
+use Rattle.cycles.specs.Cycles.{with_cycle}
 use Rattle.walker.specs.declared.blocks.Span.{Span}
-use Rattle.walker.specs.Walker.{block-rows}
+use Rattle.walker.specs.Walker.{block_rows}
 use Rattle.walker.specs.Steps.{Small}
 
 -- a list n times, one after the other
@@ -18,7 +18,7 @@ pub record Beside (y : List ℤ) (k : ℕ) (list : List ℤ) : Type 0 where
 
 -- what stands in a list from a place on, an amount added to each entry
 unfoldable pub raised : List ℤ → ℕ → List ℤ → List ℤ
-raised list from amounts = with-cycle (take (length amounts) (drop from list)) (pos 1) amounts
+raised list from amounts = with_cycle (take (length amounts) (drop from list)) (pos 1) amounts
 
 -- amounts can be added to what stands some entries before a place; what is read ends before the place, and the sums have room there
 pub record Raisable (list : List ℤ) (at back : ℕ) (amounts : List ℤ) : Type 0 where
@@ -31,5 +31,5 @@ pub record Raisable (list : List ℤ) (at back : ℕ) (amounts : List ℤ) : Typ
 pub record RowsBefore (list : List ℤ) (at : ℕ) (s z : List ℤ) (last : Span) : Type 0 where
   pub head : List ℤ
   pub tail : List ℤ
-  pub is : list ≡ head ++ (flatten (block-rows s z last.from last.to) ++ tail)
+  pub is : list ≡ head ++ (flatten (block_rows s z last.from last.to) ++ tail)
   pub ends : length head + (last.to - last.from) * length s ≡ at

@@ -1,7 +1,7 @@
 // The edges by what the first two cycles do to them. A run of blocks is judged by those that neither moves, narrowed by those that the
 // second alone moves, and each of its blocks by those that the first moves.
 ghost use Rattle.std.specs.Prelude.{◌≡◌, ◌+◌, ◌^◌, ◌<◌, ◌≤◌, length, pos};
-ghost use Rattle.cycles.specs.Cycles.{with-cycle};
+ghost use Rattle.cycles.specs.Cycles.{with_cycle};
 ghost use Rattle.walker.specs.Steps.{Small, Addable};
 ghost use Rattle.walker.specs.Blocks.{SpanTo};
 ghost use Rattle.runs.specs.Edges.{kind, Edges, Listed, Judged, picked};
@@ -86,8 +86,8 @@ pub fn span_over(
     lambda: usize,
     width: usize,
 ) -> Span
-    requires { Listed (length config.now) list.now count × (length cycle.now ≡ length config.now) × Addable config.now times other.now × Small (2 ^ 20) (with-cycle config.now times other.now) × Small 1 cycle.now × (lambda ≤ 1000) }
-    ensures { SpanTo lambda width (picked list.now count (with-cycle config.now times other.now)) (picked list.now count cycle.now) count result }
+    requires { Listed (length config.now) list.now count × (length cycle.now ≡ length config.now) × Addable config.now times other.now × Small (2 ^ 20) (with_cycle config.now times other.now) × Small 1 cycle.now × (lambda ≤ 1000) }
+    ensures { SpanTo lambda width (picked list.now count (with_cycle config.now times other.now)) (picked list.now count cycle.now) count result }
 {
     let mut span = Span { from: 0, to: width };
     for q in 0..count {

@@ -6,7 +6,7 @@ pub mod run;
 pub mod walk;
 
 ghost use Rattle.std.specs.Prelude.{◌≡◌, ◌*◌, ◌≤◌, length};
-ghost use Rattle.walker.specs.Tables.{states-of, Fit};
+ghost use Rattle.walker.specs.Tables.{states_of, Fit};
 ghost use Rattle.walker.specs.Blocks.{StatesWritten};
 
 use crate::walk::{count_blocks, write_blocks};
@@ -16,7 +16,7 @@ use walker::tables::Walker;
 // How many states the first blocks have.
 pub fn count_states(w: Walker, lambda: usize, blocks: usize) -> usize
     requires { Fit w lambda blocks }
-    ensures { result ≡ length (states-of w lambda blocks) }
+    ensures { result ≡ length (states_of w lambda blocks) }
 {
     let free = w.free;
     let n_free = w.n_free;
@@ -28,8 +28,8 @@ pub fn count_states(w: Walker, lambda: usize, blocks: usize) -> usize
 
 // The states of the first blocks go to the beginning of a list. How many they are.
 pub fn write_states(w: Walker, lambda: usize, blocks: usize, states: &mut [i32]) -> usize
-    requires { Fit w lambda blocks × (length (states-of w lambda blocks) * w.n_edges ≤ length states.old) }
-    ensures { StatesWritten (states-of w lambda blocks) states.old states.new result }
+    requires { Fit w lambda blocks × (length (states_of w lambda blocks) * w.n_edges ≤ length states.old) }
+    ensures { StatesWritten (states_of w lambda blocks) states.old states.new result }
 {
     let free = w.free;
     let n_free = w.n_free;

@@ -1,8 +1,8 @@
 // The rows of a block made of those of the block before it in its run, or each of the row before: a cycle is added to what stands there.
 ghost use Rattle.std.specs.Prelude.{◌≡◌, ◌+◌, ◌*◌, ◌-◌, ◌^◌, ◌<◌, ◌≤◌, length, pos, neg_ℤ, nat_abs, ◌+ℤ◌};
 ghost use mathlib.Core.List.{flatten};
-ghost use Rattle.cycles.specs.Cycles.{with-cycle};
-ghost use Rattle.walker.specs.Walker.{block-rows};
+ghost use Rattle.cycles.specs.Cycles.{with_cycle};
+ghost use Rattle.walker.specs.Walker.{block_rows};
 ghost use Rattle.walker.specs.Steps.{Small, Addable};
 ghost use Rattle.runs.specs.Rows.{Beside, Raisable, RowsBefore, raised, repeated};
 ghost use Rattle.mathematics.specs.Writing.{put};
@@ -100,7 +100,7 @@ pub fn write_rows(
     ahead: &[i32],
 )
     requires { Addable config.now (pos 0) cycle.now × (span.to ≤ 2 ^ 20) × (at + (span.to - span.from) * length config.now ≤ length states.old) × (ahead.now ≡ cycle.now) }
-    ensures { states.new ≡ put states.old at (flatten (block-rows config.now cycle.now span.from span.to)) }
+    ensures { states.new ≡ put states.old at (flatten (block_rows config.now cycle.now span.from span.to)) }
 {
     let from = span.from;
     let to = span.to;
@@ -132,8 +132,8 @@ pub fn write_beside(
     beside: &[i32],
     rows: usize,
 )
-    requires { Addable config.now (pos 0) first.now × Addable config.now (pos 0) second.now × (span.to ≤ 2 ^ 20) × (at + (span.to - span.from) * length config.now ≤ length states.old) × RowsBefore states.old at (with-cycle config.now (neg_ℤ (pos 1)) second.now) first.now last × Beside second.now rows beside.now × (ahead.now ≡ first.now) × (rows * length config.now ≤ 256) }
-    ensures { states.new ≡ put states.old at (flatten (block-rows config.now first.now span.from span.to)) }
+    requires { Addable config.now (pos 0) first.now × Addable config.now (pos 0) second.now × (span.to ≤ 2 ^ 20) × (at + (span.to - span.from) * length config.now ≤ length states.old) × RowsBefore states.old at (with_cycle config.now (neg_ℤ (pos 1)) second.now) first.now last × Beside second.now rows beside.now × (ahead.now ≡ first.now) × (rows * length config.now ≤ 256) }
+    ensures { states.new ≡ put states.old at (flatten (block_rows config.now first.now span.from span.to)) }
 {
     let from = span.from;
     let to = span.to;

@@ -5,7 +5,7 @@ ghost use Rattle.walker.specs.Steps.{Small};
 ghost use Rattle.walker.specs.Blocks.{WrittenAt};
 ghost use Rattle.runs.specs.Edges.{Edges, Listed};
 ghost use Rattle.runs.specs.Rows.{Beside};
-ghost use Rattle.runs.specs.Runs.{run-states, RunFit, SideSpan, Inside};
+ghost use Rattle.runs.specs.Runs.{run_states, RunFit, SideSpan, Inside};
 
 use crate::edges::{all_within, span_over};
 use crate::rows::write_beside;
@@ -56,7 +56,7 @@ pub fn count_run(
     span: Span,
 ) -> usize
     requires { RunFit lambda width config.now first.now second.now span.to × Inside lambda config.now first.now second.now span × Edges first.now second.now 2 (length config.now) moved.now n_moved }
-    ensures { result ≡ length (run-states lambda width config.now first.now second.now span.from span.to) }
+    ensures { result ≡ length (run_states lambda width config.now first.now second.now span.from span.to) }
 {
     let mut count = 0;
     let mut i = span.from;
@@ -87,8 +87,8 @@ pub fn write_run(
     beside: &[i32],
     rows: usize,
 ) -> usize
-    requires { (length row.old ≡ length config.now) × RunFit lambda width config.now first.now second.now span.to × Inside lambda config.now first.now second.now span × Edges first.now second.now 2 (length config.now) moved.now n_moved × Beside second.now rows beside.now × (ahead.now ≡ first.now) × (rows * length config.now ≤ 256) × (at + length (run-states lambda width config.now first.now second.now span.from span.to) * length config.now ≤ length states.old) }
-    ensures { WrittenAt (run-states lambda width config.now first.now second.now span.from span.to) states.old states.new at result }
+    requires { (length row.old ≡ length config.now) × RunFit lambda width config.now first.now second.now span.to × Inside lambda config.now first.now second.now span × Edges first.now second.now 2 (length config.now) moved.now n_moved × Beside second.now rows beside.now × (ahead.now ≡ first.now) × (rows * length config.now ≤ 256) × (at + length (run_states lambda width config.now first.now second.now span.from span.to) * length config.now ≤ length states.old) }
+    ensures { WrittenAt (run_states lambda width config.now first.now second.now span.from span.to) states.old states.new at result }
 {
     let from = span.from;
     let to = span.to;

@@ -1,7 +1,7 @@
 // All states, run after run: counted, or written.
 ghost use Rattle.std.specs.Prelude.{◌≡◌, ◌*◌, ◌≤◌, length};
 ghost use Rattle.cycles.specs.Cycles.{row};
-ghost use Rattle.walker.specs.Walker.{walked-states};
+ghost use Rattle.walker.specs.Walker.{walked_states};
 ghost use Rattle.walker.specs.Steps.{Walkable, Runs};
 ghost use Rattle.walker.specs.Blocks.{StatesWritten};
 
@@ -23,7 +23,7 @@ pub fn count_blocks(
     blocks: usize,
 ) -> usize
     requires { Walkable free.now cycles.now lambda n_free config.old blocks × Runs free.now cycles.now lambda n_free config.old }
-    ensures { result ≡ length (walked-states free.now (row (length config.old) cycles.now) lambda n_free config.old blocks) }
+    ensures { result ≡ length (walked_states free.now (row (length config.old) cycles.now) lambda n_free config.old blocks) }
 {
     let n = width(n_free, lambda);
     let wide = run_width(n_free, lambda);
@@ -71,8 +71,8 @@ pub fn write_blocks(
     lambda: usize,
     blocks: usize,
 ) -> usize
-    requires { (length space.old ≡ length config.old) × Walkable free.now cycles.now lambda n_free config.old blocks × Runs free.now cycles.now lambda n_free config.old × (length (walked-states free.now (row (length config.old) cycles.now) lambda n_free config.old blocks) * length config.old ≤ length states.old) }
-    ensures { StatesWritten (walked-states free.now (row (length config.old) cycles.now) lambda n_free config.old blocks) states.old states.new result }
+    requires { (length space.old ≡ length config.old) × Walkable free.now cycles.now lambda n_free config.old blocks × Runs free.now cycles.now lambda n_free config.old × (length (walked_states free.now (row (length config.old) cycles.now) lambda n_free config.old blocks) * length config.old ≤ length states.old) }
+    ensures { StatesWritten (walked_states free.now (row (length config.old) cycles.now) lambda n_free config.old blocks) states.old states.new result }
 {
     let n = width(n_free, lambda);
     let wide = run_width(n_free, lambda);

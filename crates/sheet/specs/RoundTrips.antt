@@ -1,23 +1,23 @@
 -- Reading and writing undo each other.
 use Rattle.std.specs.Prelude.{ℕ, ◌<◌, List, ◌≡◌, get_or, length}
 use Rattle.mathematics.specs.Refusals.{first}
-use Rattle.complex.specs.Complex.{complexOf}
-use Rattle.complex.specs.Judge.{truncated-tests}
+use Rattle.complex.specs.Complex.{complex_of}
+use Rattle.complex.specs.Judge.{truncated_tests}
 use Rattle.sheet.specs.declared.Sheet.{Sheet}
 use Rattle.sheet.specs.declared.Reading.TheVariants.{Accepted}
-use Rattle.sheet.specs.Sheet.{sheetBytes, read_of}
+use Rattle.sheet.specs.Sheet.{sheet_bytes, read_of}
 
 -- what reading gives of the bytes of an accepted sheet
 pub record ReadBack (s : Sheet) (b : List ℕ) : Type 0 where
   pub answer : (read_of b).answer ≡ Accepted
-  pub complex : complexOf (read_of b).sheet.complex ≡ complexOf s.complex
+  pub complex : complex_of (read_of b).sheet.complex ≡ complex_of s.complex
   pub truncation : (read_of b).sheet.lambda ≡ s.lambda
 
 -- the bytes of an accepted sheet are read back as its complex and truncation
 abbrev pub WrittenThenRead : Type 0
-WrittenThenRead = (s : Sheet) → first (truncated-tests (complexOf s.complex) s.lambda) ≡ 0 → ReadBack s (sheetBytes (complexOf s.complex) s.lambda)
+WrittenThenRead = (s : Sheet) → first (truncated_tests (complex_of s.complex) s.lambda) ≡ 0 → ReadBack s (sheet_bytes (complex_of s.complex) s.lambda)
 
 -- an accepted list of bytes is what is written of the sheet that was read from it
 abbrev pub ReadThenWritten : Type 0
 ReadThenWritten =
-    (b : List ℕ) → ((i : ℕ) → i < length b → get_or b i 0 < 256) → (read_of b).answer ≡ Accepted → sheetBytes (complexOf (read_of b).sheet.complex) (read_of b).sheet.lambda ≡ b
+    (b : List ℕ) → ((i : ℕ) → i < length b → get_or b i 0 < 256) → (read_of b).answer ≡ Accepted → sheet_bytes (complex_of (read_of b).sheet.complex) (read_of b).sheet.lambda ≡ b

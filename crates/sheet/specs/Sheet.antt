@@ -7,8 +7,8 @@ use Rattle.mathematics.specs.Writing.{front}
 use Rattle.mathematics.specs.Lists.{same}
 use Rattle.mathematics.specs.Refusals.{first, Outcome, value, refused, written}
 use Rattle.mathematics.specs.Calls.{Call, Answered, NoneLent, none_lent}
-use Rattle.complex.specs.Complex.{Complex, complexOf}
-use Rattle.complex.specs.Judge.{counts-right, truncation-test, shape-tests, truncated-tests}
+use Rattle.complex.specs.Complex.{Complex, complex_of}
+use Rattle.complex.specs.Judge.{counts_right, truncation_test, shape_tests, truncated_tests}
 use Rattle.sheet.specs.declared.Sheet.{Sheet}
 use Rattle.sheet.specs.declared.SheetRead.{SheetRead}
 use Rattle.sheet.specs.declared.Reading.{Reading}
@@ -23,8 +23,8 @@ unfoldable pub padded : ℕ → List ℕ → List ℕ
 padded n l = l ++ replicate (n - length l) 0
 
 -- the sheet that the bytes hold
-unfoldable pub sheetIn : List ℕ → Sheet
-sheetIn b =
+unfoldable pub sheet_in : List ℕ → Sheet
+sheet_in b =
     record {
       complex = record {
         n_vertices = get_or b 5 0;
@@ -45,74 +45,74 @@ blank =
     }
 
 -- the lines of the table of refusals that the first eleven bytes and the length decide
-unfoldable pub header-tests : List ℕ → List (ℕ × Bool)
-header-tests b =
+unfoldable pub header_tests : List ℕ → List (ℕ × Bool)
+header_tests b =
     (1, ltb (length b) 11)
     ∷ (2, not (same (take 3 b) (71 ∷ 76 ∷ 83 ∷ [])))
     ∷ (3, not (eqb (word b 3) 1))
-    ∷ (4, not (counts-right (get_or b 5 0) (get_or b 6 0) (word b 7)))
-    ∷ truncation-test (word b 9)
+    ∷ (4, not (counts_right (get_or b 5 0) (get_or b 6 0) (word b 7)))
+    ∷ truncation_test (word b 9)
     ∷ (6, not (eqb (length b) (11 + 2 * get_or b 6 0 + 3 * word b 7)))
     ∷ []
 
 -- 1 to 6 of the header, then 7 to 9 of the complex that the bytes hold
-abbrev pub reading-tests : List ℕ → List (ℕ × Bool)
-reading-tests b = header-tests b ++ shape-tests (complexOf (sheetIn b).complex)
+abbrev pub reading_tests : List ℕ → List (ℕ × Bool)
+reading_tests b = header_tests b ++ shape_tests (complex_of (sheet_in b).complex)
 
-unfoldable pub reading-refusal : List ℕ → ℕ
-reading-refusal b = first (reading-tests b)
+unfoldable pub reading_refusal : List ℕ → ℕ
+reading_refusal b = first (reading_tests b)
 
 -- what an answer says, with the sheet beside it
-unfoldable pub readingAnswer : Reading → Sheet → Outcome Sheet
-readingAnswer Accepted s = value s
-readingAnswer (Refused n) s = refused n
+unfoldable pub reading_answer : Reading → Sheet → Outcome Sheet
+reading_answer Accepted s = value s
+reading_answer (Refused n) s = refused n
 
 -- read_sheet: the sheet is told. It writes no list.
-unfoldable pub reading-call : List ℕ → Call Sheet NoneLent
-reading-call b = record { tests = reading-tests b; value = sheetIn b; before = none_lent; after = none_lent; known = Unit {0} }
+unfoldable pub reading_call : List ℕ → Call Sheet NoneLent
+reading_call b = record { tests = reading_tests b; value = sheet_in b; before = none_lent; after = none_lent; known = Unit {0} }
 
 -- the answer of a refusal, 0 for none
-unfoldable pub readAnswer : ℕ → Reading
-readAnswer zero = Accepted
-readAnswer (suc n) = Refused (suc n)
+unfoldable pub read_answer : ℕ → Reading
+read_answer zero = Accepted
+read_answer (suc n) = Refused (suc n)
 
 -- what reading gives: the answer, and the sheet, or zeros beside a refusal
 unfoldable pub read_of : List ℕ → SheetRead
-read_of b = record { answer = readAnswer (reading-refusal b); sheet = written (reading-refusal b) (sheetIn b) blank }
+read_of b = record { answer = read_answer (reading_refusal b); sheet = written (reading_refusal b) (sheet_in b) blank }
 
 -- an answer is that of the call, and beside a refusal are zeros
 pub record ReadTold (b : List ℕ) (r : SheetRead) : Type 0 where
-  pub told : Answered (reading-call b) (readingAnswer r.answer r.sheet) none_lent
+  pub told : Answered (reading_call b) (reading_answer r.answer r.sheet) none_lent
   pub is : r ≡ read_of b
 
 -- the first eleven bytes
-unfoldable pub headerOf : ℕ → ℕ → ℕ → ℕ → List ℕ
-headerOf v e t lambda = 71 ∷ 76 ∷ 83 ∷ 1 ∷ 0 ∷ v ∷ e ∷ t % 256 ∷ t / 256 ∷ lambda % 256 ∷ lambda / 256 ∷ []
+unfoldable pub header_bytes : ℕ → ℕ → ℕ → ℕ → List ℕ
+header_bytes v e t lambda = 71 ∷ 76 ∷ 83 ∷ 1 ∷ 0 ∷ v ∷ e ∷ t % 256 ∷ t / 256 ∷ lambda % 256 ∷ lambda / 256 ∷ []
 
 -- the bytes of a complex and a truncation
-unfoldable pub sheetBytes : Complex → ℕ → List ℕ
-sheetBytes c lambda = headerOf c.vertices (length c.edges) (length c.triangles) lambda ++ (flatten c.edges ++ flatten c.triangles)
+unfoldable pub sheet_bytes : Complex → ℕ → List ℕ
+sheet_bytes c lambda = header_bytes c.vertices (length c.edges) (length c.triangles) lambda ++ (flatten c.edges ++ flatten c.triangles)
 
 -- 4, 5, 7 to 9, then 15 for a list that has too few entries
-abbrev pub writing-tests : Complex → ℕ → ℕ → List (ℕ × Bool)
-writing-tests c lambda room =
-    truncated-tests c lambda ++ ((15, ltb room (length (sheetBytes c lambda))) ∷ [])
+abbrev pub writing_tests : Complex → ℕ → ℕ → List (ℕ × Bool)
+writing_tests c lambda room =
+    truncated_tests c lambda ++ ((15, ltb room (length (sheet_bytes c lambda))) ∷ [])
 
 -- write_sheet: the number of bytes is told, and the list begins with them.
-unfoldable pub writing-call : Complex → ℕ → List ℕ → Call ℕ (List ℕ)
-writing-call c lambda old =
+unfoldable pub writing_call : Complex → ℕ → List ℕ → Call ℕ (List ℕ)
+writing_call c lambda old =
     record {
-      tests = writing-tests c lambda (length old);
-      value = length (sheetBytes c lambda);
+      tests = writing_tests c lambda (length old);
+      value = length (sheet_bytes c lambda);
       before = old;
-      after = front (sheetBytes c lambda) old;
-      known = length (sheetBytes c lambda) ≤ 905;
+      after = front (sheet_bytes c lambda) old;
+      known = length (sheet_bytes c lambda) ≤ 905;
     }
 
 -- ---- as the code keeps it
 -- a refusal, with zeros beside it
-unfoldable pub refusedOf : ℕ → SheetRead
-refusedOf n = record { answer = Refused n; sheet = blank }
+unfoldable pub refused_of : ℕ → SheetRead
+refused_of n = record { answer = Refused n; sheet = blank }
 
 -- what the writer of the bytes asks: counts in their ranges, and room
 pub record Writable (s : Sheet) (out : List ℕ) : Type 0 where

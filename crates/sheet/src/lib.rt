@@ -3,10 +3,10 @@ ghost use Rattle.std.specs.Prelude.{◌≡◌, ◌+◌, ◌*◌, ◌/◌, ◌%�
 ghost use Rattle.std.proofs.Math.Seq.{paste};
 ghost use Rattle.mathematics.specs.Writing.{front};
 ghost use Rattle.mathematics.specs.Refusals.{first};
-ghost use Rattle.complex.specs.Complex.{complexOf};
+ghost use Rattle.complex.specs.Complex.{complex_of};
 ghost use Rattle.mathematics.specs.Calls.{Answered};
-ghost use Rattle.answers.specs.Answer.{numberAnswer};
-ghost use Rattle.sheet.specs.Sheet.{word, padded, sheetIn, header-tests, ReadTold, refusedOf, headerOf, sheetBytes, Writable, writing-call};
+ghost use Rattle.answers.specs.Answer.{number_answer};
+ghost use Rattle.sheet.specs.Sheet.{word, padded, sheet_in, header_tests, ReadTold, refused_of, header_bytes, sheet_bytes, Writable, writing_call};
 
 use acceptance::{counts_right, judge, judge_truncated};
 use answers::Answer;
@@ -44,7 +44,7 @@ fn word(b: &[u8], i: usize) -> usize
 
 // What the first eleven bytes and the length say: the first of 1 to 6 that holds, or 0.
 fn judge_header(b: &[u8]) -> u8
-    ensures { result ≡ first (header-tests b.now) }
+    ensures { result ≡ first (header_tests b.now) }
 {
     if b.len() < SHEET_HEADER {
         return 1;
@@ -101,8 +101,8 @@ pub fn triangles_in(b: &[u8], start: usize, count: usize) -> [u8; TRIANGLE_ENTRI
 
 // The sheet of bytes that passed the judge of the header.
 fn sheet_in(b: &[u8]) -> Sheet
-    requires { first (header-tests b.now) ≡ 0 }
-    ensures { result ≡ sheetIn b.now }
+    requires { first (header_tests b.now) ≡ 0 }
+    ensures { result ≡ sheet_in b.now }
 {
     let v = byte(b[5]);
     let m = byte(b[6]);
@@ -122,7 +122,7 @@ fn sheet_in(b: &[u8]) -> Sheet
 
 // A refusal, with zeros beside it.
 fn refused_sheet(number: u8) -> SheetRead
-    ensures { result ≡ refusedOf number }
+    ensures { result ≡ refused_of number }
 {
     let complex = SimplicialComplex {
         n_vertices: 0,
@@ -161,7 +161,7 @@ pub fn read_sheet(b: &[u8]) -> SheetRead
 // The first eleven bytes.
 fn header(v: usize, m: usize, t: usize, lambda: usize) -> [u8; SHEET_HEADER]
     requires { (v < 256) × (m < 256) × (t < 65536) × (lambda < 65536) }
-    ensures { result ≡ headerOf v m t lambda }
+    ensures { result ≡ header_bytes v m t lambda }
 {
     [
         71,
@@ -181,7 +181,7 @@ fn header(v: usize, m: usize, t: usize, lambda: usize) -> [u8; SHEET_HEADER]
 // The bytes of an accepted sheet, at the front of a list with room for them.
 fn write_bytes(s: Sheet, out: &mut [u8])
     requires { Writable s out.old }
-    ensures { out.new ≡ front (sheetBytes (complexOf s.complex) s.lambda) out.old }
+    ensures { out.new ≡ front (sheet_bytes (complex_of s.complex) s.lambda) out.old }
 {
     let c = s.complex;
     let m = c.n_edges;
@@ -194,7 +194,7 @@ fn write_bytes(s: Sheet, out: &mut [u8])
 
 // Writes a sheet: the number of bytes, or the first of 4, 5, 7, 8, 9 and 15 that holds.
 pub fn write_sheet(s: Sheet, out: &mut [u8]) -> Answer
-    ensures { Answered (writing-call (complexOf s.complex) s.lambda out.old) (numberAnswer result) out.new }
+    ensures { Answered (writing_call (complex_of s.complex) s.lambda out.old) (number_answer result) out.new }
 {
     let c = s.complex;
     let number = judge_truncated(c, s.lambda);

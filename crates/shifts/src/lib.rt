@@ -1,9 +1,9 @@
 // A shift of one edge.
 ghost use Rattle.std.specs.Prelude.{◌≡◌, ◌++◌, ◌<◌, ◌≤◌, pos, ◌+ℤ◌, length, set, drop, replicate};
-ghost use Rattle.complex.specs.Complex.{complexOf};
+ghost use Rattle.complex.specs.Complex.{complex_of};
 ghost use Rattle.gauss_law.specs.Gauss.{within};
 ghost use Rattle.hilbert.specs.Index.{Indexed};
-ghost use Rattle.shifts.specs.Shift.{shift-call};
+ghost use Rattle.shifts.specs.Shift.{shift_call};
 
 use complex::SimplicialComplex;
 use enumeration::{prepare_basis, too_short};
@@ -53,7 +53,7 @@ pub fn apply_shift(
     states: &mut [i32],
     res: &mut [i32],
 ) -> Index
-    ensures { Indexed (shift-call (complexOf c) lambda configuration.now edge delta states.old res.old) result (states.new, res.new) }
+    ensures { Indexed (shift_call (complex_of c) lambda configuration.now edge delta states.old res.old) result (states.new, res.new) }
 {
     let basis = prepare_basis(c, lambda);
     let number = basis.refusal;

@@ -42,8 +42,8 @@ tried moved m failed empty is some =
 abbrev pub left : ℕ → Moving → ℕ
 left size m = size - m.n + m.tries + cond m.going 1 0
 
-pub less-left : (size moved : ℕ) (failed : Bool) (old new : Moving) → old.going ≡ true → old.n + moved ≤ size → Moved moved failed old new → left size new < left size old
-less-left size moved failed old new going room after = rw going (go new.going refl (dec_lt 0 moved))
+pub less_left : (size moved : ℕ) (failed : Bool) (old new : Moving) → old.going ≡ true → old.n + moved ≤ size → Moved moved failed old new → left size new < left size old
+less_left size moved failed old new going room after = rw going (go new.going refl (dec_lt 0 moved))
   where
     go : (b : Bool) → new.going ≡ b → Dec (0 < moved) → size - new.n + new.tries + cond new.going 1 0 < size - old.n + old.tries + 1
     go true h (yes some) = rw h (omega (arith, after.n, (after.some some).2))
@@ -51,5 +51,5 @@ less-left size moved failed old new going room after = rw going (go new.going re
     go false h d = rw h (omega (arith, after.n, (after.ended h).0, (after.ended h).2))
 
 -- bytes that were read stand in the list
-pub read-inside : (room n : ℕ) (r : Input) → r ≡ Bytes n → InputFits room r → n ≤ room
-read-inside room n r is fits = rw is at fits
+pub read_inside : (room n : ℕ) (r : Input) → r ≡ Bytes n → InputFits room r → n ≤ room
+read_inside room n r is fits = rw is at fits

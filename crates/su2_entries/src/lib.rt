@@ -1,8 +1,8 @@
 // How many entries the row lists of the two-valued truncation of SU(2) have.
 ghost use Rattle.mathematics.specs.Calls.{Answered, none_lent};
-ghost use Rattle.answers.specs.Answer.{numberAnswer};
-ghost use Rattle.complex.specs.Complex.{complexOf};
-ghost use Rattle.su2_entries.specs.Entries.{su2-entries-call};
+ghost use Rattle.answers.specs.Answer.{number_answer};
+ghost use Rattle.complex.specs.Complex.{complex_of};
+ghost use Rattle.su2_entries.specs.Entries.{su2_entries_call};
 
 use acceptance::judge;
 use answers::Answer;
@@ -11,7 +11,7 @@ use su2_even_sets::closing_loops;
 
 // How many entries the row lists of a record have, whatever the coupling and the weights are. The record is judged first.
 pub fn su2_count_entries(c: SimplicialComplex) -> Answer
-    ensures { Answered (su2-entries-call (complexOf c)) (numberAnswer result) none_lent }
+    ensures { Answered (su2_entries_call (complex_of c)) (number_answer result) none_lent }
 {
     let number = judge(c);
     if number != 0 {

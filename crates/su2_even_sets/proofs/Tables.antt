@@ -15,15 +15,15 @@ use Rattle.mathematics.proofs.Front.{take_next}
 use Rattle.complex.specs.Complex.{Simplex, start, end}
 use Rattle.complex.specs.Search.{Ends}
 use Rattle.su2_even_sets.specs.declared.Forest.{Forest}
-use Rattle.su2_even_sets.specs.Loops.{Growth, separate, loop, loop-closed, join-parts, grow, grown}
-use Rattle.su2_even_sets.specs.Forest.{Mapped, Front, Keeps, forestOf, Sized, Changed, Joined, Within}
-use Rattle.su2_even_sets.proofs.Forests.{joined-cases}
+use Rattle.su2_even_sets.specs.Loops.{Growth, separate, loop, loop_closed, join_parts, grow, grown}
+use Rattle.su2_even_sets.specs.Forest.{Mapped, Front, Keeps, forest_of, Sized, Changed, Joined, Within}
+use Rattle.su2_even_sets.proofs.Forests.{joined_cases}
 
-pub mapped-none : (f : ℕ → ℕ) (table : List ℕ) → length table ≡ 64 → Mapped f 0 table
-mapped-none f table h = record { long = h; entries = λ v k. absurd (omega arith) }
+pub mapped_none : (f : ℕ → ℕ) (table : List ℕ) → length table ≡ 64 → Mapped f 0 table
+mapped_none f table h = record { long = h; entries = λ v k. absurd (omega arith) }
 
-pub mapped-more : (f : ℕ → ℕ) (v : ℕ) (table : List ℕ) (a : ℕ) → Mapped f v table → v < 64 → a ≡ f v → Mapped f (v + 1) (set table v a)
-mapped-more f v table a m h e =
+pub mapped_more : (f : ℕ → ℕ) (v : ℕ) (table : List ℕ) (a : ℕ) → Mapped f v table → v < 64 → a ≡ f v → Mapped f (v + 1) (set table v a)
+mapped_more f v table a m h e =
     record {
       long = length-set table v a ∙ m.long;
       entries = λ u k. go u k (ℕ_discrete u v);
@@ -34,36 +34,36 @@ mapped-more f v table a m h e =
     go u k (no p) = get_or-set_other table v u a 0 p ∙ m.entries u (omega arith)
 
 -- ---- tables that are changed in place
-pub changed-none : (f : ℕ → ℕ) (table : List ℕ) → length table ≡ 64 → Changed f 0 table table
-changed-none f table h = record { front = mapped-none f table h; rest = λ v k. refl }
+pub changed_none : (f : ℕ → ℕ) (table : List ℕ) → length table ≡ 64 → Changed f 0 table table
+changed_none f table h = record { front = mapped_none f table h; rest = λ v k. refl }
 
-pub changed-more : (f : ℕ → ℕ) (v : ℕ) (old table : List ℕ) (a : ℕ) → Changed f v old table → v < 64 → a ≡ f v → Changed f (v + 1) old (set table v a)
-changed-more f v old table a h k e =
+pub changed_more : (f : ℕ → ℕ) (v : ℕ) (old table : List ℕ) (a : ℕ) → Changed f v old table → v < 64 → a ≡ f v → Changed f (v + 1) old (set table v a)
+changed_more f v old table a h k e =
     record {
-      front = mapped-more f v table a h.front k e;
+      front = mapped_more f v table a h.front k e;
       rest = λ u l. let other : u ≢ v = λ q. omega arith in get_or-set_other table v u a 0 other ∙ h.rest u (omega arith);
     }
 
 -- as much of a join as the first v vertices
-pub joined-none : (part path : List ℕ) (from to cycle : ℕ) → length part ≡ 64 → length path ≡ 64 → Joined part path from to cycle 0 part path
-joined-none part path from to cycle h k = record { parts = changed-none _ part h; paths = changed-none _ path k }
+pub joined_none : (part path : List ℕ) (from to cycle : ℕ) → length part ≡ 64 → length path ≡ 64 → Joined part path from to cycle 0 part path
+joined_none part path from to cycle h k = record { parts = changed_none _ part h; paths = changed_none _ path k }
 
-pub joined-more : (part path : List ℕ) (from to cycle v : ℕ) (new-part new-path : List ℕ) (p x : ℕ) → Joined part path from to cycle v new-part new-path → v < 64
-    → p ≡ cond (eqb (get_or new-part v 0) from) to (get_or new-part v 0) → x ≡ cond (eqb (get_or new-part v 0) from) (bit_xor (get_or new-path v 0) cycle) (get_or new-path v 0)
-    → Joined part path from to cycle (v + 1) (set new-part v p) (set new-path v x)
-joined-more part path from to cycle v new-part new-path p x h k hp hx =
+pub joined_more : (part path : List ℕ) (from to cycle v : ℕ) (new_part new_path : List ℕ) (p x : ℕ) → Joined part path from to cycle v new_part new_path → v < 64
+    → p ≡ cond (eqb (get_or new_part v 0) from) to (get_or new_part v 0) → x ≡ cond (eqb (get_or new_part v 0) from) (bit_xor (get_or new_path v 0) cycle) (get_or new_path v 0)
+    → Joined part path from to cycle (v + 1) (set new_part v p) (set new_path v x)
+joined_more part path from to cycle v new_part new_path p x h k hp hx =
     let old = h.parts.rest v (omega arith) in
     record {
-      parts = changed-more _ v part new-part p h.parts k (hp ∙ rw old);
-      paths = changed-more _ v path new-path x h.paths k (hx ∙ rw (old, h.paths.rest v (omega arith)));
+      parts = changed_more _ v part new_part p h.parts k (hp ∙ rw old);
+      paths = changed_more _ v path new_path x h.paths k (hx ∙ rw (old, h.paths.rest v (omega arith)));
     }
 
 -- ---- the tables of a growth
 -- each vertex a part of its own
-pub separate-kept : (part : List ℕ) → Mapped (λ v. v) 64 part
-    → Keeps separate (forestOf part (replicate 64 0) (replicate 63 0) (replicate 63 0) 0)
+pub separate_kept : (part : List ℕ) → Mapped (λ v. v) 64 part
+    → Keeps separate (forest_of part (replicate 64 0) (replicate 63 0) (replicate 63 0) 0)
 unfolding separate
-separate-kept part h =
+separate_kept part h =
     record {
       part = h;
       path = record { long = refl; entries = λ v k. get_or-replicate 64 v 0 0 k };
@@ -71,12 +71,12 @@ separate-kept part h =
       loops = record { long = refl; count = refl; few = omega arith; stands = refl };
     }
 
-pub keeps-sized : (g : Growth) (f : Forest) → Keeps g f → Sized f
-keeps-sized g f k = record { part = k.part.long; path = k.path.long; closing = k.closing.long; loops = k.loops.long }
+pub keeps_sized : (g : Growth) (f : Forest) → Keeps g f → Sized f
+keeps_sized g f k = record { part = k.part.long; path = k.path.long; closing = k.closing.long; loops = k.loops.long }
 
 -- one entry more at the front of a list
-pub front-more : (l list : List ℕ) (n a : ℕ) → Front l list n → n < 63 → Front (l ++ (a ∷ [])) (set list n a) (n + 1)
-front-more l list n a h k =
+pub front_more : (l list : List ℕ) (n a : ℕ) → Front l list n → n < 63 → Front (l ++ (a ∷ [])) (set list n a) (n + 1)
+front_more l list n a h k =
     record {
       long = length-set list n a ∙ h.long;
       count = ap (λ (m : ℕ). m + 1) h.count ∙ sym (length-append l (a ∷ []));
@@ -89,33 +89,33 @@ front-more l list n a h k =
 -- ---- one edge more
 module _ (g : Growth) (f : Forest) (keeps : Keeps g f) (a b e : ℕ) (ha : a < 64) (hb : b < 64) where
   -- the loop as the code makes it
-  cycle-is : bit_xor (bit_xor (get_or f.path a 0) (get_or f.path b 0)) (2 ^ e) ≡ loop g (a ∷ b ∷ []) e
+  cycle_is : bit_xor (bit_xor (get_or f.path a 0) (get_or f.path b 0)) (2 ^ e) ≡ loop g (a ∷ b ∷ []) e
   unfolding loop
-  cycle-is = rw (keeps.path.entries a ha, keeps.path.entries b hb)
+  cycle_is = rw (keeps.path.entries a ha, keeps.path.entries b hb)
 
-  pub closed-kept : (cycle : ℕ) → cycle ≡ bit_xor (bit_xor (get_or f.path a 0) (get_or f.path b 0)) (2 ^ e) → get_or f.part b 0 ≡ get_or f.part a 0 → f.count < 63
-      → Keeps (grow g (a ∷ b ∷ []) e) (forestOf f.part f.path (set f.closing f.count e) (set f.loops f.count cycle) (f.count + 1))
-  unfolding grow loop-closed
-  closed-kept cycle is same few =
+  pub closed_kept : (cycle : ℕ) → cycle ≡ bit_xor (bit_xor (get_or f.path a 0) (get_or f.path b 0)) (2 ^ e) → get_or f.part b 0 ≡ get_or f.part a 0 → f.count < 63
+      → Keeps (grow g (a ∷ b ∷ []) e) (forest_of f.part f.path (set f.closing f.count e) (set f.loops f.count cycle) (f.count + 1))
+  unfolding grow loop_closed
+  closed_kept cycle is same few =
       let one : eqb (g.part a) (g.part b) ≡ true = eq-eqb _ _ (sym (keeps.part.entries a ha) ∙ sym same ∙ keeps.part.entries b hb) in
-      rw (one, is, cycle-is)
+      rw (one, is, cycle_is)
       (record {
         part = keeps.part;
         path = keeps.path;
-        closing = front-more g.closing f.closing f.count e keeps.closing few;
-        loops = front-more g.loops f.loops f.count (loop g (a ∷ b ∷ []) e) keeps.loops few;
+        closing = front_more g.closing f.closing f.count e keeps.closing few;
+        loops = front_more g.loops f.loops f.count (loop g (a ∷ b ∷ []) e) keeps.loops few;
       })
 
-  pub joined-kept : (cycle : ℕ) → cycle ≡ bit_xor (bit_xor (get_or f.path a 0) (get_or f.path b 0)) (2 ^ e) → get_or f.part b 0 ≢ get_or f.part a 0
+  pub joined_kept : (cycle : ℕ) → cycle ≡ bit_xor (bit_xor (get_or f.path a 0) (get_or f.path b 0)) (2 ^ e) → get_or f.part b 0 ≢ get_or f.part a 0
       → (n : ℕ) → b < n → Within n g → (part path : List ℕ) → Joined f.part f.path (get_or f.part b 0) (get_or f.part a 0) cycle n part path
-      → Keeps (grow g (a ∷ b ∷ []) e) (forestOf part path f.closing f.loops f.count)
-  unfolding grow join-parts
-  joined-kept cycle is other n inside within part path h =
+      → Keeps (grow g (a ∷ b ∷ []) e) (forest_of part path f.closing f.loops f.count)
+  unfolding grow join_parts
+  joined_kept cycle is other n inside within part path h =
       let two : eqb (g.part a) (g.part b) ≡ false = ne_eqb _ _ (λ q. other (keeps.part.entries b hb ∙ sym q ∙ sym (keeps.part.entries a ha))) in
       rw two
       (record {
         part = record { long = h.parts.front.long; entries = λ v k. part_at v k (dec_lt v n) };
-        path = record { long = h.paths.front.long; entries = λ v k. path-at v k (dec_lt v n) };
+        path = record { long = h.paths.front.long; entries = λ v k. path_at v k (dec_lt v n) };
         closing = keeps.closing;
         loops = keeps.loops;
       })
@@ -128,15 +128,15 @@ module _ (g : Growth) (f : Forest) (keeps : Keeps g f) (a b e : ℕ) (ha : a < 6
       part_at v k (yes l) = h.parts.front.entries v l ∙ rw (keeps.part.entries v k, keeps.part.entries a ha, keeps.part.entries b hb)
       part_at v k (no l) = h.parts.rest v (omega arith) ∙ rw (stays v (omega arith)) (keeps.part.entries v k)
 
-      path-at : (v : ℕ) → v < 64 → Dec (v < n) → get_or path v 0 ≡ cond (eqb (g.part v) (g.part b)) (bit_xor (g.path v) (loop g (a ∷ b ∷ []) e)) (g.path v)
-      path-at v k (yes l) = h.paths.front.entries v l ∙ rw (keeps.part.entries v k, keeps.path.entries v k, keeps.part.entries b hb, is, cycle-is)
-      path-at v k (no l) = h.paths.rest v (omega arith) ∙ rw (stays v (omega arith)) (keeps.path.entries v k)
+      path_at : (v : ℕ) → v < 64 → Dec (v < n) → get_or path v 0 ≡ cond (eqb (g.part v) (g.part b)) (bit_xor (g.path v) (loop g (a ∷ b ∷ []) e)) (g.path v)
+      path_at v k (yes l) = h.paths.front.entries v l ∙ rw (keeps.part.entries v k, keeps.path.entries v k, keeps.part.entries b hb, is, cycle_is)
+      path_at v k (no l) = h.paths.rest v (omega arith) ∙ rw (stays v (omega arith)) (keeps.path.entries v k)
 
 -- ---- edges among the first n vertices leave the others alone
-pub grown-within : (n : ℕ) (es : List Simplex) → Ends n es → (e : ℕ) → e ≤ length es → Within n (grown es e)
-unfolding separate loop-closed grow grown
-grown-within n es ends zero h = record { apart = λ u v k l q. omega arith }
-grown-within n es ends (suc e) h = go (grown-within n es ends e (omega arith)) (eqb (g.part (start s)) (g.part (end s)))
+pub grown_within : (n : ℕ) (es : List Simplex) → Ends n es → (e : ℕ) → e ≤ length es → Within n (grown es e)
+unfolding separate loop_closed grow grown
+grown_within n es ends zero h = record { apart = λ u v k l q. omega arith }
+grown_within n es ends (suc e) h = go (grown_within n es ends e (omega arith)) (eqb (g.part (start s)) (g.part (end s)))
   where
     g : Growth
     g = grown es e
@@ -144,12 +144,12 @@ grown-within n es ends (suc e) h = go (grown-within n es ends e (omega arith)) (
     s : Simplex
     s = get_or es e []
 
-    joined-apart : Within n g → (u v : ℕ) → u < n → n ≤ v → (join-parts g s e).part u ≢ (join-parts g s e).part v
-    joined-apart w u v k l =
-        joined-cases g s e (λ p x. p ≢ (join-parts g s e).part v) u
-        (λ r. joined-cases g s e (λ p x. g.part (start s) ≢ p) v (λ q. absurd (w.apart (end s) v (ends e h).1 l (sym q))) (λ q. w.apart (start s) v (omega (arith, (ends e h).0, (ends e h).1)) l))
-        (λ r. joined-cases g s e (λ p x. g.part u ≢ p) v (λ q. absurd (w.apart (end s) v (ends e h).1 l (sym q))) (λ q. w.apart u v k l))
+    joined_apart : Within n g → (u v : ℕ) → u < n → n ≤ v → (join_parts g s e).part u ≢ (join_parts g s e).part v
+    joined_apart w u v k l =
+        joined_cases g s e (λ p x. p ≢ (join_parts g s e).part v) u
+        (λ r. joined_cases g s e (λ p x. g.part (start s) ≢ p) v (λ q. absurd (w.apart (end s) v (ends e h).1 l (sym q))) (λ q. w.apart (start s) v (omega (arith, (ends e h).0, (ends e h).1)) l))
+        (λ r. joined_cases g s e (λ p x. g.part u ≢ p) v (λ q. absurd (w.apart (end s) v (ends e h).1 l (sym q))) (λ q. w.apart u v k l))
 
-    go : Within n g → (t : Bool) → Within n (cond t (loop-closed g s e) (join-parts g s e))
+    go : Within n g → (t : Bool) → Within n (cond t (loop_closed g s e) (join_parts g s e))
     go w true = record { apart = w.apart }
-    go w false = record { apart = joined-apart w }
+    go w false = record { apart = joined_apart w }

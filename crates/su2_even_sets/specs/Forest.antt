@@ -25,8 +25,8 @@ pub record Keeps (g : Growth) (f : Forest) : Type 0 where
   pub loops : Front g.loops f.loops f.count
 
 -- the record of the tables and the number of closing edges
-abbrev pub forestOf : List ℕ → List ℕ → List ℕ → List ℕ → ℕ → Forest
-forestOf part path closing loops count = record { part = part; path = path; count = count; closing = closing; loops = loops }
+abbrev pub forest_of : List ℕ → List ℕ → List ℕ → List ℕ → ℕ → Forest
+forest_of part path closing loops count = record { part = part; path = path; count = count; closing = closing; loops = loops }
 
 -- the sizes of the tables
 pub record Sized (f : Forest) : Type 0 where
@@ -41,9 +41,9 @@ pub record Changed (f : ℕ → ℕ) (n : ℕ) (old new : List ℕ) : Type 0 whe
   pub rest : (v : ℕ) → n ≤ v → get_or new v 0 ≡ get_or old v 0
 
 -- one part goes over into another, among the first n vertices
-pub record Joined (part path : List ℕ) (from to cycle n : ℕ) (new-part new-path : List ℕ) : Type 0 where
-  pub parts : Changed (λ v. cond (eqb (get_or part v 0) from) to (get_or part v 0)) n part new-part
-  pub paths : Changed (λ v. cond (eqb (get_or part v 0) from) (bit_xor (get_or path v 0) cycle) (get_or path v 0)) n path new-path
+pub record Joined (part path : List ℕ) (from to cycle n : ℕ) (new_part new_path : List ℕ) : Type 0 where
+  pub parts : Changed (λ v. cond (eqb (get_or part v 0) from) to (get_or part v 0)) n part new_part
+  pub paths : Changed (λ v. cond (eqb (get_or part v 0) from) (bit_xor (get_or path v 0) cycle) (get_or path v 0)) n path new_path
 
 -- no vertex from n on is in a part of the first n
 pub record Within (n : ℕ) (g : Growth) : Type 0 where

@@ -21,12 +21,12 @@ unfoldable pub loop : Growth → Simplex → ℕ → ℕ
 loop g s e = bit_xor (bit_xor (g.path (start s)) (g.path (end s))) (2 ^ e)
 
 -- edge number e closes a loop
-unfoldable pub loop-closed : Growth → Simplex → ℕ → Growth
-loop-closed g s e = record { part = g.part; path = g.path; closing = g.closing ++ (e ∷ []); loops = g.loops ++ (loop g s e ∷ []) }
+unfoldable pub loop_closed : Growth → Simplex → ℕ → Growth
+loop_closed g s e = record { part = g.part; path = g.path; closing = g.closing ++ (e ∷ []); loops = g.loops ++ (loop g s e ∷ []) }
 
 -- edge number e joins the part of its end to that of its start
-unfoldable pub join-parts : Growth → Simplex → ℕ → Growth
-join-parts g s e =
+unfoldable pub join_parts : Growth → Simplex → ℕ → Growth
+join_parts g s e =
     record {
       part = λ v. cond (eqb (g.part v) (g.part (end s))) (g.part (start s)) (g.part v);
       path = λ v. cond (eqb (g.part v) (g.part (end s))) (bit_xor (g.path v) (loop g s e)) (g.path v);
@@ -35,7 +35,7 @@ join-parts g s e =
     }
 
 unfoldable pub grow : Growth → Simplex → ℕ → Growth
-grow g s e = cond (eqb (g.part (start s)) (g.part (end s))) (loop-closed g s e) (join-parts g s e)
+grow g s e = cond (eqb (g.part (start s)) (g.part (end s))) (loop_closed g s e) (join_parts g s e)
 
 -- after the first e edges
 unfoldable pub grown : List Simplex → ℕ → Growth
@@ -43,19 +43,19 @@ grown es zero = separate
 grown es (suc e) = grow (grown es e) (get_or es e []) e
 
 -- all sums of the first n loops: doubled with each
-unfoldable pub loop-sums : List ℕ → ℕ → List ℕ
-loop-sums loops zero = 0 ∷ []
-loop-sums loops (suc n) = loop-sums loops n ++ map (λ x. bit_xor x (get_or loops n 0)) (loop-sums loops n)
+unfoldable pub loop_sums : List ℕ → ℕ → List ℕ
+loop_sums loops zero = 0 ∷ []
+loop_sums loops (suc n) = loop_sums loops n ++ map (λ x. bit_xor x (get_or loops n 0)) (loop_sums loops n)
 
 -- the sum of those of the first n loops whose bit of k is set
-unfoldable pub sum-of-loops : List ℕ → ℕ → ℕ → ℕ
-sum-of-loops loops k zero = 0
-sum-of-loops loops k (suc n) = cond (eqb (bit k n) 1) (bit_xor (sum-of-loops loops k n) (get_or loops n 0)) (sum-of-loops loops k n)
+unfoldable pub sum_of_loops : List ℕ → ℕ → ℕ → ℕ
+sum_of_loops loops k zero = 0
+sum_of_loops loops k (suc n) = cond (eqb (bit k n) 1) (bit_xor (sum_of_loops loops k n) (get_or loops n 0)) (sum_of_loops loops k n)
 
 -- the bits of x at the first n closing edges, as a number
-unfoldable pub closing-bits : List ℕ → ℕ → ℕ → ℕ
-closing-bits closing x zero = 0
-closing-bits closing x (suc n) = closing-bits closing x n + bit x (get_or closing n 0) * 2 ^ n
+unfoldable pub closing_bits : List ℕ → ℕ → ℕ → ℕ
+closing_bits closing x zero = 0
+closing_bits closing x (suc n) = closing_bits closing x n + bit x (get_or closing n 0) * 2 ^ n
 
 -- the first n loops, each with the highest bit at its own closing edge and no bit at another's
 pub record Echelon (n : ℕ) (closing loops : List ℕ) : Type 0 where

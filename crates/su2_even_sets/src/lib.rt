@@ -1,10 +1,10 @@
 // The closing edges of a complex and the loop of each.
 ghost use Rattle.std.specs.Prelude.{◌≡◌, [], ◌∷◌, cond, ◌<◌, ◌≤◌, eqb, length};
 ghost use Rattle.std.specs.Int.Bits.{bit_xor};
-ghost use Rattle.complex.specs.Complex.{complexOf};
+ghost use Rattle.complex.specs.Complex.{complex_of};
 ghost use Rattle.complex.specs.Judge.{refusal};
 ghost use Rattle.su2_even_sets.specs.Loops.{grown};
-ghost use Rattle.su2_even_sets.specs.Forest.{Mapped, Keeps, forestOf, Sized, Joined, Grows};
+ghost use Rattle.su2_even_sets.specs.Forest.{Mapped, Keeps, forest_of, Sized, Joined, Grows};
 
 use complex::SimplicialComplex;
 use numbers::sizes::{MOST_EDGES, MOST_VERTICES};
@@ -65,8 +65,8 @@ fn grow(
     b: usize,
     e: usize,
 ) -> usize
-    requires { Sized (forestOf part.old path.old closing.old loops.old count) × (count ≤ e) × (e < 63) × (a < n_vertices) × (b < n_vertices) × (n_vertices ≤ 64) }
-    ensures { Grows n_vertices (forestOf part.old path.old closing.old loops.old count) (a ∷ b ∷ []) e (forestOf part.new path.new closing.new loops.new result) }
+    requires { Sized (forest_of part.old path.old closing.old loops.old count) × (count ≤ e) × (e < 63) × (a < n_vertices) × (b < n_vertices) × (n_vertices ≤ 64) }
+    ensures { Grows n_vertices (forest_of part.old path.old closing.old loops.old count) (a ∷ b ∷ []) e (forest_of part.new path.new closing.new loops.new result) }
 {
     let from = part[b];
     let to = part[a];
@@ -93,8 +93,8 @@ fn separate() -> [u8; MOST_VERTICES]
 
 // The closing edges of an accepted record and their loops.
 pub fn closing_loops(c: SimplicialComplex) -> Forest
-    requires { refusal (complexOf c) ≡ 0 }
-    ensures { Keeps (grown (complexOf c).edges c.n_edges) result }
+    requires { refusal (complex_of c) ≡ 0 }
+    ensures { Keeps (grown (complex_of c).edges c.n_edges) result }
 {
     let edges = c.edges;
     let mut part = separate();

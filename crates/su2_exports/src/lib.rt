@@ -1,13 +1,13 @@
 // What the exported functions of the two-valued mode do.
 ghost use Rattle.mathematics.specs.Calls.{none_lent};
-ghost use Rattle.matrices.specs.Coupling.{coupling-call, su2-params};
-ghost use Rattle.su2_masks.specs.Basis.{su2-basis-call, su2-counted-call};
-ghost use Rattle.su2_quantum.specs.Dense.{su2-dense-call};
-ghost use Rattle.su2_rows.specs.Rows.{su2-rows-call};
-ghost use Rattle.su2_entries.specs.Entries.{su2-entries-call};
-ghost use Rattle.su2_products.specs.Product.{su2-product-call};
-ghost use Rattle.su2_loops.specs.Loop.{su2-loop-call, su2-passes-call};
-ghost use Rattle.exports.specs.Exports.{on-sheet, stored, value_lent, three_floats, Exported};
+ghost use Rattle.matrices.specs.Coupling.{coupling_call, su2_params};
+ghost use Rattle.su2_masks.specs.Basis.{su2_basis_call, su2_counted_call};
+ghost use Rattle.su2_quantum.specs.Dense.{su2_dense_call};
+ghost use Rattle.su2_rows.specs.Rows.{su2_rows_call};
+ghost use Rattle.su2_entries.specs.Entries.{su2_entries_call};
+ghost use Rattle.su2_products.specs.Product.{su2_product_call};
+ghost use Rattle.su2_loops.specs.Loop.{su2_loop_call, su2_passes_call};
+ghost use Rattle.exports.specs.Exports.{on_sheet, stored, value_lent, three_floats, Exported};
 
 use exports::{open, refused, signed, store, store_expectation, told_number};
 use matrices::coupling::KSParams;
@@ -21,7 +21,7 @@ use su2_rows::build::build_csr_su2;
 
 // All even edge sets of a sheet: their number.
 pub fn export_su2_basis(sheet: &[u8], states: &mut [u64]) -> i64
-    ensures { Exported (on-sheet sheet.now (λ c L. su2-basis-call c states.old)) result states.new }
+    ensures { Exported (on_sheet sheet.now (λ c L. su2_basis_call c states.old)) result states.new }
 {
     let opened = open(sheet);
     let number = opened.refusal;
@@ -34,7 +34,7 @@ pub fn export_su2_basis(sheet: &[u8], states: &mut [u64]) -> i64
 
 // g² and the factors of the two-valued mode: 0.
 pub fn export_su2_params(g_squared: f64, params: &mut [f64; 3]) -> i64
-    ensures { Exported (stored (coupling-call g_squared (su2-params g_squared)) three_floats params.old) result params.new }
+    ensures { Exported (stored (coupling_call g_squared (su2_params g_squared)) three_floats params.old) result params.new }
 {
     store(KSParams::su2(g_squared), params)
 }
@@ -50,7 +50,7 @@ pub fn export_build_su2_hamiltonian(
     states: &mut [u64],
     res: &mut [f64],
 ) -> i64
-    ensures { Exported (on-sheet sheet.now (λ c L. su2-dense-call c (record { g_squared = g_squared; electric = electric; magnetic = magnetic }) given weights.now states.old res.old)) result (states.new, res.new) }
+    ensures { Exported (on_sheet sheet.now (λ c L. su2_dense_call c (record { g_squared = g_squared; electric = electric; magnetic = magnetic }) given weights.now states.old res.old)) result (states.new, res.new) }
 {
     let opened = open(sheet);
     let number = opened.refusal;
@@ -80,7 +80,7 @@ pub fn export_build_csr_su2(
     columns: &mut [u32],
     values: &mut [f64],
 ) -> i64
-    ensures { Exported (on-sheet sheet.now (λ c L. su2-rows-call c (record { g_squared = g_squared; electric = electric; magnetic = magnetic }) given weights.now states.old starts.old columns.old values.old)) result (states.new, starts.new, columns.new, values.new) }
+    ensures { Exported (on_sheet sheet.now (λ c L. su2_rows_call c (record { g_squared = g_squared; electric = electric; magnetic = magnetic }) given weights.now states.old starts.old columns.old values.old)) result (states.new, starts.new, columns.new, values.new) }
 {
     let opened = open(sheet);
     let number = opened.refusal;
@@ -101,7 +101,7 @@ pub fn export_build_csr_su2(
 
 // How many even edge sets a sheet has.
 pub fn export_su2_count_states(sheet: &[u8]) -> i64
-    ensures { Exported (on-sheet sheet.now (λ c L. su2-counted-call c)) result none_lent }
+    ensures { Exported (on_sheet sheet.now (λ c L. su2_counted_call c)) result none_lent }
 {
     let opened = open(sheet);
     let number = opened.refusal;
@@ -114,7 +114,7 @@ pub fn export_su2_count_states(sheet: &[u8]) -> i64
 
 // How many entries the row lists of a sheet have in the two-valued mode.
 pub fn export_su2_count_entries(sheet: &[u8]) -> i64
-    ensures { Exported (on-sheet sheet.now (λ c L. su2-entries-call c)) result none_lent }
+    ensures { Exported (on_sheet sheet.now (λ c L. su2_entries_call c)) result none_lent }
 {
     let opened = open(sheet);
     let number = opened.refusal;
@@ -137,7 +137,7 @@ pub fn export_su2_hamiltonian_matvec(
     states: &mut [u64],
     res: &mut [f64],
 ) -> i64
-    ensures { Exported (on-sheet sheet.now (λ c L. su2-product-call c (record { g_squared = g_squared; electric = electric; magnetic = magnetic }) given weights.now vector.now states.old res.old)) result (states.new, res.new) }
+    ensures { Exported (on_sheet sheet.now (λ c L. su2_product_call c (record { g_squared = g_squared; electric = electric; magnetic = magnetic }) given weights.now vector.now states.old res.old)) result (states.new, res.new) }
 {
     let opened = open(sheet);
     let number = opened.refusal;
@@ -162,7 +162,7 @@ pub fn export_su2_wilson_loop(
     states: &mut [u64],
     expectation: &mut f64,
 ) -> i64
-    ensures { Exported (on-sheet sheet.now (λ c L. value_lent (su2-loop-call c vector.now path.now states.old) expectation.old)) result (states.new, expectation.new) }
+    ensures { Exported (on_sheet sheet.now (λ c L. value_lent (su2_loop_call c vector.now path.now states.old) expectation.old)) result (states.new, expectation.new) }
 {
     let opened = open(sheet);
     let number = opened.refusal;
@@ -182,7 +182,7 @@ pub fn export_su2_wilson_passes(
     states: &mut [u64],
     expectation: &mut f64,
 ) -> i64
-    ensures { Exported (on-sheet sheet.now (λ c L. value_lent (su2-passes-call c vector.now path.now states.old) expectation.old)) result (states.new, expectation.new) }
+    ensures { Exported (on_sheet sheet.now (λ c L. value_lent (su2_passes_call c vector.now path.now states.old) expectation.old)) result (states.new, expectation.new) }
 {
     let opened = open(sheet);
     let number = opened.refusal;

@@ -7,15 +7,15 @@ use Rattle.std.specs.Float.{binary64, nan}
 use Rattle.std.specs.Float.Ieee.{neg, add, mul}
 use Rattle.mathematics.specs.Counting.{below, keep}
 use Rattle.mathematics.specs.Lists.{listed}
-use Rattle.mathematics.specs.Tests.{every-entry}
+use Rattle.mathematics.specs.Tests.{every_entry}
 use Rattle.mathematics.specs.Calls.{Call}
 use Rattle.mathematics.specs.Writing.{front}
 use Rattle.complex.specs.Complex.{Complex}
 use Rattle.matrices.specs.Coupling.{float_of}
 use Rattle.matrices.specs.Weights.{bounded}
 use Rattle.gauss_law.specs.Listing.{limit}
-use Rattle.su2_even_sets.specs.EvenSets.{chosen, su2-states}
-use Rattle.su2_masks.specs.Basis.{su2-tests}
+use Rattle.su2_even_sets.specs.EvenSets.{chosen, su2_states}
+use Rattle.su2_masks.specs.Basis.{su2_tests}
 
 -- how many edges of the set x the path names; an edge named twice counts once
 unfoldable pub met : Complex → List ℕ → ℕ → ℕ
@@ -26,14 +26,14 @@ unfoldable pub sign_of : ℕ → Float
 sign_of n = cond (eqb (n % 2) 0) (float_of 1) (neg (float_of 1))
 
 -- from 0.0, each of the first n states, rising, adds (amplitude × amplitude) × sign
-unfoldable pub su2-loop-sum : Complex → List Float → List ℕ → ℕ → Float
-su2-loop-sum c vector path zero = float_of 0
-su2-loop-sum c vector path (suc i) =
-    add binary64 (su2-loop-sum c vector path i) (mul binary64 (mul binary64 (get_or vector i nan) (get_or vector i nan)) (sign_of (met c path (get_or (su2-states c) i 0))))
+unfoldable pub su2_loop_sum : Complex → List Float → List ℕ → ℕ → Float
+su2_loop_sum c vector path zero = float_of 0
+su2_loop_sum c vector path (suc i) =
+    add binary64 (su2_loop_sum c vector path i) (mul binary64 (mul binary64 (get_or vector i nan) (get_or vector i nan)) (sign_of (met c path (get_or (su2_states c) i 0))))
 
 -- of all states
-unfoldable pub su2-expectation : Complex → List Float → List ℕ → Float
-su2-expectation c vector path = su2-loop-sum c vector path (length (su2-states c))
+unfoldable pub su2_expectation : Complex → List Float → List ℕ → Float
+su2_expectation c vector path = su2_loop_sum c vector path (length (su2_states c))
 
 -- ---- the same by the edges that count
 -- every edge that the path names; one that is named twice counts once
@@ -45,85 +45,85 @@ unfoldable pub passes : List ℕ → ℕ → ℕ
 passes path e = length (keep (eqb e) path)
 
 -- every edge that it passes an odd number of times
-unfoldable pub passes-oddly : List ℕ → ℕ → Bool
-passes-oddly path e = eqb (passes path e % 2) 1
+unfoldable pub passes_oddly : List ℕ → ℕ → Bool
+passes_oddly path e = eqb (passes path e % 2) 1
 
 -- how many edges of the set x count
-unfoldable pub counted-met : Complex → (ℕ → Bool) → ℕ → ℕ
-counted-met c counts x = length (keep (λ e. chosen x e && counts e) (below (length c.edges)))
+unfoldable pub counted_met : Complex → (ℕ → Bool) → ℕ → ℕ
+counted_met c counts x = length (keep (λ e. chosen x e && counts e) (below (length c.edges)))
 
 -- from 0.0, each of the first n states, rising, adds (amplitude × amplitude) × sign
-unfoldable pub counted-sum : Complex → List Float → (ℕ → Bool) → ℕ → Float
-counted-sum c vector counts zero = float_of 0
-counted-sum c vector counts (suc i) =
-    add binary64 (counted-sum c vector counts i) (mul binary64 (mul binary64 (get_or vector i nan) (get_or vector i nan)) (sign_of (counted-met c counts (get_or (su2-states c) i 0))))
+unfoldable pub counted_sum : Complex → List Float → (ℕ → Bool) → ℕ → Float
+counted_sum c vector counts zero = float_of 0
+counted_sum c vector counts (suc i) =
+    add binary64 (counted_sum c vector counts i) (mul binary64 (mul binary64 (get_or vector i nan) (get_or vector i nan)) (sign_of (counted_met c counts (get_or (su2_states c) i 0))))
 
 -- of all states
-unfoldable pub counted-expectation : Complex → List Float → (ℕ → Bool) → Float
-counted-expectation c vector counts = counted-sum c vector counts (length (su2-states c))
+unfoldable pub counted_expectation : Complex → List Float → (ℕ → Bool) → Float
+counted_expectation c vector counts = counted_sum c vector counts (length (su2_states c))
 
 -- ---- what is judged
 -- every edge that the path names is below n
-unfoldable pub path-right : ℕ → List ℕ → Bool
-path-right n path = every-entry (λ e. ltb e n) path
+unfoldable pub path_right : ℕ → List ℕ → Bool
+path_right n path = every_entry (λ e. ltb e n) path
 
 -- of m states and n edges: 12 where the amplitudes are not one for each state, 13 where the path names an edge that is not there, 14 where an
 -- amplitude is out of its range
-unfoldable pub loop-tests : ℕ → ℕ → List Float → List ℕ → List (ℕ × Bool)
-loop-tests m n vector path = (12, not (eqb (length vector) m)) ∷ (13, not (path-right n path)) ∷ (14, not (every-entry bounded vector)) ∷ []
+unfoldable pub loop_tests : ℕ → ℕ → List Float → List ℕ → List (ℕ × Bool)
+loop_tests m n vector path = (12, not (eqb (length vector) m)) ∷ (13, not (path_right n path)) ∷ (14, not (every_entry bounded vector)) ∷ []
 
 -- 4 and 7 to 10 as for the basis, then these, and 15 where the list of states is too short
-abbrev pub su2-loop-tests : Complex → List Float → List ℕ → ℕ → List (ℕ × Bool)
-su2-loop-tests c vector path work-room =
-    su2-tests c ++ (loop-tests (length (su2-states c)) (length c.edges) vector path ++ ((15, ltb work-room (length (su2-states c))) ∷ []))
+abbrev pub su2_loop_tests : Complex → List Float → List ℕ → ℕ → List (ℕ × Bool)
+su2_loop_tests c vector path work-room =
+    su2_tests c ++ (loop_tests (length (su2_states c)) (length c.edges) vector path ++ ((15, ltb work-room (length (su2_states c))) ∷ []))
 
 -- su2_wilson_loop: the expectation is told, and the list begins with the masks, ascending.
-unfoldable pub su2-loop-call : Complex → List Float → List ℕ → List ℕ → Call Float (List ℕ)
-su2-loop-call c vector path work =
+unfoldable pub su2_loop_call : Complex → List Float → List ℕ → List ℕ → Call Float (List ℕ)
+su2_loop_call c vector path work =
     record {
-      tests = su2-loop-tests c vector path (length work);
-      value = su2-expectation c vector path;
+      tests = su2_loop_tests c vector path (length work);
+      value = su2_expectation c vector path;
       before = work;
-      after = front (su2-states c) work;
-      known = length (su2-states c) ≤ limit;
+      after = front (su2_states c) work;
+      known = length (su2_states c) ≤ limit;
     }
 
 -- By the edges of the path that count the expectation is told, and the list begins with the masks, ascending.
-abbrev pub expectation-call : Complex → List Float → List ℕ → (ℕ → Bool) → List ℕ → Call Float (List ℕ)
-expectation-call c vector path counts work =
+abbrev pub expectation_call : Complex → List Float → List ℕ → (ℕ → Bool) → List ℕ → Call Float (List ℕ)
+expectation_call c vector path counts work =
     record {
-      tests = su2-loop-tests c vector path (length work);
-      value = counted-expectation c vector counts;
+      tests = su2_loop_tests c vector path (length work);
+      value = counted_expectation c vector counts;
       before = work;
-      after = front (su2-states c) work;
-      known = length (su2-states c) ≤ limit;
+      after = front (su2_states c) work;
+      known = length (su2_states c) ≤ limit;
     }
 
 -- su2_wilson_passes: each edge counts by its number of passes modulo two.
-unfoldable pub su2-passes-call : Complex → List Float → List ℕ → List ℕ → Call Float (List ℕ)
-su2-passes-call c vector path work = expectation-call c vector path (passes-oddly path) work
+unfoldable pub su2_passes_call : Complex → List Float → List ℕ → List ℕ → Call Float (List ℕ)
+su2_passes_call c vector path work = expectation_call c vector path (passes_oddly path) work
 
 -- ---- as the code keeps it
 -- which edges count, by passes or not
 unfoldable pub counting : Bool → List ℕ → ℕ → Bool
-counting by-passes path = cond by-passes (passes-oddly path) (names path)
+counting by_passes path = cond by_passes (passes_oddly path) (names path)
 
 -- the first n edges of a path as a mask
-unfoldable pub path-mask : List ℕ → ℕ → ℕ
-path-mask path zero = 0
-path-mask path (suc k) = bit_or (path-mask path k) (2 ^ get_or path k 0)
+unfoldable pub path_mask : List ℕ → ℕ → ℕ
+path_mask path zero = 0
+path_mask path (suc k) = bit_or (path_mask path k) (2 ^ get_or path k 0)
 
 -- the edges that the first n steps of a path pass an odd number of times, as a mask
-unfoldable pub passes-mask : List ℕ → ℕ → ℕ
-passes-mask path zero = 0
-passes-mask path (suc k) = bit_xor (passes-mask path k) (2 ^ get_or path k 0)
+unfoldable pub passes_mask : List ℕ → ℕ → ℕ
+passes_mask path zero = 0
+passes_mask path (suc k) = bit_xor (passes_mask path k) (2 ^ get_or path k 0)
 
 -- the edges of a path that count, as a mask
-unfoldable pub mask-by : Bool → List ℕ → ℕ
-mask-by by-passes path = cond by-passes (passes-mask path (length path)) (path-mask path (length path))
+unfoldable pub mask_by : Bool → List ℕ → ℕ
+mask_by by_passes path = cond by_passes (passes_mask path (length path)) (path_mask path (length path))
 
 -- the sum, by the list of states and the mask of the path
-unfoldable pub mask-sum : List Float → List ℕ → ℕ → ℕ → Float
-mask-sum vector states mask zero = float_of 0
-mask-sum vector states mask (suc i) =
-    add binary64 (mask-sum vector states mask i) (mul binary64 (mul binary64 (get_or vector i nan) (get_or vector i nan)) (sign_of (ones (bit_and (get_or states i 0) mask))))
+unfoldable pub mask_sum : List Float → List ℕ → ℕ → ℕ → Float
+mask_sum vector states mask zero = float_of 0
+mask_sum vector states mask (suc i) =
+    add binary64 (mask_sum vector states mask i) (mul binary64 (mul binary64 (get_or vector i nan) (get_or vector i nan)) (sign_of (ones (bit_and (get_or states i 0) mask))))

@@ -4,11 +4,11 @@ ghost use Rattle.std.specs.Float.{binary64};
 ghost use Rattle.std.specs.Float.Ieee.{neg, of_int};
 ghost use Rattle.mathematics.specs.Refusals.{first};
 ghost use Rattle.mathematics.specs.Calls.{Answered};
-ghost use Rattle.answers.specs.Expectation.{expectationAnswer};
-ghost use Rattle.complex.specs.Complex.{complexOf};
+ghost use Rattle.answers.specs.Expectation.{expectation_answer};
+ghost use Rattle.complex.specs.Complex.{complex_of};
 ghost use Rattle.matrices.specs.Coupling.{float_of};
-ghost use Rattle.su2_loops.specs.Loop.{path-right, loop-tests, expectation-call, su2-loop-call, su2-passes-call, counting, path-mask, passes-mask, mask-by, mask-sum};
-ghost use Rattle.su2_loops.specs.Parity.{parity-sign, ExactlyWhereOdd};
+ghost use Rattle.su2_loops.specs.Loop.{path_right, loop_tests, expectation_call, su2_loop_call, su2_passes_call, counting, path_mask, passes_mask, mask_by, mask_sum};
+ghost use Rattle.su2_loops.specs.Parity.{parity_sign, ExactlyWhereOdd};
 
 use acceptance::judge;
 use answers::expectation::Expectation;
@@ -20,7 +20,7 @@ use su2_masks::write_masks;
 
 // Whether every edge that the path names is below n.
 fn path_right(path: &[u8], n: usize) -> bool
-    ensures { result ≡ path-right n path.now }
+    ensures { result ≡ path_right n path.now }
 {
     let mut so_far = true;
     for k in 0..path.len() {
@@ -31,7 +31,7 @@ fn path_right(path: &[u8], n: usize) -> bool
 
 // 12 for the number of the amplitudes, 13 for an edge of the path that is not there, 14 for an amplitude out of its range, 0 for none of them.
 fn judge_loop(n_states: usize, n_edges: usize, vector: &[f64], path: &[u8]) -> u8
-    ensures { result ≡ first (loop-tests n_states n_edges vector.now path.now) }
+    ensures { result ≡ first (loop_tests n_states n_edges vector.now path.now) }
 {
     if vector.len() != n_states {
         return 12;
@@ -48,7 +48,7 @@ fn judge_loop(n_states: usize, n_edges: usize, vector: &[f64], path: &[u8]) -> u
 // The edges of a path as a mask; one that is named twice is in it once.
 fn path_mask(path: &[u8]) -> u64
     requires { (k : ℕ) → k < length path.now → get_or path.now k 0 < 64 }
-    ensures { result ≡ path-mask path.now (length path.now) }
+    ensures { result ≡ path_mask path.now (length path.now) }
 {
     let mut mask = 0;
     for k in 0..path.len() {
@@ -60,7 +60,7 @@ fn path_mask(path: &[u8]) -> u64
 // The edges that a path passes an odd number of times, as a mask.
 fn passes_mask(path: &[u8]) -> u64
     requires { (k : ℕ) → k < length path.now → get_or path.now k 0 < 64 }
-    ensures { result ≡ passes-mask path.now (length path.now) }
+    ensures { result ≡ passes_mask path.now (length path.now) }
 {
     let mut mask = 0;
     for step in 0..path.len() {
@@ -72,7 +72,7 @@ fn passes_mask(path: &[u8]) -> u64
 // The edges of a path that count, as a mask: each that it names or, by passes, each that it passes an odd number of times.
 fn counted_mask(path: &[u8], by_passes: bool) -> u64
     requires { (k : ℕ) → k < length path.now → get_or path.now k 0 < 64 }
-    ensures { result ≡ mask-by by_passes path.now }
+    ensures { result ≡ mask_by by_passes path.now }
 {
     if by_passes {
         return passes_mask(path);
@@ -83,7 +83,7 @@ fn counted_mask(path: &[u8], by_passes: bool) -> u64
 // -1.0 for an odd count, else 1.0. As on the lecture slide it is 1 minus twice the remainder by two, on whole numbers and without a branch.
 // Then it is turned into a float.
 fn sign_of(count: u32) -> f64
-    ensures value { result ≡ of_int binary64 (parity-sign count) }
+    ensures value { result ≡ of_int binary64 (parity_sign count) }
     ensures exactly_where_odd { ExactlyWhereOdd count (neg (float_of 1)) (float_of 1) result }
 {
     let remainder = (count % 2) as i32;
@@ -93,7 +93,7 @@ fn sign_of(count: u32) -> f64
 // The squares of the first n amplitudes, each with the sign of how many edges its state shares with a mask.
 fn mask_sum(n: usize, vector: &[f64], states: &[u64], mask: u64) -> f64
     requires { (n ≤ length vector.now) × (n ≤ length states.now) }
-    ensures { result ≡ mask-sum vector.now states.now mask n }
+    ensures { result ≡ mask_sum vector.now states.now mask n }
 {
     let mut sum = 0.0;
     for i in 0..n {
@@ -113,7 +113,7 @@ fn loop_expectation(
     by_passes: bool,
     states: &mut [u64],
 ) -> Expectation
-    ensures { Answered (expectation-call (complexOf c) vector.now path.now (counting by_passes path.now) states.old) (expectationAnswer result) states.new }
+    ensures { Answered (expectation_call (complex_of c) vector.now path.now (counting by_passes path.now) states.old) (expectation_answer result) states.new }
 {
     let number = judge(c);
     if number != 0 {
@@ -146,7 +146,7 @@ pub fn su2_wilson_loop(
     path: &[u8],
     states: &mut [u64],
 ) -> Expectation
-    ensures { Answered (su2-loop-call (complexOf c) vector.now path.now states.old) (expectationAnswer result) states.new }
+    ensures { Answered (su2_loop_call (complex_of c) vector.now path.now states.old) (expectation_answer result) states.new }
 {
     loop_expectation(c, vector, path, false, states)
 }
@@ -158,7 +158,7 @@ pub fn su2_wilson_passes(
     path: &[u8],
     states: &mut [u64],
 ) -> Expectation
-    ensures { Answered (su2-passes-call (complexOf c) vector.now path.now states.old) (expectationAnswer result) states.new }
+    ensures { Answered (su2_passes_call (complex_of c) vector.now path.now states.old) (expectation_answer result) states.new }
 {
     loop_expectation(c, vector, path, true, states)
 }

@@ -8,8 +8,8 @@ use Rattle.mathematics.specs.Counting.{below, keep}
 use Rattle.complex.specs.Complex.{Complex, uncharged}
 use Rattle.complex.specs.Search.{touches}
 use Rattle.complex.specs.Sides.{sides, side}
-use Rattle.su2_even_sets.specs.EvenSets.{chosen, meeting, even, su2-states, mask-place}
-use Rattle.su2_masks.specs.Flips.{triangle-mask, flips, su2-joined}
+use Rattle.su2_even_sets.specs.EvenSets.{chosen, meeting, even, su2_states, mask_place}
+use Rattle.su2_masks.specs.Flips.{triangle_mask, flips, su2_joined}
 
 tetrahedron : Complex
 tetrahedron =
@@ -21,6 +21,6 @@ tetrahedron =
     }
 
 -- eight states, and four columns in a row
-neighbours : (su2-joined tetrahedron 0 ≡ 1 ∷ 2 ∷ 4 ∷ 7 ∷ []) × (su2-joined tetrahedron 3 ≡ 1 ∷ 2 ∷ 4 ∷ 7 ∷ [])
-unfolding tetrahedron su2-joined some flips triangle-mask side sides choose same position mask-place su2-states even meeting chosen bit every below keep touches
+neighbours : (su2_joined tetrahedron 0 ≡ 1 ∷ 2 ∷ 4 ∷ 7 ∷ []) × (su2_joined tetrahedron 3 ≡ 1 ∷ 2 ∷ 4 ∷ 7 ∷ [])
+unfolding tetrahedron su2_joined some flips triangle_mask side sides choose same position mask_place su2_states even meeting chosen bit every below keep touches
 neighbours = (refl, refl)

@@ -12,51 +12,51 @@ use lib.ListN.{get_or, length}
 use lib.Seq.{get_or-take}
 use Rattle.mathematics.proofs.Tests.{and_parts}
 use Rattle.complex.specs.declared.SimplicialComplex.{SimplicialComplex}
-use Rattle.complex.specs.Complex.{Complex, complexOf}
+use Rattle.complex.specs.Complex.{Complex, complex_of}
 use Rattle.complex.specs.Judge.{refusal}
 use Rattle.complex.proofs.Accepting.{accepted}
-use Rattle.gauss_law.specs.Listing.{free-edges}
-use Rattle.gauss_law.proofs.Spanned.{edges-long}
+use Rattle.gauss_law.specs.Listing.{free_edges}
+use Rattle.gauss_law.proofs.Spanned.{edges_long}
 use Rattle.su2_even_sets.specs.declared.Forest.{Forest}
-use Rattle.su2_even_sets.specs.EvenSets.{even, su2-states, mask-place}
-use Rattle.su2_even_sets.specs.Loops.{grown, loop-sums, sum-of-loops, closing-bits}
+use Rattle.su2_even_sets.specs.EvenSets.{even, su2_states, mask_place}
+use Rattle.su2_even_sets.specs.Loops.{grown, loop_sums, sum_of_loops, closing_bits}
 use Rattle.su2_even_sets.specs.Forest.{Front, Keeps}
 use Rattle.su2_masks.specs.Place.{LoopsOf, Readable}
-use Rattle.su2_even_sets.proofs.Forests.{all_grown, closing-below}
-use Rattle.su2_even_sets.proofs.ClosingCount.{closing-free}
-use Rattle.su2_even_sets.proofs.EvenLists.{masks-listed, even-count, mask-place-read}
+use Rattle.su2_even_sets.proofs.Forests.{all_grown, closing_below}
+use Rattle.su2_even_sets.proofs.ClosingCount.{closing_free}
+use Rattle.su2_even_sets.proofs.EvenLists.{masks_listed, even_count, mask_place_read}
 
 -- only the first entries matter
-bits-same : (l m : List ℕ) (x n : ℕ) → ((j : ℕ) → j < n → get_or l j 0 ≡ get_or m j 0) → closing-bits l x n ≡ closing-bits m x n
-unfolding closing-bits
-bits-same l m x zero h = refl
-bits-same l m x (suc n) h = rw (bits-same l m x n (λ j k. h j (omega arith)), h n (omega arith))
+bits_same : (l m : List ℕ) (x n : ℕ) → ((j : ℕ) → j < n → get_or l j 0 ≡ get_or m j 0) → closing_bits l x n ≡ closing_bits m x n
+unfolding closing_bits
+bits_same l m x zero h = refl
+bits_same l m x (suc n) h = rw (bits_same l m x n (λ j k. h j (omega arith)), h n (omega arith))
 
-spanned-same : (l m : List ℕ) (n : ℕ) → ((j : ℕ) → j < n → get_or l j 0 ≡ get_or m j 0) → loop-sums l n ≡ loop-sums m n
-unfolding loop-sums
-spanned-same l m zero h = refl
-spanned-same l m (suc n) h = rw (spanned-same l m n (λ j k. h j (omega arith)), h n (omega arith))
+spanned_same : (l m : List ℕ) (n : ℕ) → ((j : ℕ) → j < n → get_or l j 0 ≡ get_or m j 0) → loop_sums l n ≡ loop_sums m n
+unfolding loop_sums
+spanned_same l m zero h = refl
+spanned_same l m (suc n) h = rw (spanned_same l m n (λ j k. h j (omega arith)), h n (omega arith))
 
 front_at : (l list : List ℕ) (n : ℕ) → Front l list n → (j : ℕ) → j < n → get_or list j 0 ≡ get_or l j 0
 front_at l list n h j k = sym (get_or-take n list j 0 k) ∙ ap (λ (m : List ℕ). get_or m j 0) h.stands
 
 -- the tables that are made of an accepted record
-pub loops-of : (c : SimplicialComplex) → refusal (complexOf c) ≡ 0 → (f : Forest) → Keeps (grown (complexOf c).edges c.n_edges) f → LoopsOf (complexOf c) f
-loops-of c good f keeps = record { accepted = (accepted c).0 good; keeps = rw (edges-long c) keeps }
+pub loops_of : (c : SimplicialComplex) → refusal (complex_of c) ≡ 0 → (f : Forest) → Keeps (grown (complex_of c).edges c.n_edges) f → LoopsOf (complex_of c) f
+loops_of c good f keeps = record { accepted = (accepted c).0 good; keeps = rw (edges_long c) keeps }
 
 -- ---- the states
 module _ (c : Complex) (f : Forest) (of : LoopsOf c f) where
-  pub closing-number : f.count ≡ length (free-edges c)
-  closing-number = of.keeps.closing.count ∙ closing-free c of.accepted
+  pub closing_number : f.count ≡ length (free_edges c)
+  closing_number = of.keeps.closing.count ∙ closing_free c of.accepted
 
-  pub states-number : length (su2-states c) ≡ 2 ^ f.count
-  states-number = even-count c of.accepted ∙ ap (λ (k : ℕ). 2 ^ k) (sym closing-number)
+  pub states_number : length (su2_states c) ≡ 2 ^ f.count
+  states_number = even_count c of.accepted ∙ ap (λ (k : ℕ). 2 ^ k) (sym closing_number)
 
-  pub masks-are : loop-sums f.loops f.count ≡ su2-states c
-  masks-are =
+  pub masks_are : loop_sums f.loops f.count ≡ su2_states c
+  masks_are =
       let loops = (all_grown c.edges).loops in
-      spanned-same f.loops loops f.count (front_at loops f.loops f.count of.keeps.loops)
-      ∙ ap (loop-sums loops) of.keeps.closing.count ∙ masks-listed c of.accepted
+      spanned_same f.loops loops f.count (front_at loops f.loops f.count of.keeps.loops)
+      ∙ ap (loop_sums loops) of.keeps.closing.count ∙ masks_listed c of.accepted
 
 -- ---- the place of a mask
 module _ (c : Complex) (f : Forest) (of : LoopsOf c f) (x : ℕ) where
@@ -69,24 +69,24 @@ module _ (c : Complex) (f : Forest) (of : LoopsOf c f) (x : ℕ) where
   number : f.count ≡ length closing
   number = of.keeps.closing.count
 
-  place_is : closing-bits f.closing x f.count ≡ closing-bits closing x (length closing)
-  place_is = bits-same f.closing closing x f.count (front_at closing f.closing f.count of.keeps.closing) ∙ ap (closing-bits closing x) number
+  place_is : closing_bits f.closing x f.count ≡ closing_bits closing x (length closing)
+  place_is = bits_same f.closing closing x f.count (front_at closing f.closing f.count of.keeps.closing) ∙ ap (closing_bits closing x) number
 
   -- the place of a listed mask
-  pub listed-place : even c x ≡ true → x < 2 ^ length c.edges → closing-bits f.closing x f.count ≡ mask-place c x
-  listed-place e b = place_is ∙ sym (mask-place-read c of.accepted x e b)
+  pub listed_place : even c x ≡ true → x < 2 ^ length c.edges → closing_bits f.closing x f.count ≡ mask_place c x
+  listed_place e b = place_is ∙ sym (mask_place_read c of.accepted x e b)
 
 -- the tables of an accepted complex with few closing edges can be read
-pub loops-readable : (c : Complex) (f : Forest) → LoopsOf c f → f.count ≤ 20 → Readable f
-loops-readable c f of few =
+pub loops_readable : (c : Complex) (f : Forest) → LoopsOf c f → f.count ≤ 20 → Readable f
+loops_readable c f of few =
     record {
       long = of.keeps.closing.long;
-      loops-long = of.keeps.loops.long;
+      loops_long = of.keeps.loops.long;
       few = few;
       below = λ j h.
           rw (front_at (all_grown c.edges).closing f.closing f.count of.keeps.closing j h)
-          (lt_of_lt_of_le (closing-below c.edges j (rw (← of.keeps.closing.count) h)) edges_few);
+          (lt_of_lt_of_le (closing_below c.edges j (rw (← of.keeps.closing.count) h)) edges_few);
     }
   where
     edges_few : length c.edges ≤ 64
-    edges_few = omega (arith, of.accepted.few-edges)
+    edges_few = omega (arith, of.accepted.few_edges)

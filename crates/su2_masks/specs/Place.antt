@@ -14,6 +14,6 @@ pub record LoopsOf (c : Complex) (f : Forest) : Type 0 where
 -- not more than 20 closing edges, each below 64
 pub record Readable (f : Forest) : Type 0 where
   pub long : length f.closing ≡ 63
-  pub loops-long : length f.loops ≡ 63
+  pub loops_long : length f.loops ≡ 63
   pub few : f.count ≤ 20
   pub below : (j : ℕ) → j < f.count → get_or f.closing j 0 < 64

@@ -1,8 +1,8 @@
 // How many even edge sets a complex has.
 ghost use Rattle.mathematics.specs.Calls.{Answered, none_lent};
-ghost use Rattle.answers.specs.Answer.{numberAnswer};
-ghost use Rattle.complex.specs.Complex.{complexOf};
-ghost use Rattle.su2_masks.specs.Basis.{su2-counted-call};
+ghost use Rattle.answers.specs.Answer.{number_answer};
+ghost use Rattle.complex.specs.Complex.{complex_of};
+ghost use Rattle.su2_masks.specs.Basis.{su2_counted_call};
 
 use acceptance::judge;
 use answers::Answer;
@@ -11,7 +11,7 @@ use su2_even_sets::closing_loops;
 
 // How many even edge sets a record has, without a list of them. The record is judged first.
 pub fn su2_count_states(c: SimplicialComplex) -> Answer
-    ensures { Answered (su2-counted-call (complexOf c)) (numberAnswer result) none_lent }
+    ensures { Answered (su2_counted_call (complex_of c)) (number_answer result) none_lent }
 {
     let number = judge(c);
     if number != 0 {

@@ -2,9 +2,9 @@
 ghost use Rattle.std.specs.Prelude.{◌≡◌, ℕ, ◌<◌};
 ghost use Rattle.complex.specs.Complex.{Complex};
 ghost use Rattle.triangles.specs.Indices.{SidesOf};
-ghost use Rattle.su2_even_sets.specs.EvenSets.{mask-place};
+ghost use Rattle.su2_even_sets.specs.EvenSets.{mask_place};
 ghost use Rattle.su2_masks.specs.Place.{LoopsOf, Readable};
-ghost use Rattle.su2_masks.specs.Flips.{triangle-mask};
+ghost use Rattle.su2_masks.specs.Flips.{triangle_mask};
 
 use crate::place::closing_bits;
 use su2_even_sets::Forest;
@@ -13,7 +13,7 @@ use triangles::Sides;
 // The place of a triangle's three edges in the list of states. The flip takes state i to i xor this number.
 pub fn triangle_place(f: Forest, sides: Sides) -> usize
     requires { Readable f × (sides.first < 64) × (sides.second < 64) × (sides.third < 64) }
-    ensures { (c : Complex) (t : ℕ) → LoopsOf c f → SidesOf c t sides → result ≡ mask-place c (triangle-mask c t) }
+    ensures { (c : Complex) (t : ℕ) → LoopsOf c f → SidesOf c t sides → result ≡ mask_place c (triangle_mask c t) }
 {
     let closing = f.closing;
     let n = f.count;

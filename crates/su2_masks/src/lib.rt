@@ -6,11 +6,11 @@ pub mod place;
 
 ghost use Rattle.std.specs.Prelude.{◌≡◌, ◌++◌, map, ◌+◌, ◌^◌, ◌≤◌, length, take, drop};
 ghost use Rattle.std.specs.Int.Bits.{bit_xor};
-ghost use Rattle.complex.specs.Complex.{complexOf};
-ghost use Rattle.su2_even_sets.specs.Loops.{loop-sums};
+ghost use Rattle.complex.specs.Complex.{complex_of};
+ghost use Rattle.su2_even_sets.specs.Loops.{loop_sums};
 ghost use Rattle.mathematics.specs.Calls.{Answered};
-ghost use Rattle.answers.specs.Answer.{numberAnswer};
-ghost use Rattle.su2_masks.specs.Basis.{su2-basis-call};
+ghost use Rattle.answers.specs.Answer.{number_answer};
+ghost use Rattle.su2_masks.specs.Basis.{su2_basis_call};
 
 use acceptance::judge;
 use answers::Answer;
@@ -30,7 +30,7 @@ fn double(states: &mut [u64], count: usize, cycle: u64)
 // All sums of the first loops go to the beginning of a list.
 pub fn write_masks(states: &mut [u64], loops: &[u64; 63], n: usize)
     requires { (length loops.now ≡ 63) × (n ≤ 20) × (2 ^ n ≤ length states.old) }
-    ensures { states.new ≡ loop-sums loops.now n ++ drop (2 ^ n) states.old }
+    ensures { states.new ≡ loop_sums loops.now n ++ drop (2 ^ n) states.old }
 {
     states[0] = 0;
     let mut count = 1;
@@ -42,7 +42,7 @@ pub fn write_masks(states: &mut [u64], loops: &[u64; 63], n: usize)
 
 // All even edge sets of a record, ascending, go to the beginning of the list. The record is judged first.
 pub fn su2_basis(c: SimplicialComplex, states: &mut [u64]) -> Answer
-    ensures { Answered (su2-basis-call (complexOf c) states.old) (numberAnswer result) states.new }
+    ensures { Answered (su2_basis_call (complex_of c) states.old) (number_answer result) states.new }
 {
     let number = judge(c);
     if number != 0 {

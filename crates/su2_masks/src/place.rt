@@ -1,7 +1,7 @@
 // The place of a mask in the list of even edge sets, read off its closing edges.
 ghost use Rattle.std.specs.Prelude.{◌≡◌, ℕ, ◌<◌, ◌≤◌, get_or, length};
 ghost use Rattle.mathematics.specs.Bits.{bit};
-ghost use Rattle.su2_even_sets.specs.Loops.{closing-bits};
+ghost use Rattle.su2_even_sets.specs.Loops.{closing_bits};
 
 use numbers::byte;
 
@@ -16,7 +16,7 @@ fn bit_of(x: u64, i: usize) -> usize
 // The bits of a mask at the first n closing edges, as a number.
 pub fn closing_bits(closing: &[u8; 63], n: usize, x: u64) -> usize
     requires { (n ≤ 20) × (length closing.now ≡ 63) × ((j : ℕ) → j < n → get_or closing.now j 0 < 64) }
-    ensures { result ≡ closing-bits closing.now x n }
+    ensures { result ≡ closing_bits closing.now x n }
 {
     let mut place = 0;
     let mut unit = 1;

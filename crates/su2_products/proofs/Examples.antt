@@ -13,11 +13,11 @@ use Rattle.mathematics.specs.Counting.{below, keep}
 use Rattle.complex.specs.Complex.{Complex, uncharged}
 use Rattle.complex.specs.Search.{touches}
 use Rattle.complex.specs.Sides.{sides, side}
-use Rattle.matrices.specs.Coupling.{float_of, su2-params}
-use Rattle.su2_even_sets.specs.EvenSets.{chosen, meeting, even, su2-states, mask-place}
-use Rattle.su2_masks.specs.Flips.{triangle-mask}
-use Rattle.su2_rows.specs.Rows.{su2-diagonal}
-use Rattle.su2_products.specs.Product.{su2-electric-part, su2-product-at, su2-product}
+use Rattle.matrices.specs.Coupling.{float_of, su2_params}
+use Rattle.su2_even_sets.specs.EvenSets.{chosen, meeting, even, su2_states, mask_place}
+use Rattle.su2_masks.specs.Flips.{triangle_mask}
+use Rattle.su2_rows.specs.Rows.{su2_diagonal}
+use Rattle.su2_products.specs.Product.{su2_electric_part, su2_product_at, su2_product}
 
 triangle : Complex
 triangle =
@@ -28,10 +28,10 @@ triangle =
       charges = uncharged;
     }
 
-ones-everywhere : ℕ → Float
-ones-everywhere t = float_of 1
+ones_everywhere : ℕ → Float
+ones_everywhere t = float_of 1
 
 -- ---- the triangle with g² 1: its matrix 0 -0.5 / -0.5 1.125 times (1, 2) is (-1, 1.75)
-triangle-product : su2-product triangle (su2-params (float_of 1)) ones-everywhere (float_of 1 ∷ float_of 2 ∷ []) ≡ fin true 1 (pos 0) ∷ fin false 7 (negsuc 1) ∷ []
-unfolding triangle ones-everywhere su2-product su2-product-at su2-electric-part su2-diagonal su2-params triangle-mask side sides choose same position mask-place su2-states even meeting chosen bit every below keep touches ones ones_in float_of of_int neg mul div add
-triangle-product = refl
+triangle_product : su2_product triangle (su2_params (float_of 1)) ones_everywhere (float_of 1 ∷ float_of 2 ∷ []) ≡ fin true 1 (pos 0) ∷ fin false 7 (negsuc 1) ∷ []
+unfolding triangle ones_everywhere su2_product su2_product_at su2_electric_part su2_diagonal su2_params triangle_mask side sides choose same position mask_place su2_states even meeting chosen bit every below keep touches ones ones_in float_of of_int neg mul div add
+triangle_product = refl

@@ -11,7 +11,7 @@ use lib.ListN.{get_or, length, length-append, get_or-append}
 use lib.Pow.{pow_mono}
 use Rattle.mathematics.specs.Counting.{below}
 use Rattle.mathematics.specs.Writing.{front}
-use Rattle.mathematics.proofs.Below.{below_each, map-below-at}
+use Rattle.mathematics.proofs.Below.{below_each, map_below_at}
 use Rattle.mathematics.proofs.Ordered.{each_to}
 use Rattle.complex.specs.Complex.{Complex}
 use Rattle.complex.specs.Judge.{Accepted}
@@ -19,80 +19,80 @@ use Rattle.matrices.specs.declared.coupling.KSParams.{KSParams}
 use Rattle.matrices.specs.Coupling.{float_of}
 use Rattle.matrices.specs.Squares.{energy}
 use Rattle.su2_even_sets.specs.declared.Forest.{Forest}
-use Rattle.su2_even_sets.specs.EvenSets.{su2-states}
-use Rattle.su2_masks.specs.Flips.{su2-target}
-use Rattle.su2_masks.proofs.Placing.{states-number}
-use Rattle.su2_masks.proofs.Flips.{su2-target-read, flip-within}
-use Rattle.su2_rows.specs.Rows.{su2-diagonal, Tables}
+use Rattle.su2_even_sets.specs.EvenSets.{su2_states}
+use Rattle.su2_masks.specs.Flips.{su2_target}
+use Rattle.su2_masks.proofs.Placing.{states_number}
+use Rattle.su2_masks.proofs.Flips.{su2_target_read, flip_within}
+use Rattle.su2_rows.specs.Rows.{su2_diagonal, Tables}
 use Rattle.mathematics.proofs.Maps.{map_each}
-use Rattle.su2_products.specs.Product.{su2-electric-part, su2-product-at, su2-product, listed-part, flip-part, listed-product-at, BlockFits, ProductOf}
+use Rattle.su2_products.specs.Product.{su2_electric_part, su2_product_at, su2_product, listed_part, flip_part, listed_product_at, BlockFits, ProductOf}
 
 -- numbers with equal values
-below-same : (f g : ℕ → Float) (n : ℕ) → ((i : ℕ) → i < n → f i ≡ g i) → map f (below n) ≡ map g (below n)
-below-same f g n same = map_each f g (each_to (λ i h. same i h) (below_each n))
+below_same : (f g : ℕ → Float) (n : ℕ) → ((i : ℕ) → i < n → f i ≡ g i) → map f (below n) ≡ map g (below n)
+below_same f g n same = map_each f g (each_to (λ i h. same i h) (below_each n))
 
 -- ---- one triangle more in a block
 module _ (electric : Float) (states places : List ℕ) (terms vector : List Float) where
-  abbrev with-triangles : ℕ → ℕ → Float
-  with-triangles = listed-product-at electric states places terms vector
+  abbrev with_triangles : ℕ → ℕ → Float
+  with_triangles = listed_product_at electric states places terms vector
 
-  pub no-triangle : (from : ℕ) (block old : List Float) → block ≡ map (λ i. listed-part electric states vector (from + i)) (below (length old)) → length block ≡ length old
-      → block ≡ map (λ i. with-triangles 0 (from + i)) (below (length block))
-  unfolding listed-product-at
-  no-triangle from block old is same = is ∙ ap (λ (n : ℕ). map (λ i. listed-part electric states vector (from + i)) (below n)) (sym same)
+  pub no_triangle : (from : ℕ) (block old : List Float) → block ≡ map (λ i. listed_part electric states vector (from + i)) (below (length old)) → length block ≡ length old
+      → block ≡ map (λ i. with_triangles 0 (from + i)) (below (length block))
+  unfolding listed_product_at
+  no_triangle from block old is same = is ∙ ap (λ (n : ℕ). map (λ i. listed_part electric states vector (from + i)) (below n)) (sym same)
 
-  pub next-triangle : (from t m : ℕ) (block new : List Float) → block ≡ map (λ i. with-triangles t (from + i)) (below m) → length block ≡ m
-      → new ≡ map (λ i. add binary64 (get_or block i nan) (flip-part (get_or terms t nan) vector (get_or places t 0) (from + i))) (below (length block))
-      → new ≡ map (λ i. with-triangles (t + 1) (from + i)) (below m)
-  unfolding listed-product-at
-  next-triangle from t m block new so_far same is =
-      let added : ℕ → Float = λ i. add binary64 (get_or block i nan) (flip-part (get_or terms t nan) vector (get_or places t 0) (from + i)) in
-      let before : (i : ℕ) → i < m → get_or block i nan ≡ with-triangles t (from + i) = λ i h. ap (λ l. get_or l i nan) so_far ∙ map-below-at (λ i. with-triangles t (from + i)) m i nan h in
+  pub next_triangle : (from t m : ℕ) (block new : List Float) → block ≡ map (λ i. with_triangles t (from + i)) (below m) → length block ≡ m
+      → new ≡ map (λ i. add binary64 (get_or block i nan) (flip_part (get_or terms t nan) vector (get_or places t 0) (from + i))) (below (length block))
+      → new ≡ map (λ i. with_triangles (t + 1) (from + i)) (below m)
+  unfolding listed_product_at
+  next_triangle from t m block new so_far same is =
+      let added : ℕ → Float = λ i. add binary64 (get_or block i nan) (flip_part (get_or terms t nan) vector (get_or places t 0) (from + i)) in
+      let before : (i : ℕ) → i < m → get_or block i nan ≡ with_triangles t (from + i) = λ i h. ap (λ l. get_or l i nan) so_far ∙ map_below_at (λ i. with_triangles t (from + i)) m i nan h in
       is
       ∙ ap (λ (n : ℕ). map added (below n)) same
-      ∙ below-same added (λ i. with-triangles (t + 1) (from + i)) m
-      (λ i h. ap (λ x. add binary64 x (flip-part (get_or terms t nan) vector (get_or places t 0) (from + i))) (before i h) ∙ ap (λ (k : ℕ). with-triangles k (from + i)) (sym (add-one t)))
+      ∙ below_same added (λ i. with_triangles (t + 1) (from + i)) m
+      (λ i h. ap (λ x. add binary64 x (flip_part (get_or terms t nan) vector (get_or places t 0) (from + i))) (before i h) ∙ ap (λ (k : ℕ). with_triangles k (from + i)) (sym (add-one t)))
 
 -- ---- all triangles
 module _ (c : Complex) (accepted : Accepted c) (p : KSParams) (w : ℕ → Float) (places : List ℕ) (terms : List Float) (tables : Tables c p w (length c.triangles) places terms)
-    (states rest : List ℕ) (begins : states ≡ su2-states c ++ rest) (vector : List Float) where
-  at-is : (i : ℕ) → i < length (su2-states c) → (t : ℕ) → t ≤ length c.triangles → listed-product-at p.electric states places terms vector t i ≡ su2-product-at c p w vector t i
-  unfolding listed-product-at su2-product-at listed-part su2-electric-part su2-diagonal
-  at-is i h zero few =
-      let state : get_or states i 0 ≡ get_or (su2-states c) i 0 = rw begins (get_or-append (su2-states c) rest 0 i h) in
+    (states rest : List ℕ) (begins : states ≡ su2_states c ++ rest) (vector : List Float) where
+  at_is : (i : ℕ) → i < length (su2_states c) → (t : ℕ) → t ≤ length c.triangles → listed_product_at p.electric states places terms vector t i ≡ su2_product_at c p w vector t i
+  unfolding listed_product_at su2_product_at listed_part su2_electric_part su2_diagonal
+  at_is i h zero few =
+      let state : get_or states i 0 ≡ get_or (su2_states c) i 0 = rw begins (get_or-append (su2_states c) rest 0 i h) in
       ap (λ (x : ℕ). add binary64 (float_of 0) (mul binary64 (energy p.electric (ones x)) (get_or vector i nan))) state
-  at-is i h (suc t) few =
+  at_is i h (suc t) few =
       let there : t < length c.triangles = few in
-      let place : bit_xor i (get_or places t 0) ≡ su2-target c t i = ap (bit_xor i) (tables.places-are t there) ∙ sym (su2-target-read c accepted t there i h) in
-      ap₂ (add binary64) (at-is i h t (omega arith)) (ap₂ (λ x (k : ℕ). mul binary64 x (get_or vector k nan)) (tables.terms-are t there) place)
+      let place : bit_xor i (get_or places t 0) ≡ su2_target c t i = ap (bit_xor i) (tables.places_are t there) ∙ sym (su2_target_read c accepted t there i h) in
+      ap₂ (add binary64) (at_is i h t (omega arith)) (ap₂ (λ x (k : ℕ). mul binary64 x (get_or vector k nan)) (tables.terms_are t there) place)
 
-  pub product_is : (n : ℕ) → n ≡ length (su2-states c) → map (listed-product-at p.electric states places terms vector (length c.triangles)) (below n) ≡ su2-product c p w vector
-  unfolding su2-product
+  pub product_is : (n : ℕ) → n ≡ length (su2_states c) → map (listed_product_at p.electric states places terms vector (length c.triangles)) (below n) ≡ su2_product c p w vector
+  unfolding su2_product
   product_is n number =
-      ap (λ (k : ℕ). map (listed-product-at p.electric states places terms vector (length c.triangles)) (below k)) number
-      ∙ below-same (listed-product-at p.electric states places terms vector (length c.triangles)) (su2-product-at c p w vector (length c.triangles)) (length (su2-states c))
-      (λ i h. at-is i h (length c.triangles) (omega arith))
+      ap (λ (k : ℕ). map (listed_product_at p.electric states places terms vector (length c.triangles)) (below k)) number
+      ∙ below_same (listed_product_at p.electric states places terms vector (length c.triangles)) (su2_product_at c p w vector (length c.triangles)) (length (su2_states c))
+      (λ i h. at_is i h (length c.triangles) (omega arith))
 
 -- ---- the product of a complex
-module _ {c : Complex} {f : Forest} {n vector-long room : ℕ} (m : ProductOf c f n vector-long room) where
-  pub few-states : n ≤ 2 ^ 20
-  few-states = rw (m.states, states-number c f m.loops) (pow_mono m.few)
+module _ {c : Complex} {f : Forest} {n vector_long room : ℕ} (m : ProductOf c f n vector_long room) where
+  pub few_states : n ≤ 2 ^ 20
+  few_states = rw (m.states, states_number c f m.loops) (pow_mono m.few)
 
-  module _ {p : KSParams} {w : ℕ → Float} {places : List ℕ} {terms : List Float} (tables : Tables c p w (length c.triangles) places terms) (states rest : List ℕ) (begins : states ≡ su2-states c ++ rest) where
-    pub block-fits : 256 ≤ length places → 256 ≤ length terms → (vector : List Float) → length vector ≡ vector-long → BlockFits 0 n states places terms vector (length c.triangles)
-    block-fits places-long terms-long vector long =
-        let few = m.loops.accepted.few-triangles in
-        let same : length vector ≡ length (su2-states c) = long ∙ m.amplitudes ∙ m.states in
+  module _ {p : KSParams} {w : ℕ → Float} {places : List ℕ} {terms : List Float} (tables : Tables c p w (length c.triangles) places terms) (states rest : List ℕ) (begins : states ≡ su2_states c ++ rest) where
+    pub block_fits : 256 ≤ length places → 256 ≤ length terms → (vector : List Float) → length vector ≡ vector_long → BlockFits 0 n states places terms vector (length c.triangles)
+    block_fits places_long terms_long vector long =
+        let few = m.loops.accepted.few_triangles in
+        let same : length vector ≡ length (su2_states c) = long ∙ m.amplitudes ∙ m.states in
         record {
-          few-triangles = few;
-          states-long = omega (arith, m.states, ap length begins, length-append (su2-states c) rest);
-          vector-long = omega (arith, long, m.amplitudes);
-          places-long = omega (arith, few, places-long);
-          terms-long = omega (arith, few, terms-long);
+          few_triangles = few;
+          states_long = omega (arith, m.states, ap length begins, length-append (su2_states c) rest);
+          vector_long = omega (arith, long, m.amplitudes);
+          places_long = omega (arith, few, places_long);
+          terms_long = omega (arith, few, terms_long);
           within = λ i t h b.
-              let inside : i < length (su2-states c) = omega (arith, m.states, h) in
-              rw (tables.places-are t b, same) (flip-within c m.loops.accepted t b i inside);
+              let inside : i < length (su2_states c) = omega (arith, m.states, h) in
+              rw (tables.places_are t b, same) (flip_within c m.loops.accepted t b i inside);
         }
 
-    pub product-written : (vector result old : List Float) → result ≡ front (map (listed-product-at p.electric states places terms vector (length c.triangles)) (below n)) old → result ≡ front (su2-product c p w vector) old
-    product-written vector result old is = is ∙ ap (λ l. front l old) (product_is c m.loops.accepted p w places terms tables states rest begins vector n m.states)
+    pub product_written : (vector result old : List Float) → result ≡ front (map (listed_product_at p.electric states places terms vector (length c.triangles)) (below n)) old → result ≡ front (su2_product c p w vector) old
+    product_written vector result old is = is ∙ ap (λ l. front l old) (product_is c m.loops.accepted p w places terms tables states rest begins vector n m.states)

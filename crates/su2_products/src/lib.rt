@@ -6,11 +6,11 @@ ghost use Rattle.std.specs.Float.Ieee.{add};
 ghost use Rattle.mathematics.specs.Counting.{below};
 ghost use Rattle.mathematics.specs.Writing.{front};
 ghost use Rattle.mathematics.specs.Calls.{Answered};
-ghost use Rattle.answers.specs.Answer.{numberAnswer};
-ghost use Rattle.complex.specs.Complex.{complexOf};
+ghost use Rattle.answers.specs.Answer.{number_answer};
+ghost use Rattle.complex.specs.Complex.{complex_of};
 ghost use Rattle.matrices.specs.Weights.{weight, Weighed};
-ghost use Rattle.su2_even_sets.specs.EvenSets.{su2-states};
-ghost use Rattle.su2_products.specs.Product.{su2-product, su2-product-call, listed-part, flip-part, listed-product-at, BlockFits, ProductOf};
+ghost use Rattle.su2_even_sets.specs.EvenSets.{su2_states};
+ghost use Rattle.su2_products.specs.Product.{su2_product, su2_product_call, listed_part, flip_part, listed_product_at, BlockFits, ProductOf};
 
 use acceptance::judge;
 use answers::Answer;
@@ -26,7 +26,7 @@ use su2_rows::tables::write_tables;
 // The electric parts of the states from a place on go into a block.
 fn write_electric(block: &mut [f64], from: usize, electric: f64, states: &[u64], vector: &[f64])
     requires { (from + length block.old ≤ length states.now) × (from + length block.old ≤ length vector.now) }
-    ensures { block.new ≡ map (λ i. listed-part electric states.now vector.now (from + i)) (below (length block.old)) }
+    ensures { block.new ≡ map (λ i. listed_part electric states.now vector.now (from + i)) (below (length block.old)) }
 {
     for i in 0..block.len() {
         let mask = states[from + i];
@@ -38,7 +38,7 @@ fn write_electric(block: &mut [f64], from: usize, electric: f64, states: &[u64],
 // Each state from a place on gets a term times the amplitude at its place xor k.
 fn add_flips(block: &mut [f64], from: usize, k: usize, term: f64, vector: &[f64])
     requires { (from + length block.old ≤ length vector.now) × ((i : ℕ) → i < from + length block.old → bit_xor i k < length vector.now) }
-    ensures { block.new ≡ map (λ i. add binary64 (get_or block.old i nan) (flip-part term vector.now k (from + i))) (below (length block.old)) }
+    ensures { block.new ≡ map (λ i. add binary64 (get_or block.old i nan) (flip_part term vector.now k (from + i))) (below (length block.old)) }
 {
     for i in 0..block.len() {
         block[i] = block[i] + term * vector[(from + i) ^ k];
@@ -57,7 +57,7 @@ fn write_block(
     vector: &[f64],
 )
     requires { BlockFits from (length block.old) states.now places.now terms.now vector.now n_triangles }
-    ensures { block.new ≡ map (λ i. listed-product-at electric states.now places.now terms.now vector.now n_triangles (from + i)) (below (length block.old)) }
+    ensures { block.new ≡ map (λ i. listed_product_at electric states.now places.now terms.now vector.now n_triangles (from + i)) (below (length block.old)) }
 {
     write_electric(block, from, electric, states, vector);
     for t in 0..n_triangles {
@@ -77,7 +77,7 @@ fn write_blocks(
     res: &mut [f64],
 )
     requires { (n ≤ 2 ^ 20) × BlockFits 0 n states.now places.now terms.now vector.now n_triangles × (n ≤ length res.old) }
-    ensures { res.new ≡ front (map (listed-product-at electric states.now places.now terms.now vector.now n_triangles) (below n)) res.old }
+    ensures { res.new ≡ front (map (listed_product_at electric states.now places.now terms.now vector.now n_triangles) (below n)) res.old }
 {
     let mut from = 0;
     while from < n {
@@ -108,8 +108,8 @@ fn write_product(
     states: &[u64],
     res: &mut [f64],
 )
-    requires { ProductOf (complexOf c) f n (length vector.now) (length res.old) × Weighed (length (complexOf c).triangles) given weights.now × ((rest : List ℕ) × (states.now ≡ su2-states (complexOf c) ++ rest)) }
-    ensures { res.new ≡ front (su2-product (complexOf c) p (weight given weights.now) vector.now) res.old }
+    requires { ProductOf (complex_of c) f n (length vector.now) (length res.old) × Weighed (length (complex_of c).triangles) given weights.now × ((rest : List ℕ) × (states.now ≡ su2_states (complex_of c) ++ rest)) }
+    ensures { res.new ≡ front (su2_product (complex_of c) p (weight given weights.now) vector.now) res.old }
 {
     let mut places = [0u32; 256];
     let mut terms = [0.0f64; 256];
@@ -137,7 +137,7 @@ pub fn su2_hamiltonian_matvec(
     states: &mut [u64],
     res: &mut [f64],
 ) -> Answer
-    ensures { Answered (su2-product-call (complexOf c) p given weights.now vector.now states.old res.old) (numberAnswer result) (states.new, res.new) }
+    ensures { Answered (su2_product_call (complex_of c) p given weights.now vector.now states.old res.old) (number_answer result) (states.new, res.new) }
 {
     let number = judge(c);
     if number != 0 {

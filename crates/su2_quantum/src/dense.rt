@@ -4,12 +4,12 @@ ghost use Rattle.std.specs.Int.Bits.{bit_xor};
 ghost use Rattle.std.specs.Int.Count.{ones};
 ghost use Rattle.mathematics.specs.Writing.{front};
 ghost use Rattle.mathematics.specs.Calls.{Answered};
-ghost use Rattle.answers.specs.Answer.{numberAnswer};
-ghost use Rattle.complex.specs.Complex.{complexOf};
+ghost use Rattle.answers.specs.Answer.{number_answer};
+ghost use Rattle.complex.specs.Complex.{complex_of};
 ghost use Rattle.matrices.specs.Weights.{weight, Weighed};
 ghost use Rattle.matrices.specs.Matrix.{Matrix, passed};
-ghost use Rattle.su2_even_sets.specs.EvenSets.{su2-states};
-ghost use Rattle.su2_quantum.specs.Dense.{su2-electric-entry, su2-entry, su2-dense, su2-dense-call, MatrixOf};
+ghost use Rattle.su2_even_sets.specs.EvenSets.{su2_states};
+ghost use Rattle.su2_quantum.specs.Dense.{su2_electric_entry, su2_entry, su2_dense, su2_dense_call, MatrixOf};
 ghost use Rattle.matrices.specs.Squares.{energy};
 
 use acceptance::judge;
@@ -54,8 +54,8 @@ fn add_triangles(
     given: bool,
     weights: &[f64],
 )
-    requires { MatrixOf (complexOf c) f n (length h.old) × Weighed (length (complexOf c).triangles) given weights.now }
-    ensures { (old : List Float) → Matrix (su2-electric-entry (complexOf c) p) n old h.old → Matrix (su2-entry (complexOf c) p (weight given weights.now) (length (complexOf c).triangles)) n old h.new }
+    requires { MatrixOf (complex_of c) f n (length h.old) × Weighed (length (complex_of c).triangles) given weights.now }
+    ensures { (old : List Float) → Matrix (su2_electric_entry (complex_of c) p) n old h.old → Matrix (su2_entry (complex_of c) p (weight given weights.now) (length (complex_of c).triangles)) n old h.new }
 {
     let all = all_sides(c);
     for t in 0..c.n_triangles {
@@ -75,8 +75,8 @@ fn write_matrix(
     weights: &[f64],
     states: &[u64],
 )
-    requires { MatrixOf (complexOf c) f n (length h.old) × Weighed (length (complexOf c).triangles) given weights.now × ((rest : List ℕ) × (states.now ≡ su2-states (complexOf c) ++ rest)) }
-    ensures { h.new ≡ front (su2-dense (complexOf c) p (weight given weights.now)) h.old }
+    requires { MatrixOf (complex_of c) f n (length h.old) × Weighed (length (complex_of c).triangles) given weights.now × ((rest : List ℕ) × (states.now ≡ su2_states (complex_of c) ++ rest)) }
+    ensures { h.new ≡ front (su2_dense (complex_of c) p (weight given weights.now)) h.old }
 {
     clear_matrix(h, n);
     add_energies(h, n, p.electric, states);
@@ -92,7 +92,7 @@ pub fn build_su2_hamiltonian(
     states: &mut [u64],
     res: &mut [f64],
 ) -> Answer
-    ensures { Answered (su2-dense-call (complexOf c) p given weights.now states.old res.old) (numberAnswer result) (states.new, res.new) }
+    ensures { Answered (su2_dense_call (complex_of c) p given weights.now states.old res.old) (number_answer result) (states.new, res.new) }
 {
     let number = judge(c);
     if number != 0 {

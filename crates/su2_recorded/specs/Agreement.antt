@@ -4,15 +4,15 @@ use Rattle.std.specs.Prelude.{ℕ, Bool, ◌&&◌, List, [], ◌∷◌, ℤ, Flo
 use Rattle.std.specs.Float.{binary64}
 use Rattle.std.specs.Float.Ieee.{of_bits}
 use Rattle.matrices.specs.declared.coupling.KSParams.{KSParams}
-use Rattle.exports.specs.Exports.{on-sheet, value_lent}
-use Rattle.recorded.specs.Bytes.{holds-u32s, holds-u64s, holds_floats}
+use Rattle.exports.specs.Exports.{on_sheet, value_lent}
+use Rattle.recorded.specs.Bytes.{holds_u32s, holds_u64s, holds_floats}
 use Rattle.recorded.specs.Answers.{tells, agrees}
-use Rattle.su2_masks.specs.Basis.{su2-basis-call, su2-counted-call}
-use Rattle.su2_quantum.specs.Dense.{su2-dense-call}
-use Rattle.su2_rows.specs.Rows.{su2-rows-call}
-use Rattle.su2_entries.specs.Entries.{su2-entries-call}
-use Rattle.su2_products.specs.Product.{su2-product-call}
-use Rattle.su2_loops.specs.Loop.{su2-loop-call, su2-passes-call}
+use Rattle.su2_masks.specs.Basis.{su2_basis_call, su2_counted_call}
+use Rattle.su2_quantum.specs.Dense.{su2_dense_call}
+use Rattle.su2_rows.specs.Rows.{su2_rows_call}
+use Rattle.su2_entries.specs.Entries.{su2_entries_call}
+use Rattle.su2_products.specs.Product.{su2_product_call}
+use Rattle.su2_loops.specs.Loop.{su2_loop_call, su2_passes_call}
 
 -- the masks that are lent
 abbrev blank : List ℕ
@@ -22,40 +22,40 @@ blank = replicate 256 0
 abbrev blanks : ℕ → List Float
 blanks n = replicate n (of_bits binary64 0)
 
-unfoldable pub su2-basis-agrees : (sheet : List ℕ) (told : ℤ) (masks : List ℕ) → Bool
-su2-basis-agrees sheet told masks = agrees (on-sheet sheet (λ c L. su2-basis-call c blank)) told (λ l. holds-u64s l masks)
+unfoldable pub su2_basis_agrees : (sheet : List ℕ) (told : ℤ) (masks : List ℕ) → Bool
+su2_basis_agrees sheet told masks = agrees (on_sheet sheet (λ c L. su2_basis_call c blank)) told (λ l. holds_u64s l masks)
 
-unfoldable pub su2-counted-agrees : (sheet : List ℕ) (told : ℤ) → Bool
-su2-counted-agrees sheet told = tells (on-sheet sheet (λ c L. su2-counted-call c)) told
+unfoldable pub su2_counted_agrees : (sheet : List ℕ) (told : ℤ) → Bool
+su2_counted_agrees sheet told = tells (on_sheet sheet (λ c L. su2_counted_call c)) told
 
 -- a result of 1,024 entries
-unfoldable pub su2-dense-agrees : (sheet : List ℕ) (coupling : KSParams) (given : Bool) (weights : List Float) (told : ℤ) (masks matrix : List ℕ) → Bool
-su2-dense-agrees sheet coupling given weights told masks matrix =
-    agrees (on-sheet sheet (λ c L. su2-dense-call c coupling given weights blank (blanks 1024))) told
-    (λ l. holds-u64s l.0 masks && holds_floats l.1 matrix)
+unfoldable pub su2_dense_agrees : (sheet : List ℕ) (coupling : KSParams) (given : Bool) (weights : List Float) (told : ℤ) (masks matrix : List ℕ) → Bool
+su2_dense_agrees sheet coupling given weights told masks matrix =
+    agrees (on_sheet sheet (λ c L. su2_dense_call c coupling given weights blank (blanks 1024))) told
+    (λ l. holds_u64s l.0 masks && holds_floats l.1 matrix)
 
 -- 128 starts, 1,024 columns and values
-unfoldable pub su2-rows-agrees : (sheet : List ℕ) (coupling : KSParams) (given : Bool) (weights : List Float) (told : ℤ) (masks starts columns values : List ℕ) → Bool
-su2-rows-agrees sheet coupling given weights told masks starts columns values =
-    agrees (on-sheet sheet (λ c L. su2-rows-call c coupling given weights blank (replicate 128 0) (replicate 1024 0) (blanks 1024))) told
-    (λ l. holds-u64s l.0 masks && (holds-u32s l.1 starts && (holds-u32s l.2 columns && holds_floats l.3 values)))
+unfoldable pub su2_rows_agrees : (sheet : List ℕ) (coupling : KSParams) (given : Bool) (weights : List Float) (told : ℤ) (masks starts columns values : List ℕ) → Bool
+su2_rows_agrees sheet coupling given weights told masks starts columns values =
+    agrees (on_sheet sheet (λ c L. su2_rows_call c coupling given weights blank (replicate 128 0) (replicate 1024 0) (blanks 1024))) told
+    (λ l. holds_u64s l.0 masks && (holds_u32s l.1 starts && (holds_u32s l.2 columns && holds_floats l.3 values)))
 
-unfoldable pub su2-entries-agrees : (sheet : List ℕ) (told : ℤ) → Bool
-su2-entries-agrees sheet told = tells (on-sheet sheet (λ c L. su2-entries-call c)) told
+unfoldable pub su2_entries_agrees : (sheet : List ℕ) (told : ℤ) → Bool
+su2_entries_agrees sheet told = tells (on_sheet sheet (λ c L. su2_entries_call c)) told
 
 -- a result of 256 entries
-unfoldable pub su2-product-agrees : (sheet : List ℕ) (coupling : KSParams) (given : Bool) (weights vector : List Float) (told : ℤ) (masks product : List ℕ) → Bool
-su2-product-agrees sheet coupling given weights vector told masks product =
-    agrees (on-sheet sheet (λ c L. su2-product-call c coupling given weights vector blank (blanks 256))) told
-    (λ l. holds-u64s l.0 masks && holds_floats l.1 product)
+unfoldable pub su2_product_agrees : (sheet : List ℕ) (coupling : KSParams) (given : Bool) (weights vector : List Float) (told : ℤ) (masks product : List ℕ) → Bool
+su2_product_agrees sheet coupling given weights vector told masks product =
+    agrees (on_sheet sheet (λ c L. su2_product_call c coupling given weights vector blank (blanks 256))) told
+    (λ l. holds_u64s l.0 masks && holds_floats l.1 product)
 
 -- the expectation goes to one float
-unfoldable pub su2-loop-agrees : (sheet : List ℕ) (vector : List Float) (path : List ℕ) (told : ℤ) (masks expectation : List ℕ) → Bool
-su2-loop-agrees sheet vector path told masks expectation =
-    agrees (on-sheet sheet (λ c L. value_lent (su2-loop-call c vector path blank) (of_bits binary64 0))) told
-    (λ l. holds-u64s l.0 masks && holds_floats (l.1 ∷ []) expectation)
+unfoldable pub su2_loop_agrees : (sheet : List ℕ) (vector : List Float) (path : List ℕ) (told : ℤ) (masks expectation : List ℕ) → Bool
+su2_loop_agrees sheet vector path told masks expectation =
+    agrees (on_sheet sheet (λ c L. value_lent (su2_loop_call c vector path blank) (of_bits binary64 0))) told
+    (λ l. holds_u64s l.0 masks && holds_floats (l.1 ∷ []) expectation)
 
-unfoldable pub su2-passes-agrees : (sheet : List ℕ) (vector : List Float) (path : List ℕ) (told : ℤ) (masks expectation : List ℕ) → Bool
-su2-passes-agrees sheet vector path told masks expectation =
-    agrees (on-sheet sheet (λ c L. value_lent (su2-passes-call c vector path blank) (of_bits binary64 0))) told
-    (λ l. holds-u64s l.0 masks && holds_floats (l.1 ∷ []) expectation)
+unfoldable pub su2_passes_agrees : (sheet : List ℕ) (vector : List Float) (path : List ℕ) (told : ℤ) (masks expectation : List ℕ) → Bool
+su2_passes_agrees sheet vector path told masks expectation =
+    agrees (on_sheet sheet (λ c L. value_lent (su2_passes_call c vector path blank) (of_bits binary64 0))) told
+    (λ l. holds_u64s l.0 masks && holds_floats (l.1 ∷ []) expectation)

@@ -1,19 +1,19 @@
 -- When a case of the two-valued mode agrees: the call of its kind, on what its fields hold, tells the recorded number and leaves the recorded lists.
 use Rattle.std.specs.Prelude.{Bool, [], ◌∷◌}
 use Rattle.recorded_fields.specs.Layout.{Case}
-use Rattle.recorded_fields.specs.Inputs.{sheet-of, path-of, coupling-of, given-of, weights-of, vector-of, told_of}
+use Rattle.recorded_fields.specs.Inputs.{sheet_of, path_of, coupling_of, given_of, weights_of, vector_of, told_of}
 use Rattle.recorded_fields.specs.Choosing.{chosen}
-use Rattle.su2_recorded.specs.Agreement.{su2-basis-agrees, su2-counted-agrees, su2-dense-agrees, su2-rows-agrees, su2-entries-agrees, su2-product-agrees, su2-loop-agrees}
+use Rattle.su2_recorded.specs.Agreement.{su2_basis_agrees, su2_counted_agrees, su2_dense_agrees, su2_rows_agrees, su2_entries_agrees, su2_product_agrees, su2_loop_agrees}
 
 -- the two-valued mode
-unfoldable pub z2-agreed : Case → Bool
-z2-agreed c =
+unfoldable pub z2_agreed : Case → Bool
+z2_agreed c =
     chosen c.kind
-    ((18, su2-basis-agrees (sheet-of c) (told_of c) (c.field 11))
-    ∷ (19, su2-counted-agrees (sheet-of c) (told_of c))
-    ∷ (20, su2-dense-agrees (sheet-of c) (coupling-of c) (given-of c) (weights-of c) (told_of c) (c.field 11) (c.field 14))
-    ∷ (21, su2-rows-agrees (sheet-of c) (coupling-of c) (given-of c) (weights-of c) (told_of c) (c.field 11) (c.field 12) (c.field 13) (c.field 14))
-    ∷ (22, su2-entries-agrees (sheet-of c) (told_of c))
-    ∷ (23, su2-product-agrees (sheet-of c) (coupling-of c) (given-of c) (weights-of c) (vector-of c) (told_of c) (c.field 11) (c.field 14))
-    ∷ (24, su2-loop-agrees (sheet-of c) (vector-of c) (path-of c) (told_of c) (c.field 11) (c.field 14))
+    ((18, su2_basis_agrees (sheet_of c) (told_of c) (c.field 11))
+    ∷ (19, su2_counted_agrees (sheet_of c) (told_of c))
+    ∷ (20, su2_dense_agrees (sheet_of c) (coupling_of c) (given_of c) (weights_of c) (told_of c) (c.field 11) (c.field 14))
+    ∷ (21, su2_rows_agrees (sheet_of c) (coupling_of c) (given_of c) (weights_of c) (told_of c) (c.field 11) (c.field 12) (c.field 13) (c.field 14))
+    ∷ (22, su2_entries_agrees (sheet_of c) (told_of c))
+    ∷ (23, su2_product_agrees (sheet_of c) (coupling_of c) (given_of c) (weights_of c) (vector_of c) (told_of c) (c.field 11) (c.field 14))
+    ∷ (24, su2_loop_agrees (sheet_of c) (vector_of c) (path_of c) (told_of c) (c.field 11) (c.field 14))
     ∷ [])

@@ -1,8 +1,8 @@
 // The calls of the two-valued mode in a case, held against its answers.
 ghost use Rattle.std.specs.Prelude.{◌≡◌};
 ghost use Rattle.recorded_fields.specs.Layout.{case_at, Whole};
-ghost use Rattle.recorded_fields.specs.Inputs.{weights-of, vector-of};
-ghost use Rattle.su2_recorded.specs.Cases.{z2-agreed};
+ghost use Rattle.recorded_fields.specs.Inputs.{weights_of, vector_of};
+ghost use Rattle.su2_recorded.specs.Cases.{z2_agreed};
 
 use crate::{
     build_csr_su2_same, build_su2_hamiltonian_same, su2_basis_same, su2_count_entries_same,
@@ -14,8 +14,8 @@ use recorded_fields::inputs::{ROOM_8, coupling, given, told};
 
 // The weights and the vector of the case are read already.
 fn answers_same(list: &[u8], at: usize, weights: &[f64], vector: &[f64]) -> bool
-    requires { Whole list.now at × (weights.now ≡ weights-of (case_at list.now at)) × (vector.now ≡ vector-of (case_at list.now at)) }
-    ensures { result ≡ z2-agreed (case_at list.now at) }
+    requires { Whole list.now at × (weights.now ≡ weights_of (case_at list.now at)) × (vector.now ≡ vector_of (case_at list.now at)) }
+    ensures { result ≡ z2_agreed (case_at list.now at) }
 {
     let kind = byte_at(list, at);
     let sheet = field(list, at, 0);
@@ -54,7 +54,7 @@ fn answers_same(list: &[u8], at: usize, weights: &[f64], vector: &[f64]) -> bool
 
 pub fn z2_same(list: &[u8], at: usize) -> bool
     requires { Whole list.now at }
-    ensures { result ≡ z2-agreed (case_at list.now at) }
+    ensures { result ≡ z2_agreed (case_at list.now at) }
 {
     let mut weights = [0.0; ROOM_8];
     let mut vector = [0.0; ROOM_8];

@@ -2,7 +2,7 @@
 pub mod cases;
 
 ghost use Rattle.std.specs.Prelude.{◌≡◌};
-ghost use Rattle.su2_recorded.specs.Agreement.{su2-basis-agrees, su2-counted-agrees, su2-dense-agrees, su2-rows-agrees, su2-entries-agrees, su2-product-agrees, su2-loop-agrees, su2-passes-agrees};
+ghost use Rattle.su2_recorded.specs.Agreement.{su2_basis_agrees, su2_counted_agrees, su2_dense_agrees, su2_rows_agrees, su2_entries_agrees, su2_product_agrees, su2_loop_agrees, su2_passes_agrees};
 
 use matrices::coupling::KSParams;
 use recorded::same::{same_float, same_floats, same_number, same_u32s, same_u64s};
@@ -13,7 +13,7 @@ use su2_exports::{
 };
 
 pub fn su2_basis_same(sheet: &[u8], told: i64, masks: &[u8]) -> bool
-    ensures { result ≡ su2-basis-agrees sheet.now told masks.now }
+    ensures { result ≡ su2_basis_agrees sheet.now told masks.now }
 {
     let mut states = [0u64; 256];
     let answer = export_su2_basis(sheet, &mut states);
@@ -21,7 +21,7 @@ pub fn su2_basis_same(sheet: &[u8], told: i64, masks: &[u8]) -> bool
 }
 
 pub fn su2_count_states_same(sheet: &[u8], told: i64) -> bool
-    ensures { result ≡ su2-counted-agrees sheet.now told }
+    ensures { result ≡ su2_counted_agrees sheet.now told }
 {
     same_number(export_su2_count_states(sheet), told)
 }
@@ -35,7 +35,7 @@ pub fn build_su2_hamiltonian_same(
     masks: &[u8],
     matrix: &[u8],
 ) -> bool
-    ensures { result ≡ su2-dense-agrees sheet.now coupling given weights.now told masks.now matrix.now }
+    ensures { result ≡ su2_dense_agrees sheet.now coupling given weights.now told masks.now matrix.now }
 {
     let mut states = [0u64; 256];
     let mut result = [0.0; 1024];
@@ -63,7 +63,7 @@ pub fn build_csr_su2_same(
     columns: &[u8],
     values: &[u8],
 ) -> bool
-    ensures { result ≡ su2-rows-agrees sheet.now coupling given weights.now told masks.now starts.now columns.now values.now }
+    ensures { result ≡ su2_rows_agrees sheet.now coupling given weights.now told masks.now starts.now columns.now values.now }
 {
     let mut states = [0u64; 256];
     let mut row_starts = [0u32; 128];
@@ -88,7 +88,7 @@ pub fn build_csr_su2_same(
 }
 
 pub fn su2_count_entries_same(sheet: &[u8], told: i64) -> bool
-    ensures { result ≡ su2-entries-agrees sheet.now told }
+    ensures { result ≡ su2_entries_agrees sheet.now told }
 {
     same_number(export_su2_count_entries(sheet), told)
 }
@@ -103,7 +103,7 @@ pub fn su2_hamiltonian_matvec_same(
     masks: &[u8],
     product: &[u8],
 ) -> bool
-    ensures { result ≡ su2-product-agrees sheet.now coupling given weights.now vector.now told masks.now product.now }
+    ensures { result ≡ su2_product_agrees sheet.now coupling given weights.now vector.now told masks.now product.now }
 {
     let mut states = [0u64; 256];
     let mut result = [0.0; 256];
@@ -129,7 +129,7 @@ pub fn su2_wilson_loop_same(
     masks: &[u8],
     expectation: &[u8],
 ) -> bool
-    ensures { result ≡ su2-loop-agrees sheet.now vector.now path.now told masks.now expectation.now }
+    ensures { result ≡ su2_loop_agrees sheet.now vector.now path.now told masks.now expectation.now }
 {
     let mut states = [0u64; 256];
     let mut value = 0.0;
@@ -145,7 +145,7 @@ pub fn su2_wilson_passes_same(
     masks: &[u8],
     expectation: &[u8],
 ) -> bool
-    ensures { result ≡ su2-passes-agrees sheet.now vector.now path.now told masks.now expectation.now }
+    ensures { result ≡ su2_passes_agrees sheet.now vector.now path.now told masks.now expectation.now }
 {
     let mut states = [0u64; 256];
     let mut value = 0.0;

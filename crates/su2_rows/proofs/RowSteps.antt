@@ -7,18 +7,18 @@ use lib.Ieee.{Float, nan}
 use lib.ListN.{get_or, length, take}
 use Rattle.mathematics.proofs.Front.{take_next}
 use Rattle.rows.specs.Entries.{pairs}
-use Rattle.rows.specs.Row.{kept, diagonal-first}
+use Rattle.rows.specs.Row.{kept, diagonal_first}
 use Rattle.rows.specs.RowLists.{EntryPushed}
-use Rattle.rows.proofs.Pairs.{pairs-length, pairs-at}
+use Rattle.rows.proofs.Pairs.{pairs_length, pairs_at}
 
 -- the diagonal first
-pub diagonal-pushed : (i : ℕ) (x : Float) (old new : List (ℕ × Float)) (r : ℕ) → EntryPushed old 0 (i, x) (kept x) r new → take r new ≡ diagonal-first i x []
-diagonal-pushed i x old new r pushed = pushed.front ∙ sym (append-nil (cond (kept x) ((i, x) ∷ []) []))
+pub diagonal_pushed : (i : ℕ) (x : Float) (old new : List (ℕ × Float)) (r : ℕ) → EntryPushed old 0 (i, x) (kept x) r new → take r new ≡ diagonal_first i x []
+diagonal_pushed i x old new r pushed = pushed.front ∙ sym (append-nil (cond (kept x) ((i, x) ∷ []) []))
 
 module _ (flips : List ℕ) (terms : List Float) (i : ℕ) (x : Float) where
   -- then a triangle more
-  pub triangle-pushed : (old new : List (ℕ × Float)) (m t r : ℕ) → length flips ≡ length terms → t < length flips → take m old ≡ diagonal-first i x (take t (pairs flips terms))
-      → EntryPushed old m (get_or flips t 0, get_or terms t nan) true r new → take r new ≡ diagonal-first i x (take (t + 1) (pairs flips terms))
-  triangle-pushed old new m t r long inside so_far pushed =
-      let next : take (t + 1) (pairs flips terms) ≡ take t (pairs flips terms) ++ ((get_or flips t 0, get_or terms t nan) ∷ []) = take_next (pairs flips terms) t (0, nan) (rw (pairs-length flips terms long) inside) ∙ ap (λ e. take t (pairs flips terms) ++ (e ∷ [])) (pairs-at flips terms t long) in
+  pub triangle_pushed : (old new : List (ℕ × Float)) (m t r : ℕ) → length flips ≡ length terms → t < length flips → take m old ≡ diagonal_first i x (take t (pairs flips terms))
+      → EntryPushed old m (get_or flips t 0, get_or terms t nan) true r new → take r new ≡ diagonal_first i x (take (t + 1) (pairs flips terms))
+  triangle_pushed old new m t r long inside so_far pushed =
+      let next : take (t + 1) (pairs flips terms) ≡ take t (pairs flips terms) ++ ((get_or flips t 0, get_or terms t nan) ∷ []) = take_next (pairs flips terms) t (0, nan) (rw (pairs_length flips terms long) inside) ∙ ap (λ e. take t (pairs flips terms) ++ (e ∷ [])) (pairs_at flips terms t long) in
       pushed.front ∙ rw (so_far, next) (append_assoc (cond (kept x) ((i, x) ∷ []) []) (take t (pairs flips terms)) ((get_or flips t 0, get_or terms t nan) ∷ []))

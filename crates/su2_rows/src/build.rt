@@ -1,12 +1,12 @@
 // The two-valued Hamiltonian as row lists.
 ghost use Rattle.std.specs.Prelude.{◌≡◌, List, ◌++◌, ℕ, length};
 ghost use Rattle.mathematics.specs.Calls.{Answered};
-ghost use Rattle.answers.specs.Answer.{numberAnswer};
-ghost use Rattle.complex.specs.Complex.{complexOf};
+ghost use Rattle.answers.specs.Answer.{number_answer};
+ghost use Rattle.complex.specs.Complex.{complex_of};
 ghost use Rattle.matrices.specs.Weights.{weight, Weighed};
 ghost use Rattle.rows.specs.RowLists.{RowsWritten};
-ghost use Rattle.su2_even_sets.specs.EvenSets.{su2-states};
-ghost use Rattle.su2_rows.specs.Rows.{su2-row, su2-entries, su2-rows-call, RowsOf};
+ghost use Rattle.su2_even_sets.specs.EvenSets.{su2_states};
+ghost use Rattle.su2_rows.specs.Rows.{su2_row, su2_entries, su2_rows_call, RowsOf};
 
 use crate::fill::write_rows;
 use crate::tables::write_tables;
@@ -31,8 +31,8 @@ fn write_lists(
     columns: &mut [u32],
     values: &mut [f64],
 )
-    requires { RowsOf (complexOf c) f p n (length starts.old) (length columns.old) (length values.old) × Weighed (length (complexOf c).triangles) given weights.now × ((rest : List ℕ) × (states.now ≡ su2-states (complexOf c) ++ rest)) }
-    ensures { RowsWritten (su2-row (complexOf c) p (weight given weights.now)) n (su2-entries (complexOf c) p (weight given weights.now)) starts.old columns.old values.old starts.new columns.new values.new }
+    requires { RowsOf (complex_of c) f p n (length starts.old) (length columns.old) (length values.old) × Weighed (length (complex_of c).triangles) given weights.now × ((rest : List ℕ) × (states.now ≡ su2_states (complex_of c) ++ rest)) }
+    ensures { RowsWritten (su2_row (complex_of c) p (weight given weights.now)) n (su2_entries (complex_of c) p (weight given weights.now)) starts.old columns.old values.old starts.new columns.new values.new }
 {
     let mut places = [0u32; 256];
     let mut terms = [0.0f64; 256];
@@ -62,7 +62,7 @@ pub fn build_csr_su2(
     columns: &mut [u32],
     values: &mut [f64],
 ) -> Answer
-    ensures { Answered (su2-rows-call (complexOf c) p given weights.now states.old starts.old columns.old values.old) (numberAnswer result) (states.new, starts.new, columns.new, values.new) }
+    ensures { Answered (su2_rows_call (complex_of c) p given weights.now states.old starts.old columns.old values.old) (number_answer result) (states.new, starts.new, columns.new, values.new) }
 {
     let number = judge(c);
     if number != 0 {

@@ -1,7 +1,7 @@
 // All rows, one after the other.
 ghost use Rattle.std.specs.Prelude.{length};
-ghost use Rattle.rows.specs.RowLists.{rows-to, SortedWritten};
-ghost use Rattle.su2_rows.specs.Rows.{table-entries, RowsFit};
+ghost use Rattle.rows.specs.RowLists.{rows_to, SortedWritten};
+ghost use Rattle.su2_rows.specs.Rows.{table_entries, RowsFit};
 
 use crate::row::{add_row, flip_row};
 use matrices::electric::mask_energy;
@@ -20,7 +20,7 @@ pub fn write_rows(
     values: &mut [f64],
 )
     requires { RowsFit n electric states.now places.old terms.old n_triangles (length starts.old) (length columns.old) (length values.old) }
-    ensures { SortedWritten (table-entries electric states.now places.old terms.old n_triangles) n (length (rows-to (table-entries electric states.now places.old terms.old n_triangles) n)) starts.old columns.old values.old starts.new columns.new values.new }
+    ensures { SortedWritten (table_entries electric states.now places.old terms.old n_triangles) n (length (rows_to (table_entries electric states.now places.old terms.old n_triangles) n)) starts.old columns.old values.old starts.new columns.new values.new }
 {
     let mut row_columns = [0u32; 257];
     let mut row_values = [0.0f64; 257];

@@ -1,6 +1,6 @@
 // What all rows need of each triangle, found once.
 ghost use Rattle.std.specs.Prelude.{◌≤◌, length};
-ghost use Rattle.complex.specs.Complex.{complexOf};
+ghost use Rattle.complex.specs.Complex.{complex_of};
 ghost use Rattle.matrices.specs.Weights.{weight, Weighed};
 ghost use Rattle.su2_masks.specs.Place.{LoopsOf};
 ghost use Rattle.su2_rows.specs.Rows.{Tables};
@@ -22,8 +22,8 @@ pub fn write_tables(
     given: bool,
     weights: &[f64],
 )
-    requires { LoopsOf (complexOf c) f × (f.count ≤ 20) × Weighed (length (complexOf c).triangles) given weights.now × (256 ≤ length places.old) × (256 ≤ length terms.old) }
-    ensures { Tables (complexOf c) p (weight given weights.now) (length (complexOf c).triangles) places.new terms.new }
+    requires { LoopsOf (complex_of c) f × (f.count ≤ 20) × Weighed (length (complex_of c).triangles) given weights.now × (256 ≤ length places.old) × (256 ≤ length terms.old) }
+    ensures { Tables (complex_of c) p (weight given weights.now) (length (complex_of c).triangles) places.new terms.new }
 {
     let all = all_sides(c);
     for t in 0..c.n_triangles {

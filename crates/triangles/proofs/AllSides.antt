@@ -11,7 +11,7 @@ use Rattle.complex.specs.Complex.{Complex, entries}
 use Rattle.complex.specs.Sides.{sides}
 use Rattle.complex.proofs.Triangles.{three}
 use Rattle.triangles.specs.declared.Sides.{Sides}
-use Rattle.triangles.specs.Indices.{SidesOf, AllSides, with-sides}
+use Rattle.triangles.specs.Indices.{SidesOf, AllSides, with_sides}
 
 module _ (all : List ℕ) (t : ℕ) (s : Sides) where
   abbrev one : List ℕ
@@ -20,40 +20,40 @@ module _ (all : List ℕ) (t : ℕ) (s : Sides) where
   abbrev two : List ℕ
   two = set one (3 * t + 1) s.second
 
-  pub with-length : length (with-sides all t s) ≡ length all
-  with-length = length-set two (3 * t + 2) s.third ∙ length-set one (3 * t + 1) s.second ∙ length-set all (3 * t) s.first
+  pub with_length : length (with_sides all t s) ≡ length all
+  with_length = length-set two (3 * t + 2) s.third ∙ length-set one (3 * t + 1) s.second ∙ length-set all (3 * t) s.first
 
   -- entries of other triangles stay
-  entry_kept : (i : ℕ) → i ≢ 3 * t → i ≢ 3 * t + 1 → i ≢ 3 * t + 2 → get_or (with-sides all t s) i 0 ≡ get_or all i 0
+  entry_kept : (i : ℕ) → i ≢ 3 * t → i ≢ 3 * t + 1 → i ≢ 3 * t + 2 → get_or (with_sides all t s) i 0 ≡ get_or all i 0
   entry_kept i a b d = get_or-set_other two (3 * t + 2) i s.third 0 d ∙ get_or-set_other one (3 * t + 1) i s.second 0 b ∙ get_or-set_other all (3 * t) i s.first 0 a
 
-  others-kept : (k : ℕ) → k ≢ t → entries (with-sides all t s) (3 * k) 3 ≡ entries all (3 * k) 3
-  others-kept k apart =
-      three (with-sides all t s) k _ _ _ (sym (entry_kept (3 * k) (λ e. apart (omega (arith, e))) (λ e. omega (arith, e)) (λ e. omega (arith, e))))
+  others_kept : (k : ℕ) → k ≢ t → entries (with_sides all t s) (3 * k) 3 ≡ entries all (3 * k) 3
+  others_kept k apart =
+      three (with_sides all t s) k _ _ _ (sym (entry_kept (3 * k) (λ e. apart (omega (arith, e))) (λ e. omega (arith, e)) (λ e. omega (arith, e))))
       (sym (entry_kept (3 * k + 1) (λ e. omega (arith, e)) (λ e. apart (omega (arith, e))) (λ e. omega (arith, e))))
       (sym (entry_kept (3 * k + 2) (λ e. omega (arith, e)) (λ e. omega (arith, e)) (λ e. apart (omega (arith, e)))))
       ∙ sym (three all k _ _ _ refl refl refl)
 
   module _ (long : 3 * t + 2 < length all) where
-    own-written : entries (with-sides all t s) (3 * t) 3 ≡ s.first ∷ s.second ∷ s.third ∷ []
-    own-written =
+    own_written : entries (with_sides all t s) (3 * t) 3 ≡ s.first ∷ s.second ∷ s.third ∷ []
+    own_written =
         let first : 3 * t < length all = omega arith in
         let second : 3 * t + 1 < length one = omega (arith, length-set all (3 * t) s.first) in
         let third : 3 * t + 2 < length two = omega (arith, length-set one (3 * t + 1) s.second, length-set all (3 * t) s.first) in
-        three (with-sides all t s) t _ _ _
+        three (with_sides all t s) t _ _ _
         (sym (get_or-set_other two (3 * t + 2) (3 * t) s.third 0 (λ e. omega (arith, e)) ∙ get_or-set_other one (3 * t + 1) (3 * t) s.second 0 (λ e. omega (arith, e)) ∙ get_or-set_same all (3 * t) s.first 0 first))
         (sym (get_or-set_other two (3 * t + 2) (3 * t + 1) s.third 0 (λ e. omega (arith, e)) ∙ get_or-set_same one (3 * t + 1) s.second 0 second))
         (sym (get_or-set_same two (3 * t + 2) s.third 0 third))
 
     -- the edges of one triangle more stand in the list
-    pub sides-more : (c : Complex) → ((k : ℕ) → k < t → sides c k ≡ entries all (3 * k) 3) → sides c t ≡ s.first ∷ s.second ∷ s.third ∷ []
-        → (k : ℕ) → k < t + 1 → sides c k ≡ entries (with-sides all t s) (3 * k) 3
-    sides-more c so_far is k h = go (ℕ_discrete k t)
+    pub sides_more : (c : Complex) → ((k : ℕ) → k < t → sides c k ≡ entries all (3 * k) 3) → sides c t ≡ s.first ∷ s.second ∷ s.third ∷ []
+        → (k : ℕ) → k < t + 1 → sides c k ≡ entries (with_sides all t s) (3 * k) 3
+    sides_more c so_far is k h = go (ℕ_discrete k t)
       where
-        go : Dec (k ≡ t) → sides c k ≡ entries (with-sides all t s) (3 * k) 3
-        go (yes e) = rw e (is ∙ sym own-written)
-        go (no e) = so_far k (omega arith) ∙ sym (others-kept k e)
+        go : Dec (k ≡ t) → sides c k ≡ entries (with_sides all t s) (3 * k) 3
+        go (yes e) = rw e (is ∙ sym own_written)
+        go (no e) = so_far k (omega arith) ∙ sym (others_kept k e)
 
 -- the edges that stand at the places of a triangle are its own
-pub own-sides : (c : Complex) (all : List ℕ) → AllSides c all → (t : ℕ) (s : Sides) → t < length c.triangles → entries all (3 * t) 3 ≡ s.first ∷ s.second ∷ s.third ∷ [] → SidesOf c t s
-own-sides c all of t s number e = record { number = number; are = of.are t number ∙ e }
+pub own_sides : (c : Complex) (all : List ℕ) → AllSides c all → (t : ℕ) (s : Sides) → t < length c.triangles → entries all (3 * t) 3 ≡ s.first ∷ s.second ∷ s.third ∷ [] → SidesOf c t s
+own_sides c all of t s number e = record { number = number; are = of.are t number ∙ e }

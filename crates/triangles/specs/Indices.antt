@@ -7,22 +7,22 @@ use Rattle.triangles.specs.declared.TriEdgeIndices.{TriEdgeIndices}
 use Rattle.triangles.specs.declared.TriEdgeIndices.TheVariants.{Indices, Refused}
 use Rattle.triangles.specs.declared.Sides.{Sides}
 use Rattle.complex.specs.Complex.{Simplex, Complex, start, end, entries}
-use Rattle.complex.specs.Judge.{complex-tests}
+use Rattle.complex.specs.Judge.{complex_tests}
 use Rattle.complex.specs.Sides.{sides}
 
 -- what an answer says
-unfoldable pub indicesAnswer : TriEdgeIndices → Outcome (List ℕ)
-indicesAnswer (Indices i j k) = value (i ∷ j ∷ k ∷ [])
-indicesAnswer (Refused n) = refused n
+unfoldable pub indices_answer : TriEdgeIndices → Outcome (List ℕ)
+indices_answer (Indices i j k) = value (i ∷ j ∷ k ∷ [])
+indices_answer (Refused n) = refused n
 
 -- 4, 7 to 9, then 13 for a number that is no triangle's
-abbrev pub indices-tests : Complex → ℕ → List (ℕ × Bool)
-indices-tests c t =
-    complex-tests c ++ ((13, leb (length c.triangles) t) ∷ [])
+abbrev pub indices_tests : Complex → ℕ → List (ℕ × Bool)
+indices_tests c t =
+    complex_tests c ++ ((13, leb (length c.triangles) t) ∷ [])
 
 -- tri_edge_indices: the numbers of the triangle's three edges are told. It writes no list.
-unfoldable pub indices-call : Complex → ℕ → Call (List ℕ) NoneLent
-indices-call c t = record { tests = indices-tests c t; value = sides c t; before = none_lent; after = none_lent; known = Unit {0} }
+unfoldable pub indices_call : Complex → ℕ → Call (List ℕ) NoneLent
+indices_call c t = record { tests = indices_tests c t; value = sides c t; before = none_lent; after = none_lent; known = Unit {0} }
 
 -- ---- as the code keeps it
 -- the three edges of triangle t
@@ -35,20 +35,20 @@ pub record AllSides (c : Complex) (all : List ℕ) : Type 0 where
   pub are : (t : ℕ) → t < length c.triangles → sides c t ≡ entries all (3 * t) 3
 
 -- a list with three edges at the places of triangle t
-abbrev pub with-sides : List ℕ → ℕ → Sides → List ℕ
-with-sides all t s = set (set (set all (3 * t) s.first) (3 * t + 1) s.second) (3 * t + 2) s.third
+abbrev pub with_sides : List ℕ → ℕ → Sides → List ℕ
+with_sides all t s = set (set (set all (3 * t) s.first) (3 * t + 1) s.second) (3 * t + 2) s.third
 
 -- the vertices of a triangle are below 64, and the table has a number for each of its edges
 pub record Sided (table : List ℕ) (s : Simplex) : Type 0 where
   pub a_small : start s < 64
-  pub b-small : end s < 64
-  pub c-small : get_or s 2 0 < 64
+  pub b_small : end s < 64
+  pub c_small : get_or s 2 0 < 64
   pub ab : 1 ≤ get_or table (64 * start s + end s) 0
   pub ac : 1 ≤ get_or table (64 * start s + get_or s 2 0) 0
   pub bc : 1 ≤ get_or table (64 * end s + get_or s 2 0) 0
 
-unfoldable pub sidesIn : List ℕ → Simplex → Sides
-sidesIn table s =
+unfoldable pub sides_in : List ℕ → Simplex → Sides
+sides_in table s =
     record {
       first = get_or table (64 * start s + end s) 0 - 1;
       second = get_or table (64 * start s + get_or s 2 0) 0 - 1;

@@ -1,11 +1,11 @@
 // The edges of a triangle.
 ghost use Rattle.std.specs.Prelude.{◌≡◌, [], ◌∷◌, ◌*◌, ◌<◌};
-ghost use Rattle.complex.specs.Complex.{entries, complexOf};
+ghost use Rattle.complex.specs.Complex.{entries, complex_of};
 ghost use Rattle.complex.specs.Judge.{refusal};
 ghost use Rattle.complex.specs.Numbering.{EdgeTable};
 ghost use Rattle.complex.specs.Sides.{sides};
 ghost use Rattle.mathematics.specs.Calls.{Answered, none_lent};
-ghost use Rattle.triangles.specs.Indices.{indicesAnswer, indices-call, AllSides, Sided, sidesIn, with-sides};
+ghost use Rattle.triangles.specs.Indices.{indices_answer, indices_call, AllSides, Sided, sides_in, with_sides};
 
 use acceptance::{edge_number, index_edges, judge_indexed};
 use complex::SimplicialComplex;
@@ -22,7 +22,7 @@ pub struct Sides {
 // The edges of triangle t by the index of the edges.
 pub fn sides_of(triangles: &[u8; 768], table: &[u8; 4096], t: usize) -> Sides
     requires { (t < 256) × Sided table.now (entries triangles.now (3 * t) 3) }
-    ensures { result ≡ sidesIn table.now (entries triangles.now (3 * t) 3) }
+    ensures { result ≡ sides_in table.now (entries triangles.now (3 * t) 3) }
 {
     let a = byte(triangles[3 * t]);
     let b = byte(triangles[3 * t + 1]);
@@ -36,8 +36,8 @@ pub fn sides_of(triangles: &[u8; 768], table: &[u8; 4096], t: usize) -> Sides
 
 // The index of the edges of an accepted record.
 fn edge_table(c: SimplicialComplex) -> [u8; 4096]
-    requires { refusal (complexOf c) ≡ 0 }
-    ensures { EdgeTable result (complexOf c).edges }
+    requires { refusal (complex_of c) ≡ 0 }
+    ensures { EdgeTable result (complex_of c).edges }
 {
     let mut table = [0u8; 4096];
     index_edges(&c.edges, c.n_edges, &mut table);
@@ -46,8 +46,8 @@ fn edge_table(c: SimplicialComplex) -> [u8; 4096]
 
 // The edges of a triangle of an accepted record, which is not judged again.
 pub fn triangle_sides(c: SimplicialComplex, triangle: usize) -> Sides
-    requires { (refusal (complexOf c) ≡ 0) × (triangle < c.n_triangles) }
-    ensures { sides (complexOf c) triangle ≡ result.first ∷ result.second ∷ result.third ∷ [] }
+    requires { (refusal (complex_of c) ≡ 0) × (triangle < c.n_triangles) }
+    ensures { sides (complex_of c) triangle ≡ result.first ∷ result.second ∷ result.third ∷ [] }
 {
     let table = edge_table(c);
     sides_of(&c.triangles, &table, triangle)
@@ -56,7 +56,7 @@ pub fn triangle_sides(c: SimplicialComplex, triangle: usize) -> Sides
 // The edges of triangle t go to its places in a list.
 fn write_sides(all: &mut [u8; 768], t: usize, s: Sides)
     requires { (t < 256) × (s.first < 256) × (s.second < 256) × (s.third < 256) }
-    ensures { all.new ≡ with-sides all.old t s }
+    ensures { all.new ≡ with_sides all.old t s }
 {
     all[3 * t] = s.first as u8;
     all[3 * t + 1] = s.second as u8;
@@ -65,8 +65,8 @@ fn write_sides(all: &mut [u8; 768], t: usize, s: Sides)
 
 // The edges of all triangles of an accepted record, which is not judged again: those of triangle t from place 3t on.
 pub fn all_sides(c: SimplicialComplex) -> [u8; 768]
-    requires { refusal (complexOf c) ≡ 0 }
-    ensures { AllSides (complexOf c) result }
+    requires { refusal (complex_of c) ≡ 0 }
+    ensures { AllSides (complex_of c) result }
 {
     let table = edge_table(c);
     let mut all = [0u8; 768];
@@ -96,7 +96,7 @@ pub enum TriEdgeIndices {
 
 // The edges of a triangle of a record, which is judged first.
 pub fn tri_edge_indices(c: SimplicialComplex, triangle: usize) -> TriEdgeIndices
-    ensures { Answered (indices-call (complexOf c) triangle) (indicesAnswer result) none_lent }
+    ensures { Answered (indices_call (complex_of c) triangle) (indices_answer result) none_lent }
 {
     let mut table = [0u8; 4096];
     let number = judge_indexed(c, &mut table);

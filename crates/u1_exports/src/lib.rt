@@ -1,19 +1,19 @@
 // What the exported functions of U(1) do.
 ghost use Rattle.std.specs.Prelude.{◌≡◌};
 ghost use Rattle.mathematics.specs.Calls.{none_lent};
-ghost use Rattle.law_check.specs.Law.{lawAnswer, law-call};
-ghost use Rattle.enumeration.specs.Enumeration.{enumerated-call, counted-call};
-ghost use Rattle.hilbert.specs.Index.{indexAnswer, index-call};
-ghost use Rattle.shifts.specs.Shift.{shift-call};
-ghost use Rattle.matrices.specs.Coupling.{coupling-call, u1-params};
-ghost use Rattle.plaquettes.specs.Triangle.{triangle-call};
-ghost use Rattle.hamiltonian.specs.Dense.{u1-dense-call};
-ghost use Rattle.csr.specs.Csr.{csr-call};
-ghost use Rattle.entries.specs.Entries.{entries-call};
-ghost use Rattle.lanczos.specs.Matvec.{u1-product-call};
-ghost use Rattle.electric.specs.Electric.{electric-call};
-ghost use Rattle.wilson.specs.Wilson.{wilson-call};
-ghost use Rattle.exports.specs.Exports.{toldOf, yes_of, on-sheet, as_number, stored, value_lent, three_floats, Exported};
+ghost use Rattle.law_check.specs.Law.{law_answer, law_call};
+ghost use Rattle.enumeration.specs.Enumeration.{enumerated_call, counted_call};
+ghost use Rattle.hilbert.specs.Index.{index_answer, index_call};
+ghost use Rattle.shifts.specs.Shift.{shift_call};
+ghost use Rattle.matrices.specs.Coupling.{coupling_call, u1_params};
+ghost use Rattle.plaquettes.specs.Triangle.{triangle_call};
+ghost use Rattle.hamiltonian.specs.Dense.{u1_dense_call};
+ghost use Rattle.csr.specs.Csr.{csr_call};
+ghost use Rattle.entries.specs.Entries.{entries_call};
+ghost use Rattle.lanczos.specs.Matvec.{u1_product_call};
+ghost use Rattle.electric.specs.Electric.{electric_call};
+ghost use Rattle.wilson.specs.Wilson.{wilson_call};
+ghost use Rattle.exports.specs.Exports.{outcome_told, yes_of, on_sheet, as_number, stored, value_lent, three_floats, Exported};
 
 use csr::build::build_csr;
 use electric::electric_field_sq;
@@ -31,7 +31,7 @@ use shifts::apply_shift;
 use wilson::wilson_loop;
 
 fn told_law(answer: GaussCheck) -> Told
-    ensures { result ≡ toldOf (yes_of (lawAnswer answer)) }
+    ensures { result ≡ outcome_told (yes_of (law_answer answer)) }
 {
     match answer {
         GaussCheck::Answer(yes) => Told {
@@ -46,7 +46,7 @@ fn told_law(answer: GaussCheck) -> Told
 }
 
 fn told_index(answer: Index) -> Told
-    ensures { result ≡ toldOf (indexAnswer answer) }
+    ensures { result ≡ outcome_told (index_answer answer) }
 {
     match answer {
         Index::Place(place) => Told {
@@ -66,7 +66,7 @@ fn told_index(answer: Index) -> Told
 
 // Whether a configuration obeys Gauss's law on a sheet's complex: 1 or 0.
 pub fn export_check_gauss_law(sheet: &[u8], configuration: &[i32]) -> i64
-    ensures { Exported (on-sheet sheet.now (λ c L. as_number (law-call c configuration.now))) result none_lent }
+    ensures { Exported (on_sheet sheet.now (λ c L. as_number (law_call c configuration.now))) result none_lent }
 {
     let opened = open(sheet);
     let number = opened.refusal;
@@ -79,7 +79,7 @@ pub fn export_check_gauss_law(sheet: &[u8], configuration: &[i32]) -> i64
 
 // All states of a sheet: their number.
 pub fn export_enumerate_gauge_invariant(sheet: &[u8], states: &mut [i32]) -> i64
-    ensures { Exported (on-sheet sheet.now (λ c L. enumerated-call c L states.old)) result states.new }
+    ensures { Exported (on_sheet sheet.now (λ c L. enumerated_call c L states.old)) result states.new }
 {
     let opened = open(sheet);
     let number = opened.refusal;
@@ -92,7 +92,7 @@ pub fn export_enumerate_gauge_invariant(sheet: &[u8], states: &mut [i32]) -> i64
 
 // The place of a configuration among the states of a sheet.
 pub fn export_config_to_index(sheet: &[u8], configuration: &[i32], states: &mut [i32]) -> i64
-    ensures { Exported (on-sheet sheet.now (λ c L. index-call c L configuration.now states.old)) result states.new }
+    ensures { Exported (on_sheet sheet.now (λ c L. index_call c L configuration.now states.old)) result states.new }
 {
     let opened = open(sheet);
     let number = opened.refusal;
@@ -112,7 +112,7 @@ pub fn export_apply_shift(
     states: &mut [i32],
     res: &mut [i32],
 ) -> i64
-    ensures { Exported (on-sheet sheet.now (λ c L. shift-call c L configuration.now edge delta states.old res.old)) result (states.new, res.new) }
+    ensures { Exported (on_sheet sheet.now (λ c L. shift_call c L configuration.now edge delta states.old res.old)) result (states.new, res.new) }
 {
     let opened = open(sheet);
     let number = opened.refusal;
@@ -139,7 +139,7 @@ pub fn export_apply_triangle_shift(
     state: u64,
     states: &mut [i32],
 ) -> i64
-    ensures { Exported (on-sheet sheet.now (λ c L. triangle-call c L triangle state states.old)) result states.new }
+    ensures { Exported (on_sheet sheet.now (λ c L. triangle_call c L triangle state states.old)) result states.new }
 {
     let opened = open(sheet);
     let number = opened.refusal;
@@ -159,7 +159,7 @@ pub fn export_apply_triangle_shift(
 
 // g² and the factors of U(1): 0.
 pub fn export_u1_params(g_squared: f64, params: &mut [f64; 3]) -> i64
-    ensures { Exported (stored (coupling-call g_squared (u1-params g_squared)) three_floats params.old) result params.new }
+    ensures { Exported (stored (coupling_call g_squared (u1_params g_squared)) three_floats params.old) result params.new }
 {
     store(KSParams::u1(g_squared), params)
 }
@@ -175,7 +175,7 @@ pub fn export_build_hamiltonian(
     states: &mut [i32],
     res: &mut [f64],
 ) -> i64
-    ensures { Exported (on-sheet sheet.now (λ c L. u1-dense-call c L (record { g_squared = g_squared; electric = electric; magnetic = magnetic }) given weights.now states.old res.old)) result (states.new, res.new) }
+    ensures { Exported (on_sheet sheet.now (λ c L. u1_dense_call c L (record { g_squared = g_squared; electric = electric; magnetic = magnetic }) given weights.now states.old res.old)) result (states.new, res.new) }
 {
     let opened = open(sheet);
     let number = opened.refusal;
@@ -205,7 +205,7 @@ pub fn export_build_csr(
     columns: &mut [u32],
     values: &mut [f64],
 ) -> i64
-    ensures { Exported (on-sheet sheet.now (λ c L. csr-call c L (record { g_squared = g_squared; electric = electric; magnetic = magnetic }) given weights.now states.old starts.old columns.old values.old)) result (states.new, starts.new, columns.new, values.new) }
+    ensures { Exported (on_sheet sheet.now (λ c L. csr_call c L (record { g_squared = g_squared; electric = electric; magnetic = magnetic }) given weights.now states.old starts.old columns.old values.old)) result (states.new, starts.new, columns.new, values.new) }
 {
     let opened = open(sheet);
     let number = opened.refusal;
@@ -226,7 +226,7 @@ pub fn export_build_csr(
 
 // How many states a sheet has.
 pub fn export_count_states(sheet: &[u8]) -> i64
-    ensures { Exported (on-sheet sheet.now (λ c L. counted-call c L)) result none_lent }
+    ensures { Exported (on_sheet sheet.now (λ c L. counted_call c L)) result none_lent }
 {
     let opened = open(sheet);
     let number = opened.refusal;
@@ -239,7 +239,7 @@ pub fn export_count_states(sheet: &[u8]) -> i64
 
 // How many entries the row lists of a sheet have.
 pub fn export_count_entries(sheet: &[u8]) -> i64
-    ensures { Exported (on-sheet sheet.now (λ c L. entries-call c L)) result none_lent }
+    ensures { Exported (on_sheet sheet.now (λ c L. entries_call c L)) result none_lent }
 {
     let opened = open(sheet);
     let number = opened.refusal;
@@ -262,7 +262,7 @@ pub fn export_hamiltonian_matvec(
     states: &mut [i32],
     res: &mut [f64],
 ) -> i64
-    ensures { Exported (on-sheet sheet.now (λ c L. u1-product-call c L (record { g_squared = g_squared; electric = electric; magnetic = magnetic }) given weights.now vector.now states.old res.old)) result (states.new, res.new) }
+    ensures { Exported (on_sheet sheet.now (λ c L. u1_product_call c L (record { g_squared = g_squared; electric = electric; magnetic = magnetic }) given weights.now vector.now states.old res.old)) result (states.new, res.new) }
 {
     let opened = open(sheet);
     let number = opened.refusal;
@@ -286,7 +286,7 @@ pub fn export_electric_field_sq(
     states: &mut [i32],
     res: &mut [f64],
 ) -> i64
-    ensures { Exported (on-sheet sheet.now (λ c L. electric-call c L amplitudes.now states.old res.old)) result (states.new, res.new) }
+    ensures { Exported (on_sheet sheet.now (λ c L. electric_call c L amplitudes.now states.old res.old)) result (states.new, res.new) }
 {
     let opened = open(sheet);
     let number = opened.refusal;
@@ -306,7 +306,7 @@ pub fn export_wilson_loop(
     states: &mut [i32],
     expectation: &mut f64,
 ) -> i64
-    ensures { Exported (on-sheet sheet.now (λ c L. value_lent (wilson-call c L amplitudes.now edges.now directions.now states.old) expectation.old)) result (states.new, expectation.new) }
+    ensures { Exported (on_sheet sheet.now (λ c L. value_lent (wilson_call c L amplitudes.now edges.now directions.now states.old) expectation.old)) result (states.new, expectation.new) }
 {
     let opened = open(sheet);
     let number = opened.refusal;

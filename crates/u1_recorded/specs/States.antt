@@ -1,20 +1,20 @@
 -- The law and the states of a sheet, held against what was recorded.
 use Rattle.std.specs.Prelude.{ℕ, List, Bool, ℤ}
-use Rattle.exports.specs.Exports.{on-sheet, as_number}
-use Rattle.law_check.specs.Law.{law-call}
-use Rattle.enumeration.specs.Enumeration.{enumerated-call, counted-call}
-use Rattle.recorded.specs.Bytes.{holds-i32s}
+use Rattle.exports.specs.Exports.{on_sheet, as_number}
+use Rattle.law_check.specs.Law.{law_call}
+use Rattle.enumeration.specs.Enumeration.{enumerated_call, counted_call}
+use Rattle.recorded.specs.Bytes.{holds_i32s}
 use Rattle.recorded.specs.Answers.{tells, agrees}
-use Rattle.u1_recorded.specs.Room.{states-room}
+use Rattle.u1_recorded.specs.Room.{states_room}
 
 -- check_gauss_law
-unfoldable pub law-agrees : List ℕ → List ℤ → ℤ → Bool
-law-agrees sheet s told = tells (on-sheet sheet (λ c L. as_number (law-call c s))) told
+unfoldable pub law_agrees : List ℕ → List ℤ → ℤ → Bool
+law_agrees sheet s told = tells (on_sheet sheet (λ c L. as_number (law_call c s))) told
 
 -- enumerate_gauge_invariant
-unfoldable pub enumerated-agrees : List ℕ → ℤ → List ℕ → Bool
-enumerated-agrees sheet told states = agrees (on-sheet sheet (λ c L. enumerated-call c L states-room)) told (λ l. holds-i32s l states)
+unfoldable pub enumerated_agrees : List ℕ → ℤ → List ℕ → Bool
+enumerated_agrees sheet told states = agrees (on_sheet sheet (λ c L. enumerated_call c L states_room)) told (λ l. holds_i32s l states)
 
 -- count_states
-unfoldable pub counted-agrees : List ℕ → ℤ → Bool
-counted-agrees sheet told = tells (on-sheet sheet (λ c L. counted-call c L)) told
+unfoldable pub counted_agrees : List ℕ → ℤ → Bool
+counted_agrees sheet told = tells (on_sheet sheet (λ c L. counted_call c L)) told

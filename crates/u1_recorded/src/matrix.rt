@@ -1,6 +1,6 @@
 // The Hamiltonian of a sheet.
 ghost use Rattle.std.specs.Prelude.{◌≡◌};
-ghost use Rattle.u1_recorded.specs.Matrix.{dense-agrees, csr-agrees, entries-agrees};
+ghost use Rattle.u1_recorded.specs.Matrix.{dense_agrees, csr_agrees, entries_agrees};
 
 use crate::room::{MATRIX_ENTRIES, STARTS, STATE_ENTRIES};
 use matrices::coupling::KSParams;
@@ -16,7 +16,7 @@ pub fn build_hamiltonian_same(
     states: &[u8],
     values: &[u8],
 ) -> bool
-    ensures { result ≡ dense-agrees sheet.now coupling given weights.now told states.now values.now }
+    ensures { result ≡ dense_agrees sheet.now coupling given weights.now told states.now values.now }
 {
     let mut made_states = [0i32; STATE_ENTRIES];
     let mut made_values = [0.0f64; MATRIX_ENTRIES];
@@ -45,7 +45,7 @@ pub fn build_csr_same(
     columns: &[u8],
     values: &[u8],
 ) -> bool
-    ensures { result ≡ csr-agrees sheet.now coupling given weights.now told states.now starts.now columns.now values.now }
+    ensures { result ≡ csr_agrees sheet.now coupling given weights.now told states.now starts.now columns.now values.now }
 {
     let mut made_states = [0i32; STATE_ENTRIES];
     let mut made_starts = [0u32; STARTS];
@@ -70,7 +70,7 @@ pub fn build_csr_same(
 }
 
 pub fn count_entries_same(sheet: &[u8], told: i64) -> bool
-    ensures { result ≡ entries-agrees sheet.now told }
+    ensures { result ≡ entries_agrees sheet.now told }
 {
     same_number(export_count_entries(sheet), told)
 }

@@ -1,8 +1,8 @@
 // The calls on matrices, products and expectations of U(1) in a case, held against its answers.
 ghost use Rattle.std.specs.Prelude.{◌≡◌};
 ghost use Rattle.recorded_fields.specs.Layout.{case_at, Whole};
-ghost use Rattle.recorded_fields.specs.Inputs.{weights-of, vector-of, directions-of};
-ghost use Rattle.u1_recorded.specs.Cases.{matrices-agreed};
+ghost use Rattle.recorded_fields.specs.Inputs.{weights_of, vector_of, directions_of};
+ghost use Rattle.u1_recorded.specs.Cases.{matrices_agreed};
 
 use crate::matrix::{build_csr_same, build_hamiltonian_same, count_entries_same};
 use crate::products::{electric_field_sq_same, hamiltonian_matvec_same, wilson_loop_same};
@@ -12,8 +12,8 @@ use recorded_fields::inputs::{ROOM_1, ROOM_8, coupling, given, told};
 
 // The weights, the vector and the directions of the case are read already.
 fn answers_same(list: &[u8], at: usize, weights: &[f64], vector: &[f64], directions: &[i8]) -> bool
-    requires { Whole list.now at × (weights.now ≡ weights-of (case_at list.now at)) × (vector.now ≡ vector-of (case_at list.now at)) × (directions.now ≡ directions-of (case_at list.now at)) }
-    ensures { result ≡ matrices-agreed (case_at list.now at) }
+    requires { Whole list.now at × (weights.now ≡ weights_of (case_at list.now at)) × (vector.now ≡ vector_of (case_at list.now at)) × (directions.now ≡ directions_of (case_at list.now at)) }
+    ensures { result ≡ matrices_agreed (case_at list.now at) }
 {
     let kind = byte_at(list, at);
     let sheet = field(list, at, 0);
@@ -50,7 +50,7 @@ fn answers_same(list: &[u8], at: usize, weights: &[f64], vector: &[f64], directi
 
 pub fn matrices_same(list: &[u8], at: usize) -> bool
     requires { Whole list.now at }
-    ensures { result ≡ matrices-agreed (case_at list.now at) }
+    ensures { result ≡ matrices_agreed (case_at list.now at) }
 {
     let mut weights = [0.0; ROOM_8];
     let mut vector = [0.0; ROOM_8];

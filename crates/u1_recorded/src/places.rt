@@ -1,6 +1,6 @@
 // Places of configurations and of shifted states.
 ghost use Rattle.std.specs.Prelude.{◌≡◌};
-ghost use Rattle.u1_recorded.specs.Places.{index_agrees, shift-agrees, triangle-agrees};
+ghost use Rattle.u1_recorded.specs.Places.{index_agrees, shift_agrees, triangle_agrees};
 
 use crate::room::STATE_ENTRIES;
 use numbers::sizes::MOST_EDGES;
@@ -24,7 +24,7 @@ pub fn apply_shift_same(
     states: &[u8],
     shifted: &[u8],
 ) -> bool
-    ensures { result ≡ shift-agrees sheet.now configuration.now edge delta told states.now shifted.now }
+    ensures { result ≡ shift_agrees sheet.now configuration.now edge delta told states.now shifted.now }
 {
     let mut made_states = [0i32; STATE_ENTRIES];
     let mut made_shifted = [0i32; MOST_EDGES];
@@ -47,7 +47,7 @@ pub fn apply_triangle_shift_same(
     told: i64,
     states: &[u8],
 ) -> bool
-    ensures { result ≡ triangle-agrees sheet.now triangle state told states.now }
+    ensures { result ≡ triangle_agrees sheet.now triangle state told states.now }
 {
     let mut made_states = [0i32; STATE_ENTRIES];
     let answer = export_apply_triangle_shift(sheet, triangle, state, &mut made_states);

@@ -1,6 +1,6 @@
 // The product of a sheet's Hamiltonian with a vector, and the expectations in a state.
 ghost use Rattle.std.specs.Prelude.{◌≡◌};
-ghost use Rattle.u1_recorded.specs.Products.{product-agrees, electric-agrees, wilson-agrees};
+ghost use Rattle.u1_recorded.specs.Products.{product_agrees, electric_agrees, wilson_agrees};
 
 use crate::room::{RESULT, STATE_ENTRIES};
 use matrices::coupling::KSParams;
@@ -17,7 +17,7 @@ pub fn hamiltonian_matvec_same(
     states: &[u8],
     values: &[u8],
 ) -> bool
-    ensures { result ≡ product-agrees sheet.now coupling given weights.now vector.now told states.now values.now }
+    ensures { result ≡ product_agrees sheet.now coupling given weights.now vector.now told states.now values.now }
 {
     let mut made_states = [0i32; STATE_ENTRIES];
     let mut made_values = [0.0f64; RESULT];
@@ -43,7 +43,7 @@ pub fn electric_field_sq_same(
     states: &[u8],
     values: &[u8],
 ) -> bool
-    ensures { result ≡ electric-agrees sheet.now amplitudes.now told states.now values.now }
+    ensures { result ≡ electric_agrees sheet.now amplitudes.now told states.now values.now }
 {
     let mut made_states = [0i32; STATE_ENTRIES];
     let mut made_values = [0.0f64; RESULT];
@@ -61,7 +61,7 @@ pub fn wilson_loop_same(
     states: &[u8],
     values: &[u8],
 ) -> bool
-    ensures { result ≡ wilson-agrees sheet.now amplitudes.now edges.now directions.now told states.now values.now }
+    ensures { result ≡ wilson_agrees sheet.now amplitudes.now edges.now directions.now told states.now values.now }
 {
     let mut made_states = [0i32; STATE_ENTRIES];
     let mut expectation = 0.0;

@@ -1,8 +1,8 @@
 // The calls on the states of U(1) and their places in a case, held against its answers.
 ghost use Rattle.std.specs.Prelude.{◌≡◌};
 ghost use Rattle.recorded_fields.specs.Layout.{case_at, Whole};
-ghost use Rattle.recorded_fields.specs.Inputs.{configuration-of};
-ghost use Rattle.u1_recorded.specs.Cases.{states-agreed};
+ghost use Rattle.recorded_fields.specs.Inputs.{configuration_of};
+ghost use Rattle.u1_recorded.specs.Cases.{states_agreed};
 
 use crate::places::{apply_shift_same, apply_triangle_shift_same, config_to_index_same};
 use crate::states::{check_gauss_law_same, count_states_same, enumerate_gauge_invariant_same};
@@ -12,8 +12,8 @@ use recorded_fields::inputs::{ROOM_4, delta, number, told};
 
 // The configuration of the case is read already.
 fn answers_same(list: &[u8], at: usize, configuration: &[i32]) -> bool
-    requires { Whole list.now at × (configuration.now ≡ configuration-of (case_at list.now at)) }
-    ensures { result ≡ states-agreed (case_at list.now at) }
+    requires { Whole list.now at × (configuration.now ≡ configuration_of (case_at list.now at)) }
+    ensures { result ≡ states_agreed (case_at list.now at) }
 {
     let kind = byte_at(list, at);
     let sheet = field(list, at, 0);
@@ -45,7 +45,7 @@ fn answers_same(list: &[u8], at: usize, configuration: &[i32]) -> bool
 
 pub fn states_same(list: &[u8], at: usize) -> bool
     requires { Whole list.now at }
-    ensures { result ≡ states-agreed (case_at list.now at) }
+    ensures { result ≡ states_agreed (case_at list.now at) }
 {
     let mut configuration = [0i32; ROOM_4];
     let n = i32s(field(list, at, 2), &mut configuration);

@@ -9,30 +9,30 @@ use lib.Dec.{leb}
 use lib.IntN.{ℤ, pos, nat_abs}
 use lib.ListN.{get_or, length, get_or-eq_default}
 use borrow.Author.Tests.{leb-true}
-use Rattle.mathematics.proofs.Tests.{all-at}
+use Rattle.mathematics.proofs.Tests.{all_at}
 use Rattle.mathematics.specs.Entries.{Each}
-use Rattle.mathematics.proofs.Ordered.{keep-passes, each_at}
-use Rattle.cycles.specs.Cycles.{with-cycle}
-use Rattle.walker.specs.Walker.{block-rows, block}
+use Rattle.mathematics.proofs.Ordered.{keep_passes, each_at}
+use Rattle.cycles.specs.Cycles.{with_cycle}
+use Rattle.walker.specs.Walker.{block_rows, block}
 use Rattle.walker.specs.Steps.{Small}
 use Rattle.walker.proofs.Candidates.{within}
-use Rattle.walker.proofs.Interval.{block-kept}
-use Rattle.walker.proofs.BlockRows.{rows_at, rows-length}
+use Rattle.walker.proofs.Interval.{block_kept}
+use Rattle.walker.proofs.BlockRows.{rows_at, rows_length}
 
-within-small : (L : ℕ) (s : List ℤ) → within L s ≡ true → Small L s
+within_small : (L : ℕ) (s : List ℤ) → within L s ≡ true → Small L s
 unfolding within
-within-small L s h e = go (dec_lt e (length s))
+within_small L s h e = go (dec_lt e (length s))
   where
     go : Dec (e < length s) → nat_abs (get_or s e (pos 0)) ≤ L
-    go (yes k) = leb-true _ L (all-at (λ x. leb (nat_abs x) L) (pos 0) s h e k)
+    go (yes k) = leb-true _ L (all_at (λ x. leb (nat_abs x) L) (pos 0) s h e k)
     go (no k) = rw (get_or-eq_default s (pos 0) {n = e} (omega arith)) (omega arith)
 
-module _ (L n : ℕ) (s z : List ℤ) (signs : Small 1 z) (long : length z ≡ length s) (from to : ℕ) (is : block-rows s z from to ≡ block L n s z) where
-  rows_pass : Each (λ t. within L t ≡ true) (block-rows s z from to)
-  rows_pass = rw (is, ← (block-kept L n s z signs long)) (keep-passes (within L) _)
+module _ (L n : ℕ) (s z : List ℤ) (signs : Small 1 z) (long : length z ≡ length s) (from to : ℕ) (is : block_rows s z from to ≡ block L n s z) where
+  rows_pass : Each (λ t. within L t ≡ true) (block_rows s z from to)
+  rows_pass = rw (is, ← (block_kept L n s z signs long)) (keep_passes (within L) _)
 
-  pub row_small : (d : ℕ) → from ≤ d → d < to → Small L (with-cycle s (pos d) z)
+  pub row_small : (d : ℕ) → from ≤ d → d < to → Small L (with_cycle s (pos d) z)
   row_small d h k =
-      let inside : d - from < length (block-rows s z from to) = omega (arith, rows-length s z from to) in
+      let inside : d - from < length (block_rows s z from to) = omega (arith, rows_length s z from to) in
       let e : from + (d - from) ≡ d = omega arith in
-      within-small L (with-cycle s (pos d) z) (rw (rows_at s z from to (d - from) (omega arith), e) at (each_at [] rows_pass (d - from) inside))
+      within_small L (with_cycle s (pos d) z) (rw (rows_at s z from to (d - from) (omega arith), e) at (each_at [] rows_pass (d - from) inside))

@@ -12,131 +12,131 @@ use lib.ListN.{get_or, length}
 use borrow.Author.Tests.{leb-true, ltb-true, le-leb, lt-leb, lt-ltb}
 use Rattle.mathematics.specs.Integers.{equal}
 use Rattle.mathematics.specs.Counting.{below, keep}
-use Rattle.mathematics.proofs.Tests.{and_parts, and_both, same_tests, all-at, at_all}
-use Rattle.mathematics.proofs.Maps.{keep-map}
-use Rattle.mathematics.proofs.Integers.{positive, negative, parts, parts-size, one-part, the, ◌⊞◌, ◌⊟◌, ⊖◌, test-less, test-not-less, times-one, times-minus-one, minus-one-times}
-use Rattle.cycles.specs.Cycles.{with-cycle}
-use Rattle.walker.specs.Walker.{excess, entry-start, entry-stop, first-within, end-within, block-rows, block}
-use Rattle.cycles.proofs.Adding.{added-length, added-at}
-use Rattle.mathematics.proofs.Below.{keep-between}
+use Rattle.mathematics.proofs.Tests.{and_parts, and_both, same_tests, all_at, at_all}
+use Rattle.mathematics.proofs.Maps.{keep_map}
+use Rattle.mathematics.proofs.Integers.{positive, negative, parts, parts_size, one_part, the, ◌⊞◌, ◌⊟◌, ⊖◌, test_less, test_not_less, times_one, times_minus_one, minus_one_times}
+use Rattle.cycles.specs.Cycles.{with_cycle}
+use Rattle.walker.specs.Walker.{excess, entry_start, entry_stop, first_within, end_within, block_rows, block}
+use Rattle.cycles.proofs.Adding.{added_length, added_at}
+use Rattle.mathematics.proofs.Below.{keep_between}
 use Rattle.walker.proofs.Candidates.{within}
 
-excess-parts : (a b : ℤ) → excess a b ≡ (positive a + negative b) - (positive b + negative a)
+excess_parts : (a b : ℤ) → excess a b ≡ (positive a + negative b) - (positive b + negative a)
 unfolding excess
-excess-parts a b = go (lt_z b a) refl
+excess_parts a b = go (lt_z b a) refl
   where
     go : (t : Bool) → lt_z b a ≡ t → cond t (nat_abs (a -ℤ b)) 0 ≡ (positive a + negative b) - (positive b + negative a)
-    go true e = omega (arith, test-less b a e, parts-size (a -ℤ b), one-part (a -ℤ b), parts (the a ⊟ the b))
-    go false e = omega (arith, test-not-less b a e)
+    go true e = omega (arith, test_less b a e, parts_size (a -ℤ b), one_part (a -ℤ b), parts (the a ⊟ the b))
+    go false e = omega (arith, test_not_less b a e)
 
 -- ---- one entry
 module _ (L n d : ℕ) where
-  entry-inside : (x s : ℤ) → nat_abs s ≤ 1 → d < n → nat_abs (x +ℤ pos d *ℤ s) ≤ L → (entry-start L n x s ≤ d) × (d < entry-stop L n x s)
-  unfolding entry-start entry-stop equal positive negative
-  entry-inside x (pos zero) h k r =
+  entry_inside : (x s : ℤ) → nat_abs s ≤ 1 → d < n → nat_abs (x +ℤ pos d *ℤ s) ≤ L → (entry_start L n x s ≤ d) × (d < entry_stop L n x s)
+  unfolding entry_start entry_stop equal positive negative
+  entry_inside x (pos zero) h k r =
       let r' : nat_abs x ≤ L = rw (*ℤ-zero (pos d), +ℤ_idr x) at r in
       rw (le-leb (nat_abs x) L r') (omega arith, k)
-  entry-inside x (pos (suc zero)) h k r =
-      let r' : nat_abs (x +ℤ pos d) ≤ L = rw (times-one (pos d)) at r in
-      let e : pos 1 *ℤ x ≡ x = *ℤ_comm (pos 1) x ∙ times-one x in
-      rw (e, excess-parts (neg_ℤ (pos L)) x, excess-parts (pos (suc L)) x) (
-        omega (arith, parts-size (x +ℤ pos d), one-part (x +ℤ pos d), parts (the x ⊞ the (pos d)), parts (⊖ the (pos L)), one-part (neg_ℤ (pos L))),
-        omega (arith, parts-size (x +ℤ pos d), one-part (x +ℤ pos d), parts (the x ⊞ the (pos d))),
+  entry_inside x (pos (suc zero)) h k r =
+      let r' : nat_abs (x +ℤ pos d) ≤ L = rw (times_one (pos d)) at r in
+      let e : pos 1 *ℤ x ≡ x = *ℤ_comm (pos 1) x ∙ times_one x in
+      rw (e, excess_parts (neg_ℤ (pos L)) x, excess_parts (pos (suc L)) x) (
+        omega (arith, parts_size (x +ℤ pos d), one_part (x +ℤ pos d), parts (the x ⊞ the (pos d)), parts (⊖ the (pos L)), one_part (neg_ℤ (pos L))),
+        omega (arith, parts_size (x +ℤ pos d), one_part (x +ℤ pos d), parts (the x ⊞ the (pos d))),
       )
-  entry-inside x (pos (suc (suc m))) h k r = absurd (omega arith)
-  entry-inside x (negsuc zero) h k r =
-      let r' : nat_abs (x -ℤ pos d) ≤ L = rw (times-minus-one (pos d)) at r in
-      let e : negsuc 0 *ℤ x ≡ neg_ℤ x = minus-one-times x in
-      rw (e, excess-parts (neg_ℤ (pos L)) (neg_ℤ x), excess-parts (pos (suc L)) (neg_ℤ x)) (
-        omega (arith, parts-size (x -ℤ pos d), one-part (x -ℤ pos d), parts (the x ⊟ the (pos d)), parts (⊖ the (pos L)), parts (⊖ the x), one-part (neg_ℤ (pos L))),
-        omega (arith, parts-size (x -ℤ pos d), one-part (x -ℤ pos d), parts (the x ⊟ the (pos d)), parts (⊖ the x)),
+  entry_inside x (pos (suc (suc m))) h k r = absurd (omega arith)
+  entry_inside x (negsuc zero) h k r =
+      let r' : nat_abs (x -ℤ pos d) ≤ L = rw (times_minus_one (pos d)) at r in
+      let e : negsuc 0 *ℤ x ≡ neg_ℤ x = minus_one_times x in
+      rw (e, excess_parts (neg_ℤ (pos L)) (neg_ℤ x), excess_parts (pos (suc L)) (neg_ℤ x)) (
+        omega (arith, parts_size (x -ℤ pos d), one_part (x -ℤ pos d), parts (the x ⊟ the (pos d)), parts (⊖ the (pos L)), parts (⊖ the x), one_part (neg_ℤ (pos L))),
+        omega (arith, parts_size (x -ℤ pos d), one_part (x -ℤ pos d), parts (the x ⊟ the (pos d)), parts (⊖ the x)),
       )
-  entry-inside x (negsuc (suc m)) h k r = absurd (omega arith)
+  entry_inside x (negsuc (suc m)) h k r = absurd (omega arith)
 
-  inside-entry : (x s : ℤ) → nat_abs s ≤ 1 → d < n → entry-start L n x s ≤ d → d < entry-stop L n x s → nat_abs (x +ℤ pos d *ℤ s) ≤ L
-  unfolding entry-start entry-stop equal positive negative
-  inside-entry x (pos zero) h k a b = rw (*ℤ-zero (pos d), +ℤ_idr x) (go (dec_le (nat_abs x) L) a)
+  inside_entry : (x s : ℤ) → nat_abs s ≤ 1 → d < n → entry_start L n x s ≤ d → d < entry_stop L n x s → nat_abs (x +ℤ pos d *ℤ s) ≤ L
+  unfolding entry_start entry_stop equal positive negative
+  inside_entry x (pos zero) h k a b = rw (*ℤ-zero (pos d), +ℤ_idr x) (go (dec_le (nat_abs x) L) a)
     where
       go : Dec (nat_abs x ≤ L) → cond (leb (nat_abs x) L) 0 n ≤ d → nat_abs x ≤ L
       go (yes i) a = i
       go (no i) a =
           let a' : n ≤ d = rw (lt-leb (nat_abs x) L (omega arith)) at a in
           absurd (omega arith)
-  inside-entry x (pos (suc zero)) h k a b =
-      let e : pos 1 *ℤ x ≡ x = *ℤ_comm (pos 1) x ∙ times-one x in
-      let a' = rw (e, excess-parts (neg_ℤ (pos L)) x) at a in
-      let b' = rw (e, excess-parts (pos (suc L)) x) at b in
-      rw (times-one (pos d))
-      (omega (arith, parts-size (x +ℤ pos d), one-part (x +ℤ pos d), parts (the x ⊞ the (pos d)), parts (⊖ the (pos L)), one-part (neg_ℤ (pos L))))
-  inside-entry x (pos (suc (suc m))) h k a b = absurd (omega arith)
-  inside-entry x (negsuc zero) h k a b =
-      let e : negsuc 0 *ℤ x ≡ neg_ℤ x = minus-one-times x in
-      let a' = rw (e, excess-parts (neg_ℤ (pos L)) (neg_ℤ x)) at a in
-      let b' = rw (e, excess-parts (pos (suc L)) (neg_ℤ x)) at b in
-      rw (times-minus-one (pos d))
-      (omega (arith, parts-size (x -ℤ pos d), one-part (x -ℤ pos d), parts (the x ⊟ the (pos d)), parts (⊖ the (pos L)), parts (⊖ the x), one-part (neg_ℤ (pos L))))
-  inside-entry x (negsuc (suc m)) h k a b = absurd (omega arith)
+  inside_entry x (pos (suc zero)) h k a b =
+      let e : pos 1 *ℤ x ≡ x = *ℤ_comm (pos 1) x ∙ times_one x in
+      let a' = rw (e, excess_parts (neg_ℤ (pos L)) x) at a in
+      let b' = rw (e, excess_parts (pos (suc L)) x) at b in
+      rw (times_one (pos d))
+      (omega (arith, parts_size (x +ℤ pos d), one_part (x +ℤ pos d), parts (the x ⊞ the (pos d)), parts (⊖ the (pos L)), one_part (neg_ℤ (pos L))))
+  inside_entry x (pos (suc (suc m))) h k a b = absurd (omega arith)
+  inside_entry x (negsuc zero) h k a b =
+      let e : negsuc 0 *ℤ x ≡ neg_ℤ x = minus_one_times x in
+      let a' = rw (e, excess_parts (neg_ℤ (pos L)) (neg_ℤ x)) at a in
+      let b' = rw (e, excess_parts (pos (suc L)) (neg_ℤ x)) at b in
+      rw (times_minus_one (pos d))
+      (omega (arith, parts_size (x -ℤ pos d), one_part (x -ℤ pos d), parts (the x ⊟ the (pos d)), parts (⊖ the (pos L)), parts (⊖ the x), one_part (neg_ℤ (pos L))))
+  inside_entry x (negsuc (suc m)) h k a b = absurd (omega arith)
 
 -- ---- all entries
-pub stop-bound : (L n : ℕ) (s z : List ℤ) (m : ℕ) → end-within L n s z m ≤ n
-unfolding end-within
-stop-bound L n s z zero = omega arith
-stop-bound L n s z (suc m) = omega (arith, stop-bound L n s z m)
+pub stop_bound : (L n : ℕ) (s z : List ℤ) (m : ℕ) → end_within L n s z m ≤ n
+unfolding end_within
+stop_bound L n s z zero = omega arith
+stop_bound L n s z (suc m) = omega (arith, stop_bound L n s z m)
 
 module _ (L n : ℕ) (s z : List ℤ) (signs : (e : ℕ) → nat_abs (get_or z e (pos 0)) ≤ 1) where
   abbrev pub moves : ℕ → ℕ → ℤ
   moves d e = get_or s e (pos 0) +ℤ pos d *ℤ get_or z e (pos 0)
 
-  pub inside-span : (d m : ℕ) → d < n → ((e : ℕ) → e < m → nat_abs (moves d e) ≤ L) → (first-within L n s z m ≤ d) × (d < end-within L n s z m)
-  unfolding first-within end-within
-  inside-span d zero h k = (omega arith, h)
-  inside-span d (suc m) h k =
-      let r = inside-span d m h (λ e l. k e (omega arith)) in
-      let t = entry-inside L n d (get_or s m (pos 0)) (get_or z m (pos 0)) (signs m) h (k m (omega arith)) in
+  pub inside_span : (d m : ℕ) → d < n → ((e : ℕ) → e < m → nat_abs (moves d e) ≤ L) → (first_within L n s z m ≤ d) × (d < end_within L n s z m)
+  unfolding first_within end_within
+  inside_span d zero h k = (omega arith, h)
+  inside_span d (suc m) h k =
+      let r = inside_span d m h (λ e l. k e (omega arith)) in
+      let t = entry_inside L n d (get_or s m (pos 0)) (get_or z m (pos 0)) (signs m) h (k m (omega arith)) in
       (omega (arith, r.0, t.0), omega (arith, r.1, t.1))
 
-  pub span-inside : (d m : ℕ) → d < n → first-within L n s z m ≤ d → d < end-within L n s z m → (e : ℕ) → e < m → nat_abs (moves d e) ≤ L
-  unfolding first-within end-within
-  span-inside d zero h a b e k = absurd (omega arith)
-  span-inside d (suc m) h a b e k = go (ℕ_discrete e m) (λ l. span-inside d m h (omega arith) (omega arith) e l)
+  pub span_inside : (d m : ℕ) → d < n → first_within L n s z m ≤ d → d < end_within L n s z m → (e : ℕ) → e < m → nat_abs (moves d e) ≤ L
+  unfolding first_within end_within
+  span_inside d zero h a b e k = absurd (omega arith)
+  span_inside d (suc m) h a b e k = go (ℕ_discrete e m) (λ l. span_inside d m h (omega arith) (omega arith) e l)
     where
       go : Dec (e ≡ m) → (e < m → nat_abs (moves d e) ≤ L) → nat_abs (moves d e) ≤ L
-      go (yes i) ih = rw i (inside-entry L n d (get_or s m (pos 0)) (get_or z m (pos 0)) (signs m) h (omega arith) (omega arith))
+      go (yes i) ih = rw i (inside_entry L n d (get_or s m (pos 0)) (get_or z m (pos 0)) (signs m) h (omega arith) (omega arith))
       go (no i) ih = ih (omega arith)
 
   module _ (long : length z ≡ length s) where
     -- a multiple is within the bounds where each of its entries is
-    pub within-entries : (d : ℕ) → within L (with-cycle s (pos d) z) ≡ true → (e : ℕ) → e < length s → nat_abs (moves d e) ≤ L
+    pub within_entries : (d : ℕ) → within L (with_cycle s (pos d) z) ≡ true → (e : ℕ) → e < length s → nat_abs (moves d e) ≤ L
     unfolding within
-    within-entries d t e k =
-        rw (added-at s (pos d) z e long) at (leb-true _ L (all-at (λ x. leb (nat_abs x) L) (pos 0) (with-cycle s (pos d) z) t e (omega (arith, added-length s (pos d) z))))
+    within_entries d t e k =
+        rw (added_at s (pos d) z e long) at (leb-true _ L (all_at (λ x. leb (nat_abs x) L) (pos 0) (with_cycle s (pos d) z) t e (omega (arith, added_length s (pos d) z))))
 
-    pub entries-within : (d : ℕ) → ((e : ℕ) → e < length s → nat_abs (moves d e) ≤ L) → within L (with-cycle s (pos d) z) ≡ true
+    pub entries_within : (d : ℕ) → ((e : ℕ) → e < length s → nat_abs (moves d e) ≤ L) → within L (with_cycle s (pos d) z) ≡ true
     unfolding within
-    entries-within d h =
-        at_all (λ x. leb (nat_abs x) L) (pos 0) (with-cycle s (pos d) z) (λ e k. le-leb _ L (rw (added-at s (pos d) z e long) (h e (omega (arith, added-length s (pos d) z)))))
+    entries_within d h =
+        at_all (λ x. leb (nat_abs x) L) (pos 0) (with_cycle s (pos d) z) (λ e k. le-leb _ L (rw (added_at s (pos d) z e long) (h e (omega (arith, added_length s (pos d) z)))))
 
-    within-span : (d : ℕ) → d < n → within L (with-cycle s (pos d) z) ≡ (leb (first-within L n s z (length s)) d && ltb d (end-within L n s z (length s)))
-    within-span d h =
-        same_tests (within L (with-cycle s (pos d) z)) _
+    within_span : (d : ℕ) → d < n → within L (with_cycle s (pos d) z) ≡ (leb (first_within L n s z (length s)) d && ltb d (end_within L n s z (length s)))
+    within_span d h =
+        same_tests (within L (with_cycle s (pos d) z)) _
         (λ t.
-        let r = inside-span d (length s) h (within-entries d t) in
+        let r = inside_span d (length s) h (within_entries d t) in
         and_both _ _ (le-leb _ d r.0) (lt-ltb d _ r.1))
         (λ t.
-        let r = and_parts (leb (first-within L n s z (length s)) d) (ltb d (end-within L n s z (length s))) t in
-        entries-within d (span-inside d (length s) h (leb-true _ d r.0) (ltb-true d _ r.1)))
+        let r = and_parts (leb (first_within L n s z (length s)) d) (ltb d (end_within L n s z (length s))) t in
+        entries_within d (span_inside d (length s) h (leb-true _ d r.0) (ltb-true d _ r.1)))
 
     -- the multiples within the bounds, where they are an interval
-    kept-rows : (from to : ℕ) → to ≤ n → ((d : ℕ) → d < n → within L (with-cycle s (pos d) z) ≡ (leb from d && ltb d to)) → keep (within L) (map (λ d. with-cycle s (pos d) z) (below n)) ≡ block-rows s z from to
-    unfolding block-rows
-    kept-rows from to bound tests =
-        keep-map (within L) (λ d. with-cycle s (pos d) z) (below n)
-        ∙ ap (map (λ d. with-cycle s (pos d) z)) (keep-between (λ d. within L (with-cycle s (pos d) z)) from to n bound tests)
-        ∙ map-map (λ d. with-cycle s (pos d) z) (λ i. from + i) (below (to - from))
+    kept_rows : (from to : ℕ) → to ≤ n → ((d : ℕ) → d < n → within L (with_cycle s (pos d) z) ≡ (leb from d && ltb d to)) → keep (within L) (map (λ d. with_cycle s (pos d) z) (below n)) ≡ block_rows s z from to
+    unfolding block_rows
+    kept_rows from to bound tests =
+        keep_map (within L) (λ d. with_cycle s (pos d) z) (below n)
+        ∙ ap (map (λ d. with_cycle s (pos d) z)) (keep_between (λ d. within L (with_cycle s (pos d) z)) from to n bound tests)
+        ∙ map-map (λ d. with_cycle s (pos d) z) (λ i. from + i) (below (to - from))
 
-    pub block-kept : keep (within L) (map (λ d. with-cycle s (pos d) z) (below n)) ≡ block L n s z
+    pub block_kept : keep (within L) (map (λ d. with_cycle s (pos d) z) (below n)) ≡ block L n s z
     unfolding block
-    block-kept = kept-rows (first-within L n s z (length s)) (end-within L n s z (length s)) (stop-bound L n s z (length s)) within-span
+    block_kept = kept_rows (first_within L n s z (length s)) (end_within L n s z (length s)) (stop_bound L n s z (length s)) within_span
 
-    pub rows-by-tests : (from to : ℕ) → to ≤ n → ((d : ℕ) → d < n → within L (with-cycle s (pos d) z) ≡ (leb from d && ltb d to)) → block-rows s z from to ≡ block L n s z
-    rows-by-tests from to bound tests = sym (kept-rows from to bound tests) ∙ block-kept
+    pub rows_by_tests : (from to : ℕ) → to ≤ n → ((d : ℕ) → d < n → within L (with_cycle s (pos d) z) ≡ (leb from d && ltb d to)) → block_rows s z from to ≡ block L n s z
+    rows_by_tests from to bound tests = sym (kept_rows from to bound tests) ∙ block_kept

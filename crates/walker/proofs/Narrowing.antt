@@ -15,21 +15,21 @@ use mir.Val.{SFits, Fits, to_z, of_z}
 use borrow.Author.Tests.{leb-true, le-leb}
 use Rattle.mathematics.specs.Integers.{equal}
 use Rattle.mathematics.proofs.Tests.{and_parts, and_both, same_tests}
-use Rattle.mathematics.proofs.Integers.{negative, parts, one-part, the, ◌⊟◌, test-less}
-use Rattle.mathematics.proofs.Signed.{size-difference, size_fits, small-back}
+use Rattle.mathematics.proofs.Integers.{negative, parts, one_part, the, ◌⊟◌, test_less}
+use Rattle.mathematics.proofs.Signed.{size_difference, size_fits, small_back}
 use Rattle.walker.specs.declared.blocks.Span.{Span}
-use Rattle.walker.specs.Walker.{excess, entry-start, entry-stop, first-within, end-within, block}
+use Rattle.walker.specs.Walker.{excess, entry_start, entry_stop, first_within, end_within, block}
 use Rattle.walker.specs.Blocks.{Narrowed, SpanTo, SpanOfBlock}
-use Rattle.walker.proofs.Interval.{stop-bound}
+use Rattle.walker.proofs.Interval.{stop_bound}
 use Rattle.walker.proofs.BlockRows.{rows_none}
 
 -- a value is within -L to L
-pub within-test : (L : ℕ) (x : ℤ) → (le_z (neg_ℤ (pos L)) x && le_z x (pos L)) ≡ leb (nat_abs x) L
-within-test zero (pos n) = rw (le-leb 0 n (omega arith))
-within-test (suc L) (pos n) = refl
-within-test zero (negsuc n) =
+pub within_test : (L : ℕ) (x : ℤ) → (le_z (neg_ℤ (pos L)) x && le_z x (pos L)) ≡ leb (nat_abs x) L
+within_test zero (pos n) = rw (le-leb 0 n (omega arith))
+within_test (suc L) (pos n) = refl
+within_test zero (negsuc n) =
     same_tests false (leb (suc n) zero) (λ h. absurd (false≢true h)) (λ h. absurd (omega (arith, leb-true (suc n) zero h)))
-within-test (suc L) (negsuc n) =
+within_test (suc L) (negsuc n) =
     same_tests (leb n L && true) (leb (suc n) (suc L))
     (λ h. le-leb (suc n) (suc L) (omega (arith, leb-true n L (and_parts (leb n L) true h).0)))
     (λ h. and_both (leb n L) true (le-leb n L (omega (arith, leb-true (suc n) (suc L) h))) refl)
@@ -41,74 +41,74 @@ not_negative (pos n) h = tt
 not_negative (negsuc n) h = absurd (omega arith)
 
 module _ (a b : ℤ) (small : nat_abs a ≤ 2 ^ 24) (small' : nat_abs b ≤ 2 ^ 24) where
-  pub difference-fits : SFits w32 (a -ℤ b)
-  difference-fits = size_fits w32 (a -ℤ b) (omega (arith, size-difference a b))
+  pub difference_fits : SFits w32 (a -ℤ b)
+  difference_fits = size_fits w32 (a -ℤ b) (omega (arith, size_difference a b))
 
-  pub difference-back : to_z w32 (of_z w32 (a -ℤ b)) ≡ a -ℤ b
-  difference-back = small-back (a -ℤ b) (omega (arith, size-difference a b))
+  pub difference_back : to_z w32 (of_z w32 (a -ℤ b)) ≡ a -ℤ b
+  difference_back = small_back (a -ℤ b) (omega (arith, size_difference a b))
 
-  pub difference-casts : lt_z b a ≡ true → T (non_neg (a -ℤ b)) × Fits w64 (nat_abs (a -ℤ b))
-  difference-casts h = (
-    not_negative (a -ℤ b) (omega (arith, test-less b a h, one-part (a -ℤ b), parts (the a ⊟ the b))),
-    record { fits = omega (arith, size-difference a b) },
+  pub difference_casts : lt_z b a ≡ true → T (non_neg (a -ℤ b)) × Fits w64 (nat_abs (a -ℤ b))
+  difference_casts h = (
+    not_negative (a -ℤ b) (omega (arith, test_less b a h, one_part (a -ℤ b), parts (the a ⊟ the b))),
+    record { fits = omega (arith, size_difference a b) },
   )
 
-pub excess-some : (a b : ℤ) → lt_z b a ≡ true → nat_abs (a -ℤ b) ≡ excess a b
+pub excess_some : (a b : ℤ) → lt_z b a ≡ true → nat_abs (a -ℤ b) ≡ excess a b
 unfolding excess
-excess-some a b h = rw h
+excess_some a b h = rw h
 
-pub excess-none : (a b : ℤ) → lt_z b a ≡ false → 0 ≡ excess a b
+pub excess_none : (a b : ℤ) → lt_z b a ≡ false → 0 ≡ excess a b
 unfolding excess
-excess-none a b h = rw h
+excess_none a b h = rw h
 
 -- ---- a span narrowed by one entry
 module _ (L n : ℕ) (x s : ℤ) (span : Span) (bound : span.to ≤ n) where
-  pub narrow-inside : equal s (pos 0) ≡ true → leb (nat_abs x) L ≡ true → Narrowed L n x s span span
-  unfolding entry-start entry-stop
-  narrow-inside z h = record { from = rw (z, h) (omega arith); to = rw z (omega arith) }
+  pub narrow_inside : equal s (pos 0) ≡ true → leb (nat_abs x) L ≡ true → Narrowed L n x s span span
+  unfolding entry_start entry_stop
+  narrow_inside z h = record { from = rw (z, h) (omega arith); to = rw z (omega arith) }
 
-  pub narrow-outside : equal s (pos 0) ≡ true → leb (nat_abs x) L ≡ false → (a : ℕ) → a ≡ max span.from n → Narrowed L n x s span (record { from = a; to = span.to })
-  unfolding entry-start entry-stop
-  narrow-outside z h a e = record { from = rw (z, h) e; to = rw z (omega arith) }
+  pub narrow_outside : equal s (pos 0) ≡ true → leb (nat_abs x) L ≡ false → (a : ℕ) → a ≡ max span.from n → Narrowed L n x s span (record { from = a; to = span.to })
+  unfolding entry_start entry_stop
+  narrow_outside z h a e = record { from = rw (z, h) e; to = rw z (omega arith) }
 
   pub narrow_signed : equal s (pos 0) ≡ false → (a b : ℕ) → a ≡ max span.from (excess (neg_ℤ (pos L)) (s *ℤ x)) → b ≡ min span.to (excess (pos (L + 1)) (s *ℤ x))
       → Narrowed L n x s span (record { from = a; to = b })
-  unfolding entry-start entry-stop
+  unfolding entry_start entry_stop
   narrow_signed z a b e f = record { from = rw z e; to = rw (z, ← (add-one L)) f }
 
 -- ---- entry after entry
 pub span_none : (L n : ℕ) (s z : List ℤ) → SpanTo L n s z 0 (record { from = 0; to = n })
-unfolding first-within end-within
+unfolding first_within end_within
 span_none L n s z = record { from = refl; to = refl }
 
 pub span_more : (L n : ℕ) (s z : List ℤ) (m : ℕ) (old new : Span) → SpanTo L n s z m old → Narrowed L n (get_or s m (pos 0)) (get_or z m (pos 0)) old new → SpanTo L n s z (m + 1) new
-unfolding first-within end-within
+unfolding first_within end_within
 span_more L n s z m old new h k =
     let x = get_or s m (pos 0) in
     let y = get_or z m (pos 0) in
-    rw (add-one m) (record { from = k.from ∙ ap (λ a. max a (entry-start L n x y)) h.from; to = k.to ∙ ap (λ a. min a (entry-stop L n x y)) h.to })
+    rw (add-one m) (record { from = k.from ∙ ap (λ a. max a (entry_start L n x y)) h.from; to = k.to ∙ ap (λ a. min a (entry_stop L n x y)) h.to })
 
 module _ (L n : ℕ) (s z : List ℤ) (m : ℕ) (r : Span) (h : SpanTo L n s z m r) where
-  pub span-bound : r.to ≤ n
-  span-bound = rw h.to (stop-bound L n s z m)
+  pub span_bound : r.to ≤ n
+  span_bound = rw h.to (stop_bound L n s z m)
 
   -- more entries narrow it further
-  narrower : (d : ℕ) → (first-within L n s z m ≤ first-within L n s z (m + d)) × (end-within L n s z (m + d) ≤ end-within L n s z m)
-  unfolding first-within end-within
+  narrower : (d : ℕ) → (first_within L n s z m ≤ first_within L n s z (m + d)) × (end_within L n s z (m + d) ≤ end_within L n s z m)
+  unfolding first_within end_within
   narrower zero = rw (add-zero m) (omega arith, omega arith)
   narrower (suc d) = let k = narrower d in rw (add-suc m d) (omega (arith, k.0), omega (arith, k.1))
 
   -- all entries, or the span is empty already
-  pub span-all : m ≡ length s → SpanOfBlock L n s z r
+  pub span_all : m ≡ length s → SpanOfBlock L n s z r
   unfolding block
-  span-all e = record { is = rw (h.from, h.to, e); bound = span-bound }
+  span_all e = record { is = rw (h.from, h.to, e); bound = span_bound }
 
-  pub span-empty : m ≤ length s → r.to ≤ r.from → SpanOfBlock L n s z r
+  pub span_empty : m ≤ length s → r.to ≤ r.from → SpanOfBlock L n s z r
   unfolding block
-  span-empty few none =
+  span_empty few none =
       let e : m + (length s - m) ≡ length s = omega arith in
       let k = rw e at (narrower (length s - m)) in
       record {
         is = rows_none s z r.from r.to (omega arith) ∙ sym (rows_none s z _ _ (omega (arith, k.0, k.1, h.from, h.to)));
-        bound = span-bound;
+        bound = span_bound;
       }

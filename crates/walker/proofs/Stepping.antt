@@ -9,50 +9,50 @@ use native.Mathlib.Decide.{dec_lt}
 use lib.IntN.{ℤ, pos, neg_ℤ, nat_abs, ◌*ℤ◌}
 use lib.Signed.{lt_z}
 use lib.ListN.{get_or, length, get_or-eq_default}
-use Rattle.mathematics.proofs.Signed.{size-sum, size-sign}
-use Rattle.cycles.specs.Cycles.{row, with-cycle}
-use Rattle.walker.specs.Walker.{sum-of-cycles, counted-up, stepped}
+use Rattle.mathematics.proofs.Signed.{size_sum, size_sign}
+use Rattle.cycles.specs.Cycles.{row, with_cycle}
+use Rattle.walker.specs.Walker.{sum_of_cycles, counted_up, stepped}
 use Rattle.walker.specs.Steps.{Small, Addable, CyclesFit}
-use Rattle.cycles.proofs.Adding.{added-at}
-use Rattle.cycles.proofs.Rows.{row_at, row-length}
+use Rattle.cycles.proofs.Adding.{added_at}
+use Rattle.cycles.proofs.Rows.{row_at, row_length}
 
-pub added-small : (s : List ℤ) (t : ℤ) (z : List ℤ) (B T : ℕ) → length z ≡ length s → Small B s → nat_abs t ≤ T → Small 1 z → Small (B + T) (with-cycle s t z)
-added-small s t z B T long values few signs e =
-    rw (added-at s t z e long)
-    (omega (arith, values e, size-sign t (get_or z e (pos 0)) (signs e), size-sum (get_or s e (pos 0)) (t *ℤ get_or z e (pos 0))))
+pub added_small : (s : List ℤ) (t : ℤ) (z : List ℤ) (B T : ℕ) → length z ≡ length s → Small B s → nat_abs t ≤ T → Small 1 z → Small (B + T) (with_cycle s t z)
+added_small s t z B T long values few signs e =
+    rw (added_at s t z e long)
+    (omega (arith, values e, size_sign t (get_or z e (pos 0)) (signs e), size_sum (get_or s e (pos 0)) (t *ℤ get_or z e (pos 0))))
 
 module _ (m n L : ℕ) (cycles : List ℤ) (fit : CyclesFit m n L cycles) where
-  pub cycle-long : (j : ℕ) → j < 63 → length (row m cycles j) ≡ m
-  cycle-long j h = row-length m fit.edges_few cycles j (omega (arith, fit.edges_few, fit.long))
+  pub cycle_long : (j : ℕ) → j < 63 → length (row m cycles j) ≡ m
+  cycle_long j h = row_length m fit.edges_few cycles j (omega (arith, fit.edges_few, fit.long))
 
-  pub cycle-signs : (j : ℕ) → j < 63 → Small 1 (row m cycles j)
-  cycle-signs j h e = go (dec_lt e m)
+  pub cycle_signs : (j : ℕ) → j < 63 → Small 1 (row m cycles j)
+  cycle_signs j h e = go (dec_lt e m)
     where
       go : Dec (e < m) → nat_abs (get_or (row m cycles j) e (pos 0)) ≤ 1
       go (yes l) = rw (row_at m fit.edges_few cycles j e l) (fit.signs (63 * j + e))
-      go (no l) = rw (get_or-eq_default (row m cycles j) (pos 0) {n = e} (omega (arith, cycle-long j h))) (omega arith)
+      go (no l) = rw (get_or-eq_default (row m cycles j) (pos 0) {n = e} (omega (arith, cycle_long j h))) (omega arith)
 
-  pub cycle-addable : (j : ℕ) → j < n → (s : List ℤ) (t : ℤ) → length s ≡ m → Small (2 ^ 24) s → nat_abs t ≤ 2 ^ 24 → Addable s t (row m cycles j)
-  cycle-addable j h s t long values few =
-      let inside : j < 63 = omega (arith, fit.free-few) in
-      record { sized = cycle-long j inside ∙ sym long; values = values; times = few; signs = cycle-signs j inside }
+  pub cycle_addable : (j : ℕ) → j < n → (s : List ℤ) (t : ℤ) → length s ≡ m → Small (2 ^ 24) s → nat_abs t ≤ 2 ^ 24 → Addable s t (row m cycles j)
+  cycle_addable j h s t long values few =
+      let inside : j < 63 = omega (arith, fit.free_few) in
+      record { sized = cycle_long j inside ∙ sym long; values = values; times = few; signs = cycle_signs j inside }
 
 -- ---- from zeros to the lowest candidate
-pub combined-next : (cycle : ℕ → List ℤ) (x : ℕ → ℤ) (p : List ℤ) (j : ℕ) → sum-of-cycles cycle x p (j + 1) ≡ with-cycle (sum-of-cycles cycle x p j) (x j) (cycle j)
-unfolding sum-of-cycles
-combined-next cycle x p j = rw (add-one j)
+pub combined_next : (cycle : ℕ → List ℤ) (x : ℕ → ℤ) (p : List ℤ) (j : ℕ) → sum_of_cycles cycle x p (j + 1) ≡ with_cycle (sum_of_cycles cycle x p j) (x j) (cycle j)
+unfolding sum_of_cycles
+combined_next cycle x p j = rw (add-one j)
 
 -- ---- one digit of a step
 module _ (free : List ℕ) (cycle : ℕ → List ℤ) (L n j : ℕ) (s : List ℤ) where
-  pub step-here : j < n → lt_z (get_or s (get_or free j 0) (pos 0)) (pos L) ≡ true → stepped free cycle L (n - j) j s ≡ with-cycle s (pos 1) (cycle j)
-  unfolding stepped counted-up
-  step-here h t = let e : n - j ≡ suc (n - (j + 1)) = omega arith in rw (e, t)
+  pub step_here : j < n → lt_z (get_or s (get_or free j 0) (pos 0)) (pos L) ≡ true → stepped free cycle L (n - j) j s ≡ with_cycle s (pos 1) (cycle j)
+  unfolding stepped counted_up
+  step_here h t = let e : n - j ≡ suc (n - (j + 1)) = omega arith in rw (e, t)
 
-  pub step-on : j < n → lt_z (get_or s (get_or free j 0) (pos 0)) (pos L) ≡ false
-      → stepped free cycle L (n - j) j s ≡ stepped free cycle L (n - (j + 1)) (j + 1) (with-cycle s (neg_ℤ (pos (2 * L))) (cycle j))
-  unfolding stepped counted-up
-  step-on h t = let e : n - j ≡ suc (n - (j + 1)) = omega arith in rw (e, t, add-one j)
+  pub step_on : j < n → lt_z (get_or s (get_or free j 0) (pos 0)) (pos L) ≡ false
+      → stepped free cycle L (n - j) j s ≡ stepped free cycle L (n - (j + 1)) (j + 1) (with_cycle s (neg_ℤ (pos (2 * L))) (cycle j))
+  unfolding stepped counted_up
+  step_on h t = let e : n - j ≡ suc (n - (j + 1)) = omega arith in rw (e, t, add-one j)
 
   pub step_end : n ≤ j → stepped free cycle L (n - j) j s ≡ s
-  unfolding stepped counted-up
+  unfolding stepped counted_up
   step_end h = let e : n - j ≡ zero = omega arith in rw e

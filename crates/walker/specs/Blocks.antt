@@ -3,21 +3,21 @@ use Rattle.std.specs.Prelude.{ℕ, ◌≤◌, min, max, ◌≡◌, ℤ, length}
 use mathlib.Core.List.{List, flatten}
 use Rattle.mathematics.specs.Writing.{put}
 use Rattle.walker.specs.declared.blocks.Span.{Span}
-use Rattle.walker.specs.Walker.{entry-start, entry-stop, first-within, end-within, block-rows, block}
+use Rattle.walker.specs.Walker.{entry_start, entry_stop, first_within, end_within, block_rows, block}
 
 -- a span narrowed by one entry x and its sign s
 pub record Narrowed (L n : ℕ) (x s : ℤ) (old new : Span) : Type 0 where
-  pub from : new.from ≡ max old.from (entry-start L n x s)
-  pub to : new.to ≡ min old.to (entry-stop L n x s)
+  pub from : new.from ≡ max old.from (entry_start L n x s)
+  pub to : new.to ≡ min old.to (entry_stop L n x s)
 
 -- the span of a block, by its first m entries
 pub record SpanTo (L n : ℕ) (s z : List ℤ) (m : ℕ) (r : Span) : Type 0 where
-  pub from : r.from ≡ first-within L n s z m
-  pub to : r.to ≡ end-within L n s z m
+  pub from : r.from ≡ first_within L n s z m
+  pub to : r.to ≡ end_within L n s z m
 
 -- a span whose rows are the states of a block
 pub record SpanOfBlock (L n : ℕ) (s z : List ℤ) (r : Span) : Type 0 where
-  pub is : block-rows s z r.from r.to ≡ block L n s z
+  pub is : block_rows s z r.from r.to ≡ block L n s z
   pub bound : r.to ≤ n
 
 -- states are counted, and written over a list from a place on

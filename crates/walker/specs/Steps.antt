@@ -17,7 +17,7 @@ pub record Addable (s : List ℤ) (t : ℤ) (z : List ℤ) : Type 0 where
 -- a table of signs with a row for each of n cycles over m edges
 pub record CyclesFit (m n L : ℕ) (cycles : List ℤ) : Type 0 where
   pub edges_few : m ≤ 63
-  pub free-few : n ≤ 63
+  pub free_few : n ≤ 63
   pub truncation : L ≤ 1000
   pub long : length cycles ≡ 3969
   pub signs : Small 1 cycles
@@ -29,8 +29,8 @@ pub record FreeFit (m n : ℕ) (free : List ℕ) : Type 0 where
 
 -- tables by which k blocks can be walked from s
 pub record Walkable (free : List ℕ) (cycles : List ℤ) (L n : ℕ) (s : List ℤ) (k : ℕ) : Type 0 where
-  pub cycles-fit : CyclesFit (length s) n L cycles
-  pub free-fit : FreeFit (length s) n free
+  pub cycles_fit : CyclesFit (length s) n L cycles
+  pub free_fit : FreeFit (length s) n free
   pub few : k ≤ 2 ^ 20
   pub values : (i : ℕ) → i < k → Small (2 ^ 20) (walked free (row (length s) cycles) L n s i)
   pub sized : (i : ℕ) → length (walked free (row (length s) cycles) L n s i) ≡ length s

@@ -2,9 +2,9 @@
 ghost use Rattle.std.specs.Prelude.{◌≡◌, ◌+◌, ◌*◌, ◌-◌, ◌^◌, ◌<◌, ◌≤◌, length, leb, pos, nat_abs, ◌*ℤ◌};
 ghost use mathlib.Core.List.{flatten};
 ghost use Rattle.mathematics.specs.Integers.{equal};
-ghost use Rattle.walker.specs.Walker.{width, excess, block-rows};
+ghost use Rattle.walker.specs.Walker.{width, excess, block_rows};
 ghost use Rattle.walker.specs.Steps.{Small, Addable};
-ghost use Rattle.cycles.specs.Cycles.{with-cycle};
+ghost use Rattle.cycles.specs.Cycles.{with_cycle};
 ghost use Rattle.mathematics.specs.Writing.{put};
 ghost use Rattle.walker.specs.Blocks.{Narrowed, SpanOfBlock};
 
@@ -107,7 +107,7 @@ pub fn size(span: Span) -> usize
 // An assignment with a cycle added a number of times goes to a place of the list.
 pub fn write_row(states: &mut [i32], at: usize, config: &[i32], cycle: &[i8], times: usize)
     requires { Addable config.now (pos times) cycle.now × (times ≤ 2 ^ 20) × (at + length config.now ≤ length states.old) }
-    ensures { states.new ≡ put states.old at (with-cycle config.now (pos times) cycle.now) }
+    ensures { states.new ≡ put states.old at (with_cycle config.now (pos times) cycle.now) }
 {
     let t = usize_to_i32(times);
     for e in 0..config.len() {
@@ -118,7 +118,7 @@ pub fn write_row(states: &mut [i32], at: usize, config: &[i32], cycle: &[i8], ti
 // The states of a block go to a place of the list, one after the other.
 pub fn write_block(states: &mut [i32], at: usize, config: &[i32], cycle: &[i8], span: Span)
     requires { Addable config.now (pos 0) cycle.now × (span.to ≤ 2 ^ 20) × (at + (span.to - span.from) * length config.now ≤ length states.old) }
-    ensures { states.new ≡ put states.old at (flatten (block-rows config.now cycle.now span.from span.to)) }
+    ensures { states.new ≡ put states.old at (flatten (block_rows config.now cycle.now span.from span.to)) }
 {
     let m = config.len();
     let mut place = at;

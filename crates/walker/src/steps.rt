@@ -1,7 +1,7 @@
 // One lawful assignment, moved by fundamental cycles: where the walk begins, and its steps.
 ghost use Rattle.std.specs.Prelude.{◌≡◌, ◌+◌, ◌*◌, ◌-◌, ◌^◌, ◌<◌, ◌≤◌, length, pos, neg_ℤ, nat_abs, ◌+ℤ◌, ◌*ℤ◌};
-ghost use Rattle.cycles.specs.Cycles.{row, with-cycle};
-ghost use Rattle.walker.specs.Walker.{stepped, lowest-candidate};
+ghost use Rattle.cycles.specs.Cycles.{row, with_cycle};
+ghost use Rattle.walker.specs.Walker.{stepped, lowest_candidate};
 ghost use Rattle.walker.specs.Steps.{Small, Addable, CyclesFit, FreeFit};
 
 use numbers::sizes::MOST_EDGES;
@@ -25,7 +25,7 @@ pub fn plus_times(x: i32, times: i32, sign: i8) -> i32
 // A cycle added to an assignment a number of times.
 pub fn add(config: &mut [i32], cycle: &[i8], times: i32)
     requires { Addable config.old times cycle.now }
-    ensures { config.new ≡ with-cycle config.old times cycle.now }
+    ensures { config.new ≡ with_cycle config.old times cycle.now }
 {
     for e in 0..config.len() {
         config[e] = plus_times(config[e], times, cycle[e]);
@@ -35,7 +35,7 @@ pub fn add(config: &mut [i32], cycle: &[i8], times: i32)
 // From an assignment with 0 on every free edge to the candidate with -lambda on each.
 pub fn begin(config: &mut [i32], cycles: &[i8], n_free: usize, lambda: usize)
     requires { Small (2 ^ 13) config.old × CyclesFit (length config.old) n_free lambda cycles.now }
-    ensures { config.new ≡ lowest-candidate (row (length config.old) cycles.now) lambda config.old n_free }
+    ensures { config.new ≡ lowest_candidate (row (length config.old) cycles.now) lambda config.old n_free }
 {
     let m = config.len();
     let low = negative(lambda);

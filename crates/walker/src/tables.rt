@@ -1,6 +1,6 @@
 // The tables of a record, by which its states are walked.
 ghost use Rattle.std.specs.Prelude.{◌≡◌, ◌≤◌};
-ghost use Rattle.complex.specs.Complex.{complexOf};
+ghost use Rattle.complex.specs.Complex.{complex_of};
 ghost use Rattle.complex.specs.Judge.{refusal};
 ghost use Rattle.walker.specs.Tables.{Walks};
 
@@ -23,8 +23,8 @@ pub struct Walker {
 
 // The tables of an accepted record, and where its walk begins.
 pub fn prepare(c: SimplicialComplex, lambda: usize) -> Walker
-    requires { (refusal (complexOf c) ≡ 0) × (lambda ≤ 1000) }
-    ensures { Walks (complexOf c) lambda result }
+    requires { (refusal (complex_of c) ≡ 0) × (lambda ≤ 1000) }
+    ensures { Walks (complex_of c) lambda result }
 {
     let tree = search(&c.edges, c.n_vertices, c.n_edges);
     let free = free_edges(c, tree);

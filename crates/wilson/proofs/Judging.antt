@@ -12,45 +12,45 @@ use mir.Syntax.{Width}
 use mir.Val.{SFits, to_z, of_z}
 use mir.Facts.{to_z-of_z}
 use Rattle.mathematics.specs.Integers.{equal}
-use Rattle.mathematics.specs.Tests.{every-entry}
+use Rattle.mathematics.specs.Tests.{every_entry}
 use Rattle.mathematics.proofs.Front.{take_next}
-use Rattle.mathematics.proofs.Integers.{equal-true, equal-self}
-use Rattle.mathematics.proofs.Tests.{all-at, all-last, and_parts, same_tests}
-use Rattle.wilson.specs.Wilson.{path-of, step_right}
+use Rattle.mathematics.proofs.Integers.{equal_true, equal_self}
+use Rattle.mathematics.proofs.Tests.{all_at, all_last, and_parts, same_tests}
+use Rattle.wilson.specs.Wilson.{path_of, step_right}
 use Rattle.wilson.specs.Walking.{PathFits}
-use Rattle.wilson.proofs.Walks.{path-long, path-at}
+use Rattle.wilson.proofs.Walks.{path_long, path_at}
 
 -- ---- two values are equal just where their bits are
-pub equal-bits : (w : Width) (x y : ℤ) → SFits w x → SFits w y → eqb (of_z w x) (of_z w y) ≡ equal x y
-equal-bits w x y fx fy =
+pub equal_bits : (w : Width) (x y : ℤ) → SFits w x → SFits w y → eqb (of_z w x) (of_z w y) ≡ equal x y
+equal_bits w x y fx fy =
     same_tests (eqb (of_z w x) (of_z w y)) (equal x y)
-    (λ e. rw (sym (to_z-of_z fx) ∙ ap (to_z w) (eqb-true (of_z w x) (of_z w y) e) ∙ to_z-of_z fy) (equal-self y))
-    (λ e. eq-eqb (of_z w x) (of_z w y) (ap (of_z w) (equal-true x y e)))
+    (λ e. rw (sym (to_z-of_z fx) ∙ ap (to_z w) (eqb-true (of_z w x) (of_z w y) e) ∙ to_z-of_z fy) (equal_self y))
+    (λ e. eq-eqb (of_z w x) (of_z w y) (ap (of_z w) (equal_true x y e)))
 
 -- ---- one step more is judged
-pub path-more : (m : ℕ) (es : List ℕ) (ds : List ℤ) → length ds ≡ length es → (k : ℕ) → k < length es
-    → every-entry (step_right m) (take (k + 1) (path-of es ds)) ≡ (every-entry (step_right m) (take k (path-of es ds)) && step_right m (get_or es k 0, get_or ds k (pos 0)))
-path-more m es ds many k h =
-    ap (every-entry (step_right m)) (take_next (path-of es ds) k (0, pos 0) (rw (path-long es ds many) h))
-    ∙ all-last (step_right m) (take k (path-of es ds)) (get_or (path-of es ds) k (0, pos 0))
-    ∙ ap (λ t. every-entry (step_right m) (take k (path-of es ds)) && step_right m t) (path-at es ds many k h)
+pub path_more : (m : ℕ) (es : List ℕ) (ds : List ℤ) → length ds ≡ length es → (k : ℕ) → k < length es
+    → every_entry (step_right m) (take (k + 1) (path_of es ds)) ≡ (every_entry (step_right m) (take k (path_of es ds)) && step_right m (get_or es k 0, get_or ds k (pos 0)))
+path_more m es ds many k h =
+    ap (every_entry (step_right m)) (take_next (path_of es ds) k (0, pos 0) (rw (path_long es ds many) h))
+    ∙ all_last (step_right m) (take k (path_of es ds)) (get_or (path_of es ds) k (0, pos 0))
+    ∙ ap (λ t. every_entry (step_right m) (take k (path_of es ds)) && step_right m t) (path_at es ds many k h)
 
 -- ---- a path whose steps are right fits
-direction-small : (d : ℤ) → (equal d (pos 1) || equal d (negsuc 0)) ≡ true → nat_abs d ≤ 1
-direction-small d h = go (equal d (pos 1)) refl h
+direction_small : (d : ℤ) → (equal d (pos 1) || equal d (negsuc 0)) ≡ true → nat_abs d ≤ 1
+direction_small d h = go (equal d (pos 1)) refl h
   where
     go : (b : Bool) → equal d (pos 1) ≡ b → (b || equal d (negsuc 0)) ≡ true → nat_abs d ≤ 1
-    go true e q = rw (equal-true d (pos 1) e) (omega arith)
-    go false e q = rw (equal-true d (negsuc 0) q) (omega arith)
+    go true e q = rw (equal_true d (pos 1) e) (omega arith)
+    go false e q = rw (equal_true d (negsuc 0) q) (omega arith)
 
-pub path-fits : (m : ℕ) (es : List ℕ) (ds : List ℤ) → length ds ≡ length es → every-entry (step_right m) (path-of es ds) ≡ true → PathFits m es ds
+pub path_fits : (m : ℕ) (es : List ℕ) (ds : List ℤ) → length ds ≡ length es → every_entry (step_right m) (path_of es ds) ≡ true → PathFits m es ds
 unfolding step_right
-path-fits m es ds many right =
+path_fits m es ds many right =
     record {
       as_many = many;
-      edges-below = λ k h. ltb-true _ _ (parts k h).0;
-      small = λ k h. direction-small (get_or ds k (pos 0)) (parts k h).1;
+      edges_below = λ k h. ltb-true _ _ (parts k h).0;
+      small = λ k h. direction_small (get_or ds k (pos 0)) (parts k h).1;
     }
   where
     parts : (k : ℕ) → k < length es → (ltb (get_or es k 0) m ≡ true) × ((equal (get_or ds k (pos 0)) (pos 1) || equal (get_or ds k (pos 0)) (negsuc 0)) ≡ true)
-    parts k h = and_parts _ _ (rw (path-at es ds many k h) at (all-at (step_right m) (0, pos 0) (path-of es ds) right k (rw (path-long es ds many) h)))
+    parts k h = and_parts _ _ (rw (path_at es ds many k h) at (all_at (step_right m) (0, pos 0) (path_of es ds) right k (rw (path_long es ds many) h)))

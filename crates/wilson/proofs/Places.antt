@@ -12,24 +12,24 @@ use lib.Signed.{◌<ℤ◌}
 use lib.ListN.{get_or, length}
 use Rattle.mathematics.specs.Entries.{Each}
 use Rattle.mathematics.specs.Counting.{keep}
-use Rattle.mathematics.proofs.Ordered.{each_first, each-later, kept-front}
+use Rattle.mathematics.proofs.Ordered.{each_first, each_later, kept_front}
 use Rattle.complex.specs.Complex.{Complex}
 use Rattle.complex.specs.Judge.{Accepted}
 use Rattle.gauss_law.specs.Listing.{Before, states}
 use Rattle.gauss_law.specs.Shifts.{raised, shifted}
-use Rattle.gauss_law.proofs.Accepted.{listing-complete}
-use Rattle.gauss_law.proofs.Listing.{before-trans}
-use Rattle.gauss_law.proofs.Shifts.{shifted-length, shifted_at, shifted-elsewhere}
-use Rattle.hilbert.specs.Basis.{comes-before, place}
-use Rattle.hilbert.proofs.Order.{before-smaller, smaller_before}
-use Rattle.plaquettes.proofs.Rising.{less-shifted}
+use Rattle.gauss_law.proofs.Accepted.{listing_complete}
+use Rattle.gauss_law.proofs.Listing.{before_trans}
+use Rattle.gauss_law.proofs.Shifts.{shifted_length, shifted_at, shifted_elsewhere}
+use Rattle.hilbert.specs.Basis.{comes_before, place}
+use Rattle.hilbert.proofs.Order.{before_smaller, smaller_before}
+use Rattle.plaquettes.proofs.Rising.{less_shifted}
 use Rattle.wilson.specs.Wilson.{Step, walked}
 
 -- ---- a test that fails from some entry on
-kept-few : {A : Type 0} (p : A → Bool) (l : List A) → length (keep p l) ≤ length l
+kept_few : {A : Type 0} (p : A → Bool) (l : List A) → length (keep p l) ≤ length l
 unfolding keep
-kept-few p [] = omega arith
-kept-few p (x ∷ l) = go (p x) (kept-few p l)
+kept_few p [] = omega arith
+kept_few p (x ∷ l) = go (p x) (kept_few p l)
   where
     go : (b : Bool) → length (keep p l) ≤ length l → length (cond b (x ∷ keep p l) (keep p l)) ≤ suc (length l)
     go true h = omega arith
@@ -52,7 +52,7 @@ front_kept p d (x ∷ l) down i h = go (front_kept p d l (λ i j k m. down (suc 
     go later true e zero h = e ∙ sym (lt-ltb 0 (suc (length (keep p l))) (omega arith))
     go later true e (suc i) h = later i (omega arith) ∙ sym (leb-suc-suc (suc i) (length (keep p l)))
     go later false e i h =
-        let none : length (keep p l) ≡ 0 = kept-front p d l 0 (omega arith) (λ j k. fails e j k (p (get_or l j d)) refl ∙ sym (le-ltb j 0 (omega arith))) in
+        let none : length (keep p l) ≡ 0 = kept_front p d l 0 (omega arith) (λ j k. fails e j k (p (get_or l j d)) refl ∙ sym (le-ltb j 0 (omega arith))) in
         rw none (at i h)
       where
         at : (i : ℕ) → i < suc (length l) → p (get_or (x ∷ l) i d) ≡ ltb i 0
@@ -63,29 +63,29 @@ front_kept p d (x ∷ l) down i h = go (front_kept p d l (λ i j k m. down (suc 
 module _ (c : Complex) (accepted : Accepted c) (L : ℕ) where
   pub ordered : (i j : ℕ) → i < j → j < length (states c L) → Before c (get_or (states c L) i []) (get_or (states c L) j [])
   unfolding states
-  ordered = (listing-complete c accepted c.charges L).ordered
+  ordered = (listing_complete c accepted c.charges L).ordered
 
-  pub place-within : (s : List ℤ) → place c L s ≤ length (states c L)
+  pub place_within : (s : List ℤ) → place c L s ≤ length (states c L)
   unfolding place
-  place-within s = kept-few (λ t. comes-before c t s) (states c L)
+  place_within s = kept_few (λ t. comes_before c t s) (states c L)
 
-  pub before-place : (s : List ℤ) (i : ℕ) → i < length (states c L) → comes-before c (get_or (states c L) i []) s ≡ ltb i (place c L s)
+  pub before_place : (s : List ℤ) (i : ℕ) → i < length (states c L) → comes_before c (get_or (states c L) i []) s ≡ ltb i (place c L s)
   unfolding place
-  before-place s i h =
-      front_kept (λ t. comes-before c t s) [] (states c L)
-      (λ i j k m e. (before-smaller c _ _ (before-trans c _ _ _ (ordered i j k m) (smaller_before c _ _ accepted e))).0) i h
+  before_place s i h =
+      front_kept (λ t. comes_before c t s) [] (states c L)
+      (λ i j k m e. (before_smaller c _ _ (before_trans c _ _ _ (ordered i j k m) (smaller_before c _ _ accepted e))).0) i h
 
-  pub places-rise : (s t : List ℤ) → Before c s t → place c L s ≤ place c L t
-  places-rise s t r = go (dec_lt (place c L t) (place c L s))
+  pub places_rise : (s t : List ℤ) → Before c s t → place c L s ≤ place c L t
+  places_rise s t r = go (dec_lt (place c L t) (place c L s))
     where
       go : Dec (place c L t < place c L s) → place c L s ≤ place c L t
       go (no h) = omega arith
       go (yes h) =
-          let inside : place c L t < length (states c L) = omega (arith, place-within s) in
-          let first = smaller_before c _ _ accepted (before-place s (place c L t) inside ∙ lt-ltb _ _ h) in
+          let inside : place c L t < length (states c L) = omega (arith, place_within s) in
+          let first = smaller_before c _ _ accepted (before_place s (place c L t) inside ∙ lt-ltb _ _ h) in
           let itself : ltb (place c L t) (place c L t) ≡ false = le-ltb (place c L t) (place c L t) (omega arith) in
-          let both = (before-smaller c _ _ (before-trans c _ _ _ first r)).0 in
-          absurd (false≢true (sym (before-place t (place c L t) inside ∙ itself) ∙ both))
+          let both = (before_smaller c _ _ (before_trans c _ _ _ first r)).0 in
+          absurd (false≢true (sym (before_place t (place c L t) inside ∙ itself) ∙ both))
 
 -- ---- walks from two states
 module _ (c : Complex) where
@@ -100,18 +100,18 @@ module _ (c : Complex) where
       }
     where
       less : Dec (r.edge ≡ e) → get_or (shifted s e d) r.edge (pos 0) <ℤ get_or (shifted t e d) r.edge (pos 0)
-      less (yes q) = rw (q, shifted_at s e d hs, shifted_at t e d ht) (less-shifted _ _ d (rw q at r.less))
-      less (no q) = rw (shifted-elsewhere s e d r.edge q, shifted-elsewhere t e d r.edge q) r.less
+      less (yes q) = rw (q, shifted_at s e d hs, shifted_at t e d ht) (less_shifted _ _ d (rw q at r.less))
+      less (no q) = rw (shifted_elsewhere s e d r.edge q, shifted_elsewhere t e d r.edge q) r.less
 
       above : (f : ℕ) → get_or s f (pos 0) ≡ get_or t f (pos 0) → Dec (f ≡ e) → get_or (shifted s e d) f (pos 0) ≡ get_or (shifted t e d) f (pos 0)
       above f same (yes q) = rw (q, shifted_at s e d hs, shifted_at t e d ht) (ap (λ x. x +ℤ d) (rw q at same))
-      above f same (no q) = shifted-elsewhere s e d f q ∙ same ∙ sym (shifted-elsewhere t e d f q)
+      above f same (no q) = shifted_elsewhere s e d f q ∙ same ∙ sym (shifted_elsewhere t e d f q)
 
   -- a walk over edges below m keeps the order
-  pub before-walked : (m : ℕ) (s t : List ℤ) (w : List Step) → length s ≡ m → length t ≡ m → Each (λ x. x.0 < m) w → Before c s t → Before c (walked s w) (walked t w)
+  pub before_walked : (m : ℕ) (s t : List ℤ) (w : List Step) → length s ≡ m → length t ≡ m → Each (λ x. x.0 < m) w → Before c s t → Before c (walked s w) (walked t w)
   unfolding walked
-  before-walked m s t [] ls lt fits r = r
-  before-walked m s t (x ∷ w) ls lt fits r =
+  before_walked m s t [] ls lt fits r = r
+  before_walked m s t (x ∷ w) ls lt fits r =
       let inside = each_first fits in
-      before-walked m (shifted s x.0 x.1) (shifted t x.0 x.1) w (shifted-length s x.0 x.1 ∙ ls) (shifted-length t x.0 x.1 ∙ lt) (each-later fits)
+      before_walked m (shifted s x.0 x.1) (shifted t x.0 x.1) w (shifted_length s x.0 x.1 ∙ ls) (shifted_length t x.0 x.1 ∙ lt) (each_later fits)
       (before_shifted s t x.0 x.1 (omega (arith, inside)) (omega (arith, inside)) r)

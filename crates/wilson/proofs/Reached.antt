@@ -14,38 +14,38 @@ use lib.Seq.{ext_get_or}
 use Rattle.mathematics.specs.Entries.{Each}
 use Rattle.mathematics.proofs.Ordered.{at_each}
 use Rattle.mathematics.proofs.Tests.{and_parts, and_both, same_tests}
-use Rattle.mathematics.proofs.Counting.{every-at, at_every}
-use Rattle.mathematics.proofs.Integers.{equal-true, equal-self}
+use Rattle.mathematics.proofs.Counting.{every_at, at_every}
+use Rattle.mathematics.proofs.Integers.{equal_true, equal_self}
 use Rattle.complex.specs.Complex.{Complex}
-use Rattle.gauss_law.specs.Listing.{free-edges, states}
-use Rattle.hilbert.specs.Basis.{in-basis, place, comes-before}
+use Rattle.gauss_law.specs.Listing.{free_edges, states}
+use Rattle.hilbert.specs.Basis.{in_basis, place, comes_before}
 use Rattle.hilbert.specs.Search.{row, Ranked}
-use Rattle.hilbert.proofs.Order.{in-basis-listed, in-basis-at, smaller-agree}
+use Rattle.hilbert.proofs.Order.{in_basis_listed, in_basis_at, smaller_agree}
 use Rattle.plaquettes.specs.declared.target.Sizes.{Sizes}
 use Rattle.plaquettes.specs.Targets.{BasisList}
 use Rattle.plaquettes.proofs.Targets.{row_is, there}
-use Rattle.plaquettes.proofs.TriangleTelling.{state-there}
-use Rattle.wilson.specs.Wilson.{Step, path-of, stays, walked, with-reached, wilson-sum, wilson}
-use Rattle.wilson.specs.Walking.{PathFits, same-values, with-product, Summed}
-use Rattle.wilson.proofs.Walks.{path-long, path-at}
-use Rattle.wilson.proofs.Places.{ordered, place-within, before-place, places-rise, before-walked}
+use Rattle.plaquettes.proofs.TriangleTelling.{state_there}
+use Rattle.wilson.specs.Wilson.{Step, path_of, stays, walked, with_reached, wilson_sum, wilson}
+use Rattle.wilson.specs.Walking.{PathFits, same_values, with_product, Summed}
+use Rattle.wilson.proofs.Walks.{path_long, path_at}
+use Rattle.wilson.proofs.Places.{ordered, place_within, before_place, places_rise, before_walked}
 
 -- ---- rows that are compared
-same_rows : (s t : List ℤ) → length s ≡ length t → same-values s t ≡ true → s ≡ t
-unfolding same-values
-same_rows s t long h = ext_get_or (pos 0) s t long (λ e k. equal-true _ _ (every-at _ (length s) h e k))
+same_rows : (s t : List ℤ) → length s ≡ length t → same_values s t ≡ true → s ≡ t
+unfolding same_values
+same_rows s t long h = ext_get_or (pos 0) s t long (λ e k. equal_true _ _ (every_at _ (length s) h e k))
 
-same-itself : (s : List ℤ) → same-values s s ≡ true
-unfolding same-values
-same-itself s = at_every _ (length s) (λ e k. equal-self (get_or s e (pos 0)))
+same_itself : (s : List ℤ) → same_values s s ≡ true
+unfolding same_values
+same_itself s = at_every _ (length s) (λ e k. equal_self (get_or s e (pos 0)))
 
 -- the steps of a path are over edges
-path_inside : (m : ℕ) (es : List ℕ) (ds : List ℤ) → PathFits m es ds → Each (λ (x : Step). x.0 < m) (path-of es ds)
+path_inside : (m : ℕ) (es : List ℕ) (ds : List ℤ) → PathFits m es ds → Each (λ (x : Step). x.0 < m) (path_of es ds)
 path_inside m es ds fits =
-    at_each (0, pos 0) (path-of es ds)
+    at_each (0, pos 0) (path_of es ds)
     (λ k h.
-    let inside : k < length es = rw (← (path-long es ds fits.as_many)) h in
-    rw (path-at es ds fits.as_many k inside) (fits.edges-below k inside))
+    let inside : k < length es = rw (← (path_long es ds fits.as_many)) h in
+    rw (path_at es ds fits.as_many k inside) (fits.edges_below k inside))
 
 module _ (c : Complex) (list : List ℤ) (s : Sizes) (free : List ℕ) (basis : BasisList c list s free) where
   abbrev L : ℕ
@@ -53,84 +53,84 @@ module _ (c : Complex) (list : List ℤ) (s : Sizes) (free : List ℕ) (basis : 
 
   -- the values of a row are within the band
   pub row_small : (i : ℕ) → i < s.states → (e : ℕ) → e < s.edges → nat_abs (get_or (row s.edges list i) e (pos 0)) ≤ L
-  row_small i h e k = rw (row_is c list s free basis i h) ((state-there c basis.accepted L i (there c list s free basis i h)).within e (rw (← basis.edges) k))
+  row_small i h e k = rw (row_is c list s free basis i h) ((state_there c basis.accepted L i (there c list s free basis i h)).within e (rw (← basis.edges) k))
 
   -- ---- a configuration is sought
   module _ (config : List ℤ) (long : length config ≡ s.edges) where
-    pub place-ranked : Ranked list s.states config free s.free (place c L config)
-    unfolding comes-before
-    place-ranked =
+    pub place_ranked : Ranked list s.states config free s.free (place c L config)
+    unfolding comes_before
+    place_ranked =
         record {
-          within = rw basis.count (place-within c basis.accepted L config);
+          within = rw basis.count (place_within c basis.accepted L config);
           rows = λ i h.
-              rw (long, row_is c list s free basis i h, basis.free-count)
-              (smaller-agree free (free-edges c) (get_or (states c L) i []) config (length (free-edges c)) (λ j k. basis.free-listed j (rw basis.free-count k))
-              ∙ before-place c basis.accepted L config i (there c list s free basis i h));
+              rw (long, row_is c list s free basis i h, basis.free_count)
+              (smaller_agree free (free_edges c) (get_or (states c L) i []) config (length (free_edges c)) (λ j k. basis.free_listed j (rw basis.free_count k))
+              ∙ before_place c basis.accepted L config i (there c list s free basis i h));
         }
 
     -- it is listed where the state at its place is the configuration
-    listed-told : (ltb (place c L config) s.states && same-values (row s.edges list (place c L config)) config) ≡ in-basis c L config
-    listed-told = same_tests _ _ found told
+    listed_told : (ltb (place c L config) s.states && same_values (row s.edges list (place c L config)) config) ≡ in_basis c L config
+    listed_told = same_tests _ _ found told
       where
         sized : length config ≡ length c.edges
         sized = long ∙ basis.edges
 
-        found : (ltb (place c L config) s.states && same-values (row s.edges list (place c L config)) config) ≡ true → in-basis c L config ≡ true
+        found : (ltb (place c L config) s.states && same_values (row s.edges list (place c L config)) config) ≡ true → in_basis c L config ≡ true
         found h =
             let r = and_parts _ _ h in
             let inside = ltb-true _ _ r.0 in
             let is = row_is c list s free basis (place c L config) inside in
-            let state = state-there c basis.accepted L (place c L config) (there c list s free basis _ inside) in
+            let state = state_there c basis.accepted L (place c L config) (there c list s free basis _ inside) in
             let same = same_rows (get_or (states c L) (place c L config) []) config (state.sized ∙ sym sized) (rw is at r.1) in
-            (in-basis-listed c basis.accepted L config sized).1 (place c L config, there c list s free basis _ inside, same)
+            (in_basis_listed c basis.accepted L config sized).1 (place c L config, there c list s free basis _ inside, same)
 
-        told : in-basis c L config ≡ true → (ltb (place c L config) s.states && same-values (row s.edges list (place c L config)) config) ≡ true
+        told : in_basis c L config ≡ true → (ltb (place c L config) s.states && same_values (row s.edges list (place c L config)) config) ≡ true
         told h =
-            let at = in-basis-at c basis.accepted L config sized h in
+            let at = in_basis_at c basis.accepted L config sized h in
             let inside : place c L config < s.states = rw basis.count at.below in
-            and_both _ _ (lt-ltb _ _ inside) (rw (row_is c list s free basis (place c L config) inside ∙ at.state) (same-itself config))
+            and_both _ _ (lt-ltb _ _ inside) (rw (row_is c list s free basis (place c L config) inside ∙ at.state) (same_itself config))
 
-    reached-told : (a : List Float) (i : ℕ) (total : Float)
-        → with-product list s.states a i (place c L config) config total ≡ with-reached c L a i config total
-    unfolding with-reached
-    reached-told a i total = rw (long, listed-told)
+    reached_told : (a : List Float) (i : ℕ) (total : Float)
+        → with_product list s.states a i (place c L config) config total ≡ with_reached c L a i config total
+    unfolding with_reached
+    reached_told a i total = rw (long, listed_told)
 
   -- ---- one state more
   module _ (a : List Float) (es : List ℕ) (ds : List ℤ) (fits : PathFits s.edges es ds) where
     abbrev w : List Step
-    w = path-of es ds
+    w = path_of es ds
 
     abbrev state : ℕ → List ℤ
     state i = get_or (states c L) i []
 
-    pub summed-none : Summed c L a w 0 0 (wilson-sum c L a w 0)
-    summed-none = record { sum = refl; later = λ k h l. omega arith }
+    pub summed_none : Summed c L a w 0 0 (wilson_sum c L a w 0)
+    summed_none = record { sum = refl; later = λ k h l. omega arith }
 
     module _ (i from : ℕ) (total : Float) (so_far : Summed c L a w i from total) where
-      pub summed-left : stays L (state i) w ≡ false → Summed c L a w (i + 1) from total
-      unfolding wilson-sum
-      summed-left h = record { sum = so_far.sum ∙ rw (add-one i, h); later = λ k l. so_far.later k (omega arith) }
+      pub summed_left : stays L (state i) w ≡ false → Summed c L a w (i + 1) from total
+      unfolding wilson_sum
+      summed_left h = record { sum = so_far.sum ∙ rw (add-one i, h); later = λ k l. so_far.later k (omega arith) }
 
       -- what the walk reached was sought: j is its place, and r the sum with what it adds
       module _ (inside : i < s.states) (stay : stays L (state i) w ≡ true) (config : List ℤ) (reached : walked (state i) w ≡ config) (long : length config ≡ s.edges) where
         pub sought : from ≤ place c L config
         sought = rw (← reached) (so_far.later i (omega arith) (there c list s free basis i inside))
 
-        pub summed-more : (j : ℕ) → j ≡ place c L config → (r : Float)
-            → r ≡ with-product list s.states a i j config total
+        pub summed_more : (j : ℕ) → j ≡ place c L config → (r : Float)
+            → r ≡ with_product list s.states a i j config total
             → Summed c L a w (i + 1) j r
-        unfolding wilson-sum
-        summed-more j found r is =
-            let told : r ≡ with-reached c L a i config total = (rw found at is) ∙ reached-told config long a i total in
-            let more : with-reached c L a i config total ≡ wilson-sum c L a w (i + 1) = rw (so_far.sum, add-one i, stay, reached) in
+        unfolding wilson_sum
+        summed_more j found r is =
+            let told : r ≡ with_reached c L a i config total = (rw found at is) ∙ reached_told config long a i total in
+            let more : with_reached c L a i config total ≡ wilson_sum c L a w (i + 1) = rw (so_far.sum, add-one i, stay, reached) in
             record {
               sum = told ∙ more;
-              later = λ k l below. rw (found, ← reached) (places-rise c basis.accepted L _ _ (before-walked c s.edges (state i) (state k) w (sized i (there c list s free basis i inside)) (sized k below) (path_inside s.edges es ds fits) (ordered c basis.accepted L i k (omega arith) below)));
+              later = λ k l below. rw (found, ← reached) (places_rise c basis.accepted L _ _ (before_walked c s.edges (state i) (state k) w (sized i (there c list s free basis i inside)) (sized k below) (path_inside s.edges es ds fits) (ordered c basis.accepted L i k (omega arith) below)));
             }
           where
             sized : (j : ℕ) → j < length (states c L) → length (state j) ≡ s.edges
-            sized j below = (state-there c basis.accepted L j below).sized ∙ sym basis.edges
+            sized j below = (state_there c basis.accepted L j below).sized ∙ sym basis.edges
 
-    pub summed-all : (i from : ℕ) (total : Float) → Summed c L a w i from total → i ≡ s.states → total ≡ wilson c L a w
+    pub summed_all : (i from : ℕ) (total : Float) → Summed c L a w i from total → i ≡ s.states → total ≡ wilson c L a w
     unfolding wilson
-    summed-all i from total so_far past = so_far.sum ∙ rw (past ∙ basis.count)
+    summed_all i from total so_far past = so_far.sum ∙ rw (past ∙ basis.count)

@@ -10,36 +10,36 @@ use borrow.Author.Tests.{leb-true}
 use lib.IntN.{ℤ, pos, nat_abs}
 use lib.ListN.{get_or, length, take, drop}
 use lib.Seq.{drop-cons, drop-length, get_or-take}
-use Rattle.mathematics.proofs.Signed.{size-sum}
+use Rattle.mathematics.proofs.Signed.{size_sum}
 use Rattle.gauss_law.specs.Gauss.{within}
 use Rattle.gauss_law.specs.Shifts.{raised, shifted}
-use Rattle.gauss_law.proofs.Shifts.{shifted-length, shifted_at, shifted-elsewhere}
-use Rattle.plaquettes.proofs.TriangleRows.{take-shifted}
-use Rattle.wilson.specs.Wilson.{Step, path-of, stays, walked}
+use Rattle.gauss_law.proofs.Shifts.{shifted_length, shifted_at, shifted_elsewhere}
+use Rattle.plaquettes.proofs.TriangleRows.{take_shifted}
+use Rattle.wilson.specs.Wilson.{Step, path_of, stays, walked}
 use Rattle.wilson.specs.Walking.{PathFits, Underway}
 
 -- ---- the steps of a path
-pub path-long : (es : List ℕ) (ds : List ℤ) → length ds ≡ length es → length (path-of es ds) ≡ length es
-unfolding path-of
-path-long [] ds e = refl
-path-long (x ∷ es) [] e = absurd (omega arith)
-path-long (x ∷ es) (d ∷ ds) e = ap suc (path-long es ds (omega arith))
+pub path_long : (es : List ℕ) (ds : List ℤ) → length ds ≡ length es → length (path_of es ds) ≡ length es
+unfolding path_of
+path_long [] ds e = refl
+path_long (x ∷ es) [] e = absurd (omega arith)
+path_long (x ∷ es) (d ∷ ds) e = ap suc (path_long es ds (omega arith))
 
-pub path-at : (es : List ℕ) (ds : List ℤ) → length ds ≡ length es → (k : ℕ) → k < length es → get_or (path-of es ds) k (0, pos 0) ≡ (get_or es k 0, get_or ds k (pos 0))
-unfolding path-of
-path-at [] ds e k h = absurd (omega arith)
-path-at (x ∷ es) [] e k h = absurd (omega arith)
-path-at (x ∷ es) (d ∷ ds) e zero h = refl
-path-at (x ∷ es) (d ∷ ds) e (suc k) h = path-at es ds (omega arith) k (omega arith)
+pub path_at : (es : List ℕ) (ds : List ℤ) → length ds ≡ length es → (k : ℕ) → k < length es → get_or (path_of es ds) k (0, pos 0) ≡ (get_or es k 0, get_or ds k (pos 0))
+unfolding path_of
+path_at [] ds e k h = absurd (omega arith)
+path_at (x ∷ es) [] e k h = absurd (omega arith)
+path_at (x ∷ es) (d ∷ ds) e zero h = refl
+path_at (x ∷ es) (d ∷ ds) e (suc k) h = path_at es ds (omega arith) k (omega arith)
 
-path-drop : (es : List ℕ) (ds : List ℤ) → length ds ≡ length es → (k : ℕ) → k < length es → drop k (path-of es ds) ≡ (get_or es k 0, get_or ds k (pos 0)) ∷ drop (k + 1) (path-of es ds)
-path-drop es ds e k h =
-    drop-cons (path-of es ds) k (0, pos 0) (rw (path-long es ds e) h)
-    ∙ ap (λ t. t ∷ drop (suc k) (path-of es ds)) (path-at es ds e k h)
-    ∙ ap (λ n. (get_or es k 0, get_or ds k (pos 0)) ∷ drop n (path-of es ds)) (sym (add-one k))
+path_drop : (es : List ℕ) (ds : List ℤ) → length ds ≡ length es → (k : ℕ) → k < length es → drop k (path_of es ds) ≡ (get_or es k 0, get_or ds k (pos 0)) ∷ drop (k + 1) (path_of es ds)
+path_drop es ds e k h =
+    drop-cons (path_of es ds) k (0, pos 0) (rw (path_long es ds e) h)
+    ∙ ap (λ t. t ∷ drop (suc k) (path_of es ds)) (path_at es ds e k h)
+    ∙ ap (λ n. (get_or es k 0, get_or ds k (pos 0)) ∷ drop n (path_of es ds)) (sym (add-one k))
 
 -- ---- a step
-module _ (L m : ℕ) (s : List ℤ) (es : List ℕ) (ds : List ℤ) (fits : PathFits m es ds) (few : m ≤ 63) (k : ℕ) (row : List ℤ) (u : Underway L m s (path-of es ds) k row) (more : k < length es) where
+module _ (L m : ℕ) (s : List ℤ) (es : List ℕ) (ds : List ℤ) (fits : PathFits m es ds) (few : m ≤ 63) (k : ℕ) (row : List ℤ) (u : Underway L m s (path_of es ds) k row) (more : k < length es) where
   abbrev e : ℕ
   e = get_or es k 0
 
@@ -47,45 +47,45 @@ module _ (L m : ℕ) (s : List ℤ) (es : List ℕ) (ds : List ℤ) (fits : Path
   d = get_or ds k (pos 0)
 
   inside : e < m
-  inside = fits.edges-below k more
+  inside = fits.edges_below k more
 
   -- what the step asks for
-  pub step-ready : L ≤ 1000 → (length row ≡ 63) × (e < 63) × (L ≤ 1000) × (nat_abs (raised row e d) ≤ 2 ^ 20)
+  pub step_ready : L ≤ 1000 → (length row ≡ 63) × (e < 63) × (L ≤ 1000) × (nat_abs (raised row e d) ≤ 2 ^ 20)
   unfolding raised
-  step-ready low = (u.long, omega (arith, inside), low, omega (arith, size-sum (get_or row e (pos 0)) d, u.small e inside, fits.small k more))
+  step_ready low = (u.long, omega (arith, inside), low, omega (arith, size_sum (get_or row e (pos 0)) d, u.small e inside, fits.small k more))
 
-  same-raised : raised (take m row) e d ≡ raised row e d
+  same_raised : raised (take m row) e d ≡ raised row e d
   unfolding raised
-  same-raised = rw (get_or-take m row e (pos 0) inside)
+  same_raised = rw (get_or-take m row e (pos 0) inside)
 
-  goes_on : stays L s (path-of es ds) ≡ (within L (raised row e d) && stays L (shifted (take m row) e d) (drop (k + 1) (path-of es ds)))
+  goes_on : stays L s (path_of es ds) ≡ (within L (raised row e d) && stays L (shifted (take m row) e d) (drop (k + 1) (path_of es ds)))
   unfolding stays
   goes_on =
-      u.staying ∙ ap (stays L (take m row)) (path-drop es ds fits.as_many k more)
-      ∙ ap (λ x. within L x && stays L (shifted (take m row) e d) (drop (k + 1) (path-of es ds))) same-raised
+      u.staying ∙ ap (stays L (take m row)) (path_drop es ds fits.as_many k more)
+      ∙ ap (λ x. within L x && stays L (shifted (take m row) e d) (drop (k + 1) (path_of es ds))) same_raised
 
-  pub step-leaves : within L (raised row e d) ≡ false → stays L s (path-of es ds) ≡ false
-  step-leaves h = goes_on ∙ rw h
+  pub step_leaves : within L (raised row e d) ≡ false → stays L s (path_of es ds) ≡ false
+  step_leaves h = goes_on ∙ rw h
 
-  leads-on : walked s (path-of es ds) ≡ walked (shifted (take m row) e d) (drop (k + 1) (path-of es ds))
+  leads_on : walked s (path_of es ds) ≡ walked (shifted (take m row) e d) (drop (k + 1) (path_of es ds))
   unfolding walked
-  leads-on = u.leading ∙ ap (walked (take m row)) (path-drop es ds fits.as_many k more)
+  leads_on = u.leading ∙ ap (walked (take m row)) (path_drop es ds fits.as_many k more)
 
-  small-after : within L (raised row e d) ≡ true → (i : ℕ) → i < m → nat_abs (get_or (shifted row e d) i (pos 0)) ≤ L
+  small_after : within L (raised row e d) ≡ true → (i : ℕ) → i < m → nat_abs (get_or (shifted row e d) i (pos 0)) ≤ L
   unfolding within
-  small-after h i l = go (ℕ_discrete i e)
+  small_after h i l = go (ℕ_discrete i e)
     where
       go : Dec (i ≡ e) → nat_abs (get_or (shifted row e d) i (pos 0)) ≤ L
       go (yes q) = rw (q, shifted_at row e d (omega (arith, u.long, inside))) (leb-true _ _ h)
-      go (no q) = rw (shifted-elsewhere row e d i q) (u.small i l)
+      go (no q) = rw (shifted_elsewhere row e d i q) (u.small i l)
 
-  pub step_stays : within L (raised row e d) ≡ true → Underway L m s (path-of es ds) (k + 1) (shifted row e d)
+  pub step_stays : within L (raised row e d) ≡ true → Underway L m s (path_of es ds) (k + 1) (shifted row e d)
   step_stays h =
       record {
-        long = shifted-length row e d ∙ u.long;
-        small = small-after h;
-        staying = goes_on ∙ rw (h, take-shifted row e d m inside);
-        leading = leads-on ∙ rw (take-shifted row e d m inside);
+        long = shifted_length row e d ∙ u.long;
+        small = small_after h;
+        staying = goes_on ∙ rw (h, take_shifted row e d m inside);
+        leading = leads_on ∙ rw (take_shifted row e d m inside);
       }
 
 -- ---- the first configuration and the last
@@ -98,14 +98,14 @@ walk_begins L m s w row long front small =
       leading = rw front;
     }
 
-module _ (L m : ℕ) (s : List ℤ) (es : List ℕ) (ds : List ℤ) (fits : PathFits m es ds) (k : ℕ) (row : List ℤ) (u : Underway L m s (path-of es ds) k row) (past : k ≡ length es) where
-  nothing_left : drop k (path-of es ds) ≡ []
-  nothing_left = rw (past ∙ sym (path-long es ds fits.as_many)) (drop-length (path-of es ds))
+module _ (L m : ℕ) (s : List ℤ) (es : List ℕ) (ds : List ℤ) (fits : PathFits m es ds) (k : ℕ) (row : List ℤ) (u : Underway L m s (path_of es ds) k row) (past : k ≡ length es) where
+  nothing_left : drop k (path_of es ds) ≡ []
+  nothing_left = rw (past ∙ sym (path_long es ds fits.as_many)) (drop-length (path_of es ds))
 
-  pub walk-stays : stays L s (path-of es ds) ≡ true
+  pub walk_stays : stays L s (path_of es ds) ≡ true
   unfolding stays
-  walk-stays = u.staying ∙ rw nothing_left
+  walk_stays = u.staying ∙ rw nothing_left
 
-  pub walk-leads : walked s (path-of es ds) ≡ take m row
+  pub walk_leads : walked s (path_of es ds) ≡ take m row
   unfolding walked
-  walk-leads = u.leading ∙ rw nothing_left
+  walk_leads = u.leading ∙ rw nothing_left

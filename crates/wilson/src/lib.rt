@@ -1,14 +1,14 @@
 // The Wilson loop along a path.
 ghost use Rattle.std.specs.Prelude.{◌≡◌, ◌||◌, ◌*◌, ◌^◌, ◌<◌, ◌≤◌, pos, negsuc, nat_abs, length};
 ghost use Rattle.mathematics.specs.Integers.{equal};
-ghost use Rattle.mathematics.specs.Tests.{every-entry};
+ghost use Rattle.mathematics.specs.Tests.{every_entry};
 ghost use Rattle.mathematics.specs.Calls.{Answered};
-ghost use Rattle.answers.specs.Expectation.{expectationAnswer};
-ghost use Rattle.complex.specs.Complex.{Complex, complexOf};
+ghost use Rattle.answers.specs.Expectation.{expectation_answer};
+ghost use Rattle.complex.specs.Complex.{Complex, complex_of};
 ghost use Rattle.gauss_law.specs.Shifts.{raised};
 ghost use Rattle.plaquettes.specs.Targets.{BasisList};
-ghost use Rattle.wilson.specs.Wilson.{path-of, wilson, step_right, wilson-call};
-ghost use Rattle.wilson.specs.Walking.{PathFits, Amplitudes, same-values, with-product, Stepped};
+ghost use Rattle.wilson.specs.Wilson.{path_of, wilson, step_right, wilson_call};
+ghost use Rattle.wilson.specs.Walking.{PathFits, Amplitudes, same_values, with_product, Stepped};
 
 use answers::expectation::Expectation;
 use complex::SimplicialComplex;
@@ -30,7 +30,7 @@ fn is_direction(d: i8) -> bool
 // Whether every step of a path is over one of m edges, in the direction 1 or -1.
 fn path_right(edges: &[u8], directions: &[i8], m: usize) -> bool
     requires { length directions.now ≡ length edges.now }
-    ensures { result ≡ every-entry (step_right m) (path-of edges.now directions.now) }
+    ensures { result ≡ every_entry (step_right m) (path_of edges.now directions.now) }
 {
     let mut so_far = true;
     for k in 0..edges.len() {
@@ -53,7 +53,7 @@ fn take_step(row: &mut [i32; MOST_EDGES], edge: u8, direction: i8, lambda: usize
 // Whether two rows of one length have the same values.
 fn same_values(s: &[i32], t: &[i32]) -> bool
     requires { length s.now ≡ length t.now }
-    ensures { result ≡ same-values s.now t.now }
+    ensures { result ≡ same_values s.now t.now }
 {
     let mut so_far = true;
     for e in 0..s.len() {
@@ -73,7 +73,7 @@ fn add_reached(
     total: f64,
 ) -> f64
     requires { (n ≤ 2 ^ 20) × (length configuration.now ≤ 63) × (n * length configuration.now ≤ length list.now) × (length amplitudes.now ≡ n) × (i < n) }
-    ensures { result ≡ with-product list.now n amplitudes.now i j configuration.now total }
+    ensures { result ≡ with_product list.now n amplitudes.now i j configuration.now total }
 {
     if n <= j {
         return total;
@@ -97,7 +97,7 @@ fn wilson_sum(
     directions: &[i8],
 ) -> f64
     requires { Amplitudes list.now s free.now amplitudes.now × PathFits s.edges edges.now directions.now }
-    ensures { (c : Complex) → BasisList c list.now s free.now → result ≡ wilson c s.lambda amplitudes.now (path-of edges.now directions.now) }
+    ensures { (c : Complex) → BasisList c list.now s free.now → result ≡ wilson c s.lambda amplitudes.now (path_of edges.now directions.now) }
 {
     let n = s.states;
     let m = s.edges;
@@ -128,7 +128,7 @@ pub fn wilson_loop(
     directions: &[i8],
     states: &mut [i32],
 ) -> Expectation
-    ensures { Answered (wilson-call (complexOf c) lambda amplitudes.now edges.now directions.now states.old) (expectationAnswer result) states.new }
+    ensures { Answered (wilson_call (complex_of c) lambda amplitudes.now edges.now directions.now states.old) (expectation_answer result) states.new }
 {
     let basis = prepare_basis(c, lambda);
     let number = basis.refusal;

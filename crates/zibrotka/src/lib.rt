@@ -1,34 +1,34 @@
 // The calls for C and other languages: numbers and slices in, one signed number out, the value or minus the refusal.
 ghost use Rattle.std.specs.Prelude.{◌≡◌};
 ghost use Rattle.mathematics.specs.Calls.{none_lent};
-ghost use Rattle.triangles.specs.Indices.{indices-call};
-ghost use Rattle.pentachora.specs.Pentachora.{pentachora-call};
-ghost use Rattle.sheet.specs.Sheet.{reading-call};
-ghost use Rattle.making.specs.Making.{making-call};
-ghost use Rattle.gauss_law.specs.Spanning.{tree-call};
-ghost use Rattle.loops.specs.Loops.{loops-call, su2-loops-call};
-ghost use Rattle.law_check.specs.Law.{law-call};
-ghost use Rattle.refusals.specs.Sentences.{text-call};
-ghost use Rattle.enumeration.specs.Enumeration.{enumerated-call, counted-call};
-ghost use Rattle.hilbert.specs.Index.{index-call};
-ghost use Rattle.shifts.specs.Shift.{shift-call};
-ghost use Rattle.matrices.specs.Coupling.{coupling-call, u1-params, su2-params};
-ghost use Rattle.plaquettes.specs.Triangle.{triangle-call};
-ghost use Rattle.hamiltonian.specs.Dense.{u1-dense-call};
-ghost use Rattle.su2_masks.specs.Basis.{su2-basis-call, su2-counted-call};
-ghost use Rattle.su2_quantum.specs.Dense.{su2-dense-call};
-ghost use Rattle.matvec.specs.Product.{product-call};
-ghost use Rattle.su2_rows.specs.Rows.{su2-rows-call};
-ghost use Rattle.su2_entries.specs.Entries.{su2-entries-call};
-ghost use Rattle.csr.specs.Csr.{csr-call};
-ghost use Rattle.su2_products.specs.Product.{su2-product-call};
-ghost use Rattle.su2_loops.specs.Loop.{su2-loop-call, su2-passes-call};
-ghost use Rattle.entries.specs.Entries.{entries-call};
-ghost use Rattle.lanczos.specs.Matvec.{u1-product-call};
-ghost use Rattle.electric.specs.Electric.{electric-call};
-ghost use Rattle.wilson.specs.Wilson.{wilson-call};
-ghost use Rattle.exports.specs.Exports.{on-sheet, as_number, stored, zero-told, value_lent, second-lent, in_place, three_floats, Exported};
-ghost use Rattle.complex_exports.specs.Parts.{sheet-parts};
+ghost use Rattle.triangles.specs.Indices.{indices_call};
+ghost use Rattle.pentachora.specs.Pentachora.{pentachora_call};
+ghost use Rattle.sheet.specs.Sheet.{reading_call};
+ghost use Rattle.making.specs.Making.{making_call};
+ghost use Rattle.gauss_law.specs.Spanning.{tree_call};
+ghost use Rattle.loops.specs.Loops.{loops_call, su2_loops_call};
+ghost use Rattle.law_check.specs.Law.{law_call};
+ghost use Rattle.refusals.specs.Sentences.{text_call};
+ghost use Rattle.enumeration.specs.Enumeration.{enumerated_call, counted_call};
+ghost use Rattle.hilbert.specs.Index.{index_call};
+ghost use Rattle.shifts.specs.Shift.{shift_call};
+ghost use Rattle.matrices.specs.Coupling.{coupling_call, u1_params, su2_params};
+ghost use Rattle.plaquettes.specs.Triangle.{triangle_call};
+ghost use Rattle.hamiltonian.specs.Dense.{u1_dense_call};
+ghost use Rattle.su2_masks.specs.Basis.{su2_basis_call, su2_counted_call};
+ghost use Rattle.su2_quantum.specs.Dense.{su2_dense_call};
+ghost use Rattle.matvec.specs.Product.{product_call};
+ghost use Rattle.su2_rows.specs.Rows.{su2_rows_call};
+ghost use Rattle.su2_entries.specs.Entries.{su2_entries_call};
+ghost use Rattle.csr.specs.Csr.{csr_call};
+ghost use Rattle.su2_products.specs.Product.{su2_product_call};
+ghost use Rattle.su2_loops.specs.Loop.{su2_loop_call, su2_passes_call};
+ghost use Rattle.entries.specs.Entries.{entries_call};
+ghost use Rattle.lanczos.specs.Matvec.{u1_product_call};
+ghost use Rattle.electric.specs.Electric.{electric_call};
+ghost use Rattle.wilson.specs.Wilson.{wilson_call};
+ghost use Rattle.exports.specs.Exports.{on_sheet, as_number, stored, zero_told, value_lent, second_lent, in_place, three_floats, Exported};
+ghost use Rattle.complex_exports.specs.Parts.{sheet_parts};
 
 use complex_exports::{
     export_from_pentachorons, export_fundamental_loops, export_make_sheet, export_read_sheet,
@@ -57,7 +57,7 @@ pub extern "C" fn zibrotka_make_sheet(
     lambda: u64,
     sheet: &mut [u8],
 ) -> i64
-    ensures { Exported (making-call n_vertices edges.now triangles.now lambda sheet.old) result sheet.new }
+    ensures { Exported (making_call n_vertices edges.now triangles.now lambda sheet.old) result sheet.new }
 {
     export_make_sheet(n_vertices, edges, triangles, lambda, sheet)
 }
@@ -73,7 +73,7 @@ pub extern "C" fn zibrotka_read_sheet(
     edges: &mut [u8; 126],
     triangles: &mut [u8; 768],
 ) -> i64
-    ensures { Exported (stored (reading-call sheet.now) sheet-parts (n_vertices.old, n_edges.old, n_triangles.old, lambda.old, edges.old, triangles.old)) result (n_vertices.new, n_edges.new, n_triangles.new, lambda.new, edges.new, triangles.new) }
+    ensures { Exported (stored (reading_call sheet.now) sheet_parts (n_vertices.old, n_edges.old, n_triangles.old, lambda.old, edges.old, triangles.old)) result (n_vertices.new, n_edges.new, n_triangles.new, lambda.new, edges.new, triangles.new) }
 {
     export_read_sheet(
         sheet,
@@ -93,7 +93,7 @@ pub extern "C" fn zibrotka_tri_edge_indices(
     triangle: u64,
     indices: &mut [u64; 3],
 ) -> i64
-    ensures { Exported (on-sheet sheet.now (λ c L. stored (indices-call c triangle) in_place indices.old)) result indices.new }
+    ensures { Exported (on_sheet sheet.now (λ c L. stored (indices_call c triangle) in_place indices.old)) result indices.new }
 {
     export_tri_edge_indices(sheet, triangle, indices)
 }
@@ -107,7 +107,7 @@ pub extern "C" fn zibrotka_from_pentachorons(
     triangles: &mut [u8],
     n_triangles: &mut u64,
 ) -> i64
-    ensures { Exported (second-lent (pentachora-call n_vertices pentachora.now edges.old triangles.old) n_triangles.old) result (edges.new, triangles.new, n_triangles.new) }
+    ensures { Exported (second_lent (pentachora_call n_vertices pentachora.now edges.old triangles.old) n_triangles.old) result (edges.new, triangles.new, n_triangles.new) }
 {
     export_from_pentachorons(n_vertices, pentachora, edges, triangles, n_triangles)
 }
@@ -115,7 +115,7 @@ pub extern "C" fn zibrotka_from_pentachorons(
 // The tree edges and the free edges of a sheet's complex: the number of free edges.
 #[unsafe(no_mangle)]
 pub extern "C" fn zibrotka_spanning_tree(sheet: &[u8], tree: &mut [u32], free: &mut [u32]) -> i64
-    ensures { Exported (on-sheet sheet.now (λ c L. tree-call c tree.old free.old)) result (tree.new, free.new) }
+    ensures { Exported (on_sheet sheet.now (λ c L. tree_call c tree.old free.old)) result (tree.new, free.new) }
 {
     export_spanning_tree(sheet, tree, free)
 }
@@ -128,7 +128,7 @@ pub extern "C" fn zibrotka_fundamental_loops(
     edges: &mut [u8],
     directions: &mut [i8],
 ) -> i64
-    ensures { Exported (on-sheet sheet.now (λ c L. loops-call c starts.old edges.old directions.old)) result (starts.new, edges.new, directions.new) }
+    ensures { Exported (on_sheet sheet.now (λ c L. loops_call c starts.old edges.old directions.old)) result (starts.new, edges.new, directions.new) }
 {
     export_fundamental_loops(sheet, starts, edges, directions)
 }
@@ -140,7 +140,7 @@ pub extern "C" fn zibrotka_su2_fundamental_loops(
     starts: &mut [u32],
     edges: &mut [u8],
 ) -> i64
-    ensures { Exported (on-sheet sheet.now (λ c L. su2-loops-call c starts.old edges.old)) result (starts.new, edges.new) }
+    ensures { Exported (on_sheet sheet.now (λ c L. su2_loops_call c starts.old edges.old)) result (starts.new, edges.new) }
 {
     export_su2_fundamental_loops(sheet, starts, edges)
 }
@@ -148,7 +148,7 @@ pub extern "C" fn zibrotka_su2_fundamental_loops(
 // Whether a configuration obeys Gauss's law on a sheet's complex: 1 or 0.
 #[unsafe(no_mangle)]
 pub extern "C" fn zibrotka_check_gauss_law(sheet: &[u8], configuration: &[i32]) -> i64
-    ensures { Exported (on-sheet sheet.now (λ c L. as_number (law-call c configuration.now))) result none_lent }
+    ensures { Exported (on_sheet sheet.now (λ c L. as_number (law_call c configuration.now))) result none_lent }
 {
     export_check_gauss_law(sheet, configuration)
 }
@@ -156,7 +156,7 @@ pub extern "C" fn zibrotka_check_gauss_law(sheet: &[u8], configuration: &[i32]) 
 // All states of a sheet: their number.
 #[unsafe(no_mangle)]
 pub extern "C" fn zibrotka_enumerate_gauge_invariant(sheet: &[u8], states: &mut [i32]) -> i64
-    ensures { Exported (on-sheet sheet.now (λ c L. enumerated-call c L states.old)) result states.new }
+    ensures { Exported (on_sheet sheet.now (λ c L. enumerated_call c L states.old)) result states.new }
 {
     export_enumerate_gauge_invariant(sheet, states)
 }
@@ -168,7 +168,7 @@ pub extern "C" fn zibrotka_config_to_index(
     configuration: &[i32],
     states: &mut [i32],
 ) -> i64
-    ensures { Exported (on-sheet sheet.now (λ c L. index-call c L configuration.now states.old)) result states.new }
+    ensures { Exported (on_sheet sheet.now (λ c L. index_call c L configuration.now states.old)) result states.new }
 {
     export_config_to_index(sheet, configuration, states)
 }
@@ -183,7 +183,7 @@ pub extern "C" fn zibrotka_apply_shift(
     states: &mut [i32],
     res: &mut [i32],
 ) -> i64
-    ensures { Exported (on-sheet sheet.now (λ c L. shift-call c L configuration.now edge delta states.old res.old)) result (states.new, res.new) }
+    ensures { Exported (on_sheet sheet.now (λ c L. shift_call c L configuration.now edge delta states.old res.old)) result (states.new, res.new) }
 {
     export_apply_shift(sheet, configuration, edge, delta, states, res)
 }
@@ -196,7 +196,7 @@ pub extern "C" fn zibrotka_apply_triangle_shift(
     state: u64,
     states: &mut [i32],
 ) -> i64
-    ensures { Exported (on-sheet sheet.now (λ c L. triangle-call c L triangle state states.old)) result states.new }
+    ensures { Exported (on_sheet sheet.now (λ c L. triangle_call c L triangle state states.old)) result states.new }
 {
     export_apply_triangle_shift(sheet, triangle, state, states)
 }
@@ -204,7 +204,7 @@ pub extern "C" fn zibrotka_apply_triangle_shift(
 // All even edge sets of a sheet: their number.
 #[unsafe(no_mangle)]
 pub extern "C" fn zibrotka_su2_basis(sheet: &[u8], states: &mut [u64]) -> i64
-    ensures { Exported (on-sheet sheet.now (λ c L. su2-basis-call c states.old)) result states.new }
+    ensures { Exported (on_sheet sheet.now (λ c L. su2_basis_call c states.old)) result states.new }
 {
     export_su2_basis(sheet, states)
 }
@@ -212,7 +212,7 @@ pub extern "C" fn zibrotka_su2_basis(sheet: &[u8], states: &mut [u64]) -> i64
 // g² and the factors of U(1): 0.
 #[unsafe(no_mangle)]
 pub extern "C" fn zibrotka_u1_params(g_squared: f64, params: &mut [f64; 3]) -> i64
-    ensures { Exported (stored (coupling-call g_squared (u1-params g_squared)) three_floats params.old) result params.new }
+    ensures { Exported (stored (coupling_call g_squared (u1_params g_squared)) three_floats params.old) result params.new }
 {
     export_u1_params(g_squared, params)
 }
@@ -220,7 +220,7 @@ pub extern "C" fn zibrotka_u1_params(g_squared: f64, params: &mut [f64; 3]) -> i
 // g² and the factors of the two-valued mode: 0.
 #[unsafe(no_mangle)]
 pub extern "C" fn zibrotka_su2_params(g_squared: f64, params: &mut [f64; 3]) -> i64
-    ensures { Exported (stored (coupling-call g_squared (su2-params g_squared)) three_floats params.old) result params.new }
+    ensures { Exported (stored (coupling_call g_squared (su2_params g_squared)) three_floats params.old) result params.new }
 {
     export_su2_params(g_squared, params)
 }
@@ -237,7 +237,7 @@ pub extern "C" fn zibrotka_build_hamiltonian(
     states: &mut [i32],
     res: &mut [f64],
 ) -> i64
-    ensures { Exported (on-sheet sheet.now (λ c L. u1-dense-call c L (record { g_squared = g_squared; electric = electric; magnetic = magnetic }) given weights.now states.old res.old)) result (states.new, res.new) }
+    ensures { Exported (on_sheet sheet.now (λ c L. u1_dense_call c L (record { g_squared = g_squared; electric = electric; magnetic = magnetic }) given weights.now states.old res.old)) result (states.new, res.new) }
 {
     export_build_hamiltonian(
         sheet, g_squared, electric, magnetic, given, weights, states, res,
@@ -256,7 +256,7 @@ pub extern "C" fn zibrotka_build_su2_hamiltonian(
     states: &mut [u64],
     res: &mut [f64],
 ) -> i64
-    ensures { Exported (on-sheet sheet.now (λ c L. su2-dense-call c (record { g_squared = g_squared; electric = electric; magnetic = magnetic }) given weights.now states.old res.old)) result (states.new, res.new) }
+    ensures { Exported (on_sheet sheet.now (λ c L. su2_dense_call c (record { g_squared = g_squared; electric = electric; magnetic = magnetic }) given weights.now states.old res.old)) result (states.new, res.new) }
 {
     export_build_su2_hamiltonian(
         sheet, g_squared, electric, magnetic, given, weights, states, res,
@@ -277,7 +277,7 @@ pub extern "C" fn zibrotka_build_csr(
     columns: &mut [u32],
     values: &mut [f64],
 ) -> i64
-    ensures { Exported (on-sheet sheet.now (λ c L. csr-call c L (record { g_squared = g_squared; electric = electric; magnetic = magnetic }) given weights.now states.old starts.old columns.old values.old)) result (states.new, starts.new, columns.new, values.new) }
+    ensures { Exported (on_sheet sheet.now (λ c L. csr_call c L (record { g_squared = g_squared; electric = electric; magnetic = magnetic }) given weights.now states.old starts.old columns.old values.old)) result (states.new, starts.new, columns.new, values.new) }
 {
     export_build_csr(
         sheet, g_squared, electric, magnetic, given, weights, states, starts, columns, values,
@@ -298,7 +298,7 @@ pub extern "C" fn zibrotka_build_csr_su2(
     columns: &mut [u32],
     values: &mut [f64],
 ) -> i64
-    ensures { Exported (on-sheet sheet.now (λ c L. su2-rows-call c (record { g_squared = g_squared; electric = electric; magnetic = magnetic }) given weights.now states.old starts.old columns.old values.old)) result (states.new, starts.new, columns.new, values.new) }
+    ensures { Exported (on_sheet sheet.now (λ c L. su2_rows_call c (record { g_squared = g_squared; electric = electric; magnetic = magnetic }) given weights.now states.old starts.old columns.old values.old)) result (states.new, starts.new, columns.new, values.new) }
 {
     export_build_csr_su2(
         sheet, g_squared, electric, magnetic, given, weights, states, starts, columns, values,
@@ -314,7 +314,7 @@ pub extern "C" fn zibrotka_matvec(
     vector: &[f64],
     res: &mut [f64],
 ) -> i64
-    ensures { Exported (zero-told (product-call starts.now columns.now values.now vector.now res.old)) result res.new }
+    ensures { Exported (zero_told (product_call starts.now columns.now values.now vector.now res.old)) result res.new }
 {
     export_matvec(starts, columns, values, vector, res)
 }
@@ -322,7 +322,7 @@ pub extern "C" fn zibrotka_matvec(
 // How many states a sheet has.
 #[unsafe(no_mangle)]
 pub extern "C" fn zibrotka_count_states(sheet: &[u8]) -> i64
-    ensures { Exported (on-sheet sheet.now (λ c L. counted-call c L)) result none_lent }
+    ensures { Exported (on_sheet sheet.now (λ c L. counted_call c L)) result none_lent }
 {
     export_count_states(sheet)
 }
@@ -330,7 +330,7 @@ pub extern "C" fn zibrotka_count_states(sheet: &[u8]) -> i64
 // How many even edge sets a sheet has.
 #[unsafe(no_mangle)]
 pub extern "C" fn zibrotka_su2_count_states(sheet: &[u8]) -> i64
-    ensures { Exported (on-sheet sheet.now (λ c L. su2-counted-call c)) result none_lent }
+    ensures { Exported (on_sheet sheet.now (λ c L. su2_counted_call c)) result none_lent }
 {
     export_su2_count_states(sheet)
 }
@@ -338,7 +338,7 @@ pub extern "C" fn zibrotka_su2_count_states(sheet: &[u8]) -> i64
 // How many entries the row lists of a sheet have.
 #[unsafe(no_mangle)]
 pub extern "C" fn zibrotka_count_entries(sheet: &[u8]) -> i64
-    ensures { Exported (on-sheet sheet.now (λ c L. entries-call c L)) result none_lent }
+    ensures { Exported (on_sheet sheet.now (λ c L. entries_call c L)) result none_lent }
 {
     export_count_entries(sheet)
 }
@@ -356,7 +356,7 @@ pub extern "C" fn zibrotka_hamiltonian_matvec(
     states: &mut [i32],
     res: &mut [f64],
 ) -> i64
-    ensures { Exported (on-sheet sheet.now (λ c L. u1-product-call c L (record { g_squared = g_squared; electric = electric; magnetic = magnetic }) given weights.now vector.now states.old res.old)) result (states.new, res.new) }
+    ensures { Exported (on_sheet sheet.now (λ c L. u1_product_call c L (record { g_squared = g_squared; electric = electric; magnetic = magnetic }) given weights.now vector.now states.old res.old)) result (states.new, res.new) }
 {
     export_hamiltonian_matvec(
         sheet, g_squared, electric, magnetic, given, weights, vector, states, res,
@@ -371,7 +371,7 @@ pub extern "C" fn zibrotka_electric_field_sq(
     states: &mut [i32],
     res: &mut [f64],
 ) -> i64
-    ensures { Exported (on-sheet sheet.now (λ c L. electric-call c L amplitudes.now states.old res.old)) result (states.new, res.new) }
+    ensures { Exported (on_sheet sheet.now (λ c L. electric_call c L amplitudes.now states.old res.old)) result (states.new, res.new) }
 {
     export_electric_field_sq(sheet, amplitudes, states, res)
 }
@@ -386,7 +386,7 @@ pub extern "C" fn zibrotka_wilson_loop(
     states: &mut [i32],
     expectation: &mut f64,
 ) -> i64
-    ensures { Exported (on-sheet sheet.now (λ c L. value_lent (wilson-call c L amplitudes.now edges.now directions.now states.old) expectation.old)) result (states.new, expectation.new) }
+    ensures { Exported (on_sheet sheet.now (λ c L. value_lent (wilson_call c L amplitudes.now edges.now directions.now states.old) expectation.old)) result (states.new, expectation.new) }
 {
     export_wilson_loop(sheet, amplitudes, edges, directions, states, expectation)
 }
@@ -394,7 +394,7 @@ pub extern "C" fn zibrotka_wilson_loop(
 // How many entries the row lists of a sheet have in the two-valued mode.
 #[unsafe(no_mangle)]
 pub extern "C" fn zibrotka_su2_count_entries(sheet: &[u8]) -> i64
-    ensures { Exported (on-sheet sheet.now (λ c L. su2-entries-call c)) result none_lent }
+    ensures { Exported (on_sheet sheet.now (λ c L. su2_entries_call c)) result none_lent }
 {
     export_su2_count_entries(sheet)
 }
@@ -412,7 +412,7 @@ pub extern "C" fn zibrotka_su2_hamiltonian_matvec(
     states: &mut [u64],
     res: &mut [f64],
 ) -> i64
-    ensures { Exported (on-sheet sheet.now (λ c L. su2-product-call c (record { g_squared = g_squared; electric = electric; magnetic = magnetic }) given weights.now vector.now states.old res.old)) result (states.new, res.new) }
+    ensures { Exported (on_sheet sheet.now (λ c L. su2_product_call c (record { g_squared = g_squared; electric = electric; magnetic = magnetic }) given weights.now vector.now states.old res.old)) result (states.new, res.new) }
 {
     export_su2_hamiltonian_matvec(
         sheet, g_squared, electric, magnetic, given, weights, vector, states, res,
@@ -428,7 +428,7 @@ pub extern "C" fn zibrotka_su2_wilson_loop(
     states: &mut [u64],
     expectation: &mut f64,
 ) -> i64
-    ensures { Exported (on-sheet sheet.now (λ c L. value_lent (su2-loop-call c vector.now path.now states.old) expectation.old)) result (states.new, expectation.new) }
+    ensures { Exported (on_sheet sheet.now (λ c L. value_lent (su2_loop_call c vector.now path.now states.old) expectation.old)) result (states.new, expectation.new) }
 {
     export_su2_wilson_loop(sheet, vector, path, states, expectation)
 }
@@ -442,7 +442,7 @@ pub extern "C" fn zibrotka_su2_wilson_passes(
     states: &mut [u64],
     expectation: &mut f64,
 ) -> i64
-    ensures { Exported (on-sheet sheet.now (λ c L. value_lent (su2-passes-call c vector.now path.now states.old) expectation.old)) result (states.new, expectation.new) }
+    ensures { Exported (on_sheet sheet.now (λ c L. value_lent (su2_passes_call c vector.now path.now states.old) expectation.old)) result (states.new, expectation.new) }
 {
     export_su2_wilson_passes(sheet, vector, path, states, expectation)
 }
@@ -450,7 +450,7 @@ pub extern "C" fn zibrotka_su2_wilson_passes(
 // The sentence of a refusal: the number of its bytes.
 #[unsafe(no_mangle)]
 pub extern "C" fn zibrotka_refusal_text(number: u64, text: &mut [u8]) -> i64
-    ensures { Exported (text-call number text.old) result text.new }
+    ensures { Exported (text_call number text.old) result text.new }
 {
     export_refusal_text(number, text)
 }

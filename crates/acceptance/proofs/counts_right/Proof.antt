@@ -1,5 +1,5 @@
 use mathlib.Core.Path.{refl}
-use Rattle.complex.specs.Judge.{counts-right}
+use Rattle.complex.specs.Judge.{counts_right}
 use Rattle.acceptance.proofs.counts_right.Statement.{statement}
 use Rattle.acceptance.proofs.counts_right.Tie as tie
 use Rattle.acceptance.proofs.counts_right.Reads as reads
@@ -7,8 +7,8 @@ use Rattle.acceptance.proofs.counts_right.Lts as lts
 
 -- src/judge.rt:130:1
 returns : tie.Need-returns
-unfolding counts-right
+unfolding counts_right
 returns c = refl
 
-pub counts-right-spec : {M : Type 1} → statement M
-counts-right-spec = tie.close (tie.spec returns)
+pub counts_right_spec : {M : Type 1} → statement M
+counts_right_spec = tie.close (tie.spec returns)

@@ -1,4 +1,4 @@
-use Rattle.acceptance.proofs.Once.{indexed-next}
+use Rattle.acceptance.proofs.Once.{indexed_next}
 use borrow.Author.Rules.{rules}
 use Rattle.acceptance.proofs.index_edge.Statement.{statement}
 use Rattle.acceptance.proofs.index_edge.Tie as tie
@@ -7,8 +7,8 @@ use Rattle.acceptance.proofs.index_edge.Lts as lts
 use Rattle.acceptance.proofs.edge_key.Reads as edge-key-reads
 
 -- src/lib.rt:53:9
-edge-key-requires : tie.Need-edge-key-requires
-edge-key-requires c κs = search rules
+edge_key-requires : tie.Need-edge_key-requires
+edge_key-requires c κs = search rules
 
 -- src/lib.rt:54:15
 element-copy-out-new : tie.Need-element-copy-out-new
@@ -30,13 +30,13 @@ element-write-table c = search rules
 returns : tie.Need-returns
 returns c =
     let a = c.before.before in
-    λ i. rw c.before.edge-key.ensures.0 (indexed-next _ _ a.requires.1 a.requires.2 _ _ i)
+    λ i. rw c.before.edge_key.ensures.0 (indexed_next _ _ a.requires.1 a.requires.2 _ _ i)
 
-pub index-edge-spec : {M : Type 1} → statement M
-index-edge-spec =
+pub index_edge_spec : {M : Type 1} → statement M
+index_edge_spec =
     tie.close
     (tie.spec
-    edge-key-requires
+    edge_key-requires
     element-copy-out-new
     add-table
     cast-table

@@ -4,7 +4,7 @@ use mathlib.Core.Path.{◌≡◌}
 use native.Mathlib.Omega.{arith}
 use Rattle.complex.specs.Complex.{simplices}
 use Rattle.acceptance.specs.Once.{EdgesIndexed}
-use Rattle.acceptance.proofs.Once.{none-indexed}
+use Rattle.acceptance.proofs.Once.{none_indexed}
 use Rattle.acceptance.proofs.index_edges.Statement.{statement}
 use Rattle.acceptance.proofs.index_edges.Tie as tie
 use Rattle.acceptance.proofs.index_edges.Reads as reads
@@ -20,15 +20,15 @@ decreases-loop edges m table₀ so-far₀ e₀ table so_far e = m - e
 -- src/lib.rt:65:5
 loop-holds : tie.Need-loop-init invariant-loop decreases-loop
 unfolding simplices
-loop-holds c = (omega arith, rw c.requires.1 none-indexed)
+loop-holds c = (omega arith, rw c.requires.1 none_indexed)
 
 -- src/lib.rt:66:9
-index-edge-requires : tie.Need-index-edge-requires invariant-loop decreases-loop
-index-edge-requires c κs =
-    let at-loop = c.before.before in
-    let m : at-loop.before.args.m ≤ 63 = at-loop.before.requires.0 in
-    let here : at-loop.loop.e < at-loop.before.args.m = omega arith in
-    let small = at-loop.before.requires.2 at-loop.loop.e here in
+index_edge-requires : tie.Need-index_edge-requires invariant-loop decreases-loop
+index_edge-requires c κs =
+    let at_loop = c.before.before in
+    let m : at_loop.before.args.m ≤ 63 = at_loop.before.requires.0 in
+    let here : at_loop.loop.e < at_loop.before.args.m = omega arith in
+    let small = at_loop.before.requires.2 at_loop.loop.e here in
     (omega arith, small.0, small.1)
 
 -- src/lib.rt:65:9
@@ -41,7 +41,7 @@ loop-less c = search rules
 
 -- src/lib.rt:65:5
 loop-again : tie.Need-loop-preserved invariant-loop decreases-loop
-loop-again c = (omega arith, c.index-edge.ensures c.before.before.before.loop.invariant.1)
+loop-again c = (omega arith, c.index_edge.ensures c.before.before.before.loop.invariant.1)
 
 -- src/lib.rt:60:1
 returns : tie.Need-returns invariant-loop decreases-loop
@@ -49,7 +49,7 @@ returns c =
     let past : c.before.loop.e ≡ c.before.before.args.m = omega arith in
     rw past at c.before.loop.invariant.1
 
-pub index-edges-spec : {M : Type 1} → statement M
-index-edges-spec =
+pub index_edges_spec : {M : Type 1} → statement M
+index_edges_spec =
     tie.close
-    (tie.spec invariant-loop decreases-loop loop-holds index-edge-requires add-e loop-less loop-again returns)
+    (tie.spec invariant-loop decreases-loop loop-holds index_edge-requires add-e loop-less loop-again returns)

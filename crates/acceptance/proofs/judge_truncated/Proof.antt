@@ -1,5 +1,5 @@
 use borrow.Author.Tests.{eq-eqb, ne_eqb, lt-ltb, le-ltb}
-use Rattle.complex.proofs.Judging.{with-truncation}
+use Rattle.complex.proofs.Judging.{with_truncation}
 use borrow.Author.Rules.{rules}
 use Rattle.acceptance.proofs.judge_truncated.Statement.{statement}
 use Rattle.acceptance.proofs.judge_truncated.Tie as tie
@@ -13,15 +13,15 @@ judge-requires c κs = search rules
 
 -- src/judge.rt:178:9
 returns : tie.Need-returns
-returns c = rw (with-truncation, ← c.before.judge.ensures, eq-eqb _ _ c.if1.true)
+returns c = rw (with_truncation, ← c.before.judge.ensures, eq-eqb _ _ c.if1.true)
 
 -- src/judge.rt:181:9
 returns-2 : tie.Need-returns-2
-returns-2 c = rw (with-truncation, ← c.before.before.judge.ensures, ne_eqb _ _ c.before.if1.false, lt-ltb _ _ c.if2.true)
+returns-2 c = rw (with_truncation, ← c.before.before.judge.ensures, ne_eqb _ _ c.before.if1.false, lt-ltb _ _ c.if2.true)
 
 -- src/judge.rt:173:1
 returns-3 : tie.Need-returns-3
-returns-3 c = rw (with-truncation, ← c.before.before.judge.ensures, ne_eqb _ _ c.before.if1.false, le-ltb _ _ c.if2.false)
+returns-3 c = rw (with_truncation, ← c.before.before.judge.ensures, ne_eqb _ _ c.before.if1.false, le-ltb _ _ c.if2.false)
 
-pub judge-truncated-spec : {M : Type 1} → statement M
-judge-truncated-spec = tie.close (tie.spec judge-requires returns returns-2 returns-3)
+pub judge_truncated_spec : {M : Type 1} → statement M
+judge_truncated_spec = tie.close (tie.spec judge-requires returns returns-2 returns-3)

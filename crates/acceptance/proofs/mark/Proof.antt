@@ -1,7 +1,7 @@
 use Prim.Native.Nat.{◌/◌, ◌%◌}
 use native.Mathlib.Omega.{arith}
 use lib.ListN.{get_or}
-use Rattle.mathematics.proofs.Bits.{bit_shifted, power-shifted}
+use Rattle.mathematics.proofs.Bits.{bit_shifted, power_shifted}
 use Rattle.acceptance.proofs.Once.{marked_next}
 use borrow.Author.Rules.{rules}
 use Rattle.acceptance.proofs.mark.Statement.{statement}
@@ -40,7 +40,7 @@ returns c =
     let k = a.key in
     let word = get_or a.seen.now (k / 64) 0 in
     λ keys m.
-    rw (power-shifted (k % 64) (omega arith), ← bit_shifted word (k % 64)) (marked_next a.seen.now keys a.so_far k c.before.requires m)
+    rw (power_shifted (k % 64) (omega arith), ← bit_shifted word (k % 64)) (marked_next a.seen.now keys a.so_far k c.before.requires m)
 
 pub mark_spec : {M : Type 1} → statement M
 mark_spec =

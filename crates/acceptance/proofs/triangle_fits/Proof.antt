@@ -1,4 +1,4 @@
-use Rattle.complex.proofs.Triangles.{first-falls, second-falls, third-past, sides-found}
+use Rattle.complex.proofs.Triangles.{first_falls, second_falls, third_past, sides_found}
 use borrow.Author.Rules.{rules}
 use Rattle.acceptance.proofs.triangle_fits.Statement.{statement}
 use Rattle.acceptance.proofs.triangle_fits.Tie as tie
@@ -40,26 +40,26 @@ returns : tie.Need-returns
 returns c =
     let b = c.before in
     let s = c.before.before.before.before.before.before.before in
-    λ es i. first-falls _ _ _ _ _ b.before.before.before.before.byte.ensures b.before.before.byte2.ensures b.byte3.ensures _ es c.if1.true
+    λ es i. first_falls _ _ _ _ _ b.before.before.before.before.byte.ensures b.before.before.byte2.ensures b.byte3.ensures _ es c.if1.true
 
 returns-2 : tie.Need-returns-2
 returns-2 c =
     let b = c.before.before in
-    λ es i. second-falls _ _ _ _ _ b.before.before.before.before.byte.ensures b.before.before.byte2.ensures b.byte3.ensures _ es c.before.if1.false c.if2.true
+    λ es i. second_falls _ _ _ _ _ b.before.before.before.before.byte.ensures b.before.before.byte2.ensures b.byte3.ensures _ es c.before.if1.false c.if2.true
 
 returns-3 : tie.Need-returns-3
 returns-3 c =
     let b = c.before.before.before in
-    λ es i. third-past _ _ _ _ _ b.before.before.before.before.byte.ensures b.before.before.byte2.ensures b.byte3.ensures _ es c.before.before.if1.false c.before.if2.false c.if3.true
+    λ es i. third_past _ _ _ _ _ b.before.before.before.before.byte.ensures b.before.before.byte2.ensures b.byte3.ensures _ es c.before.before.if1.false c.before.if2.false c.if3.true
 
-edge-number-requires : tie.Need-edge-number-requires
-edge-number-requires c κs = search rules
+edge_number-requires : tie.Need-edge_number-requires
+edge_number-requires c κs = search rules
 
-edge-number-requires-2 : tie.Need-edge-number-requires-2
-edge-number-requires-2 c κs = search rules
+edge_number-requires-2 : tie.Need-edge_number-requires-2
+edge_number-requires-2 c κs = search rules
 
-edge-number-requires-3 : tie.Need-edge-number-requires-3
-edge-number-requires-3 c κs = search rules
+edge_number-requires-3 : tie.Need-edge_number-requires-3
+edge_number-requires-3 c κs = search rules
 
 returns-4 : tie.Need-returns-4
 returns-4 c =
@@ -67,11 +67,11 @@ returns-4 c =
     let b = e.before.before.before in
     let s = b.before.before.before.before.before.before in
     λ es i.
-    rw (c.before.before.edge-number.ensures, c.before.edge-number2.ensures, c.edge-number3.ensures)
-    (sides-found _ _ _ _ _ b.before.before.before.before.byte.ensures b.before.before.byte2.ensures b.byte3.ensures _ es e.before.before.if1.false e.before.if2.false e.if3.false s.requires.1 _ i)
+    rw (c.before.before.edge_number.ensures, c.before.edge-number2.ensures, c.edge-number3.ensures)
+    (sides_found _ _ _ _ _ b.before.before.before.before.byte.ensures b.before.before.byte2.ensures b.byte3.ensures _ es e.before.before.if1.false e.before.if2.false e.if3.false s.requires.1 _ i)
 
-pub triangle-fits-spec : {M : Type 1} → statement M
-triangle-fits-spec =
+pub triangle_fits_spec : {M : Type 1} → statement M
+triangle_fits_spec =
     tie.close
     (tie.spec
     mul-byte
@@ -88,7 +88,7 @@ triangle-fits-spec =
     returns
     returns-2
     returns-3
-    edge-number-requires
-    edge-number-requires-2
-    edge-number-requires-3
+    edge_number-requires
+    edge_number-requires-2
+    edge_number-requires-3
     returns-4)

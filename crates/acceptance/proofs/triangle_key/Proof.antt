@@ -1,6 +1,6 @@
 use Prim.Native.Nat.{◌≤◌, ◌<◌}
 use native.Mathlib.Omega.{arith}
-use Rattle.complex.proofs.Triangles.{known-first, known-number, key-is}
+use Rattle.complex.proofs.Triangles.{known_first, known_number, key_is}
 use borrow.Author.Rules.{rules}
 use Rattle.acceptance.proofs.triangle_key.Statement.{statement}
 use Rattle.acceptance.proofs.triangle_key.Tie as tie
@@ -42,17 +42,17 @@ byte-requires-3 c κs = search rules
 known_at : (c : tie.After-byte3) → (c.before.before.before.before.byte.result < 64) × (c.before.before.byte2.result < 64) × (c.byte3.result < 64)
 known_at c =
     let s = c.before.before.before.before.before.before in
-    known-first s.args.triangles.now s.args.t c.before.before.before.before.byte.result c.before.before.byte2.result c.byte3.result c.before.before.before.before.byte.ensures c.before.before.byte2.ensures c.byte3.ensures s.args.table.now s.requires.1
+    known_first s.args.triangles.now s.args.t c.before.before.before.before.byte.result c.before.before.byte2.result c.byte3.result c.before.before.before.before.byte.ensures c.before.before.byte2.ensures c.byte3.ensures s.args.table.now s.requires.1
 
-number_at : (c : tie.After-edge-number) → (1 ≤ c.edge-number.result) × (c.edge-number.result ≤ 64)
+number_at : (c : tie.After-edge_number) → (1 ≤ c.edge_number.result) × (c.edge_number.result ≤ 64)
 number_at c =
     let b = c.before in
     let s = c.before.before.before.before.before.before.before in
-    rw c.edge-number.ensures
-    (known-number s.args.triangles.now s.args.t b.before.before.before.before.byte.result b.before.before.byte2.result b.byte3.result b.before.before.before.before.byte.ensures b.before.before.byte2.ensures b.byte3.ensures s.args.table.now s.requires.1)
+    rw c.edge_number.ensures
+    (known_number s.args.triangles.now s.args.t b.before.before.before.before.byte.result b.before.before.byte2.result b.byte3.result b.before.before.before.before.byte.ensures b.before.before.byte2.ensures b.byte3.ensures s.args.table.now s.requires.1)
 
-edge-number-requires : tie.Need-edge-number-requires
-edge-number-requires c κs =
+edge_number-requires : tie.Need-edge_number-requires
+edge_number-requires c κs =
     let bytes = known_at c in
     (bytes.0, bytes.1)
 
@@ -69,10 +69,10 @@ returns : tie.Need-returns
 returns c =
     let b = c.before in
     let s = c.before.before.before.before.before.before.before in
-    (rw c.edge-number.ensures (key-is s.args.triangles.now s.args.t b.before.before.before.before.byte.result b.before.before.byte2.result b.byte3.result b.before.before.before.before.byte.ensures b.before.before.byte2.ensures b.byte3.ensures s.args.table.now s.requires.1), omega (arith, number_at c, known_at c.before))
+    (rw c.edge_number.ensures (key_is s.args.triangles.now s.args.t b.before.before.before.before.byte.result b.before.before.byte2.result b.byte3.result b.before.before.before.before.byte.ensures b.before.before.byte2.ensures b.byte3.ensures s.args.table.now s.requires.1), omega (arith, number_at c, known_at c.before))
 
-pub triangle-key-spec : {M : Type 1} → statement M
-triangle-key-spec =
+pub triangle_key_spec : {M : Type 1} → statement M
+triangle_key_spec =
     tie.close
     (tie.spec
     mul-byte
@@ -86,7 +86,7 @@ triangle-key-spec =
     add-byte-2
     element-copy-out-byte-3
     byte-requires-3
-    edge-number-requires
+    edge_number-requires
     sub-result
     mul-result
     add-result

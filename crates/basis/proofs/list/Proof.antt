@@ -3,21 +3,21 @@ use mathlib.Core.Path.{sym}
 use native.Mathlib.Omega.{arith}
 use lib.ListN.{length}
 use lib.Seq.{length-take-le}
-use Rattle.streams.proofs.Movings.{read-inside}
+use Rattle.streams.proofs.Movings.{read_inside}
 use borrow.Author.Rules.{rules}
 use Rattle.basis.proofs.list.Statement.{statement}
 use Rattle.basis.proofs.list.Tie as tie
 
-inside : (c : tie.After-known-told) → c.before.n.given.0.0 ≤ length c.before.before.before.before.read-input.new.1.0
+inside : (c : tie.After-known-told) → c.before.n.given.0.0 ≤ length c.before.before.before.before.read_input.new.1.0
 inside c =
-    let read = c.before.before.before.before.read-input in
-    omega (arith, read.auto.1.0, read-inside _ _ read.result c.before.n.given.1 read.ensures)
+    let read = c.before.before.before.before.read_input in
+    omega (arith, read.auto.1.0, read_inside _ _ read.result c.before.n.given.1 read.ensures)
 
 slice-aggregate-read-input : tie.Need-slice-aggregate-read-input
 slice-aggregate-read-input c = search rules
 
-read-input-requires : tie.Need-read-input-requires
-read-input-requires c κs = search rules
+read_input-requires : tie.Need-read_input-requires
+read_input-requires c κs = search rules
 
 enum-known-n : tie.Need-enum-known-n
 enum-known-n c = search rules
@@ -46,12 +46,12 @@ returns c = search rules
 returns-2 : tie.Need-returns-2
 returns-2 c = search rules
 
-pub list-spec : {M : Type 1} → statement M
-list-spec =
+pub list_spec : {M : Type 1} → statement M
+list_spec =
     tie.close
     (tie.spec
     slice-aggregate-read-input
-    read-input-requires
+    read_input-requires
     enum-known-n
     array-share-prefix-input
     slice-aggregate-answer

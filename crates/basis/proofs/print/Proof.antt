@@ -8,7 +8,7 @@ use lib.ListN.{length, length-drop}
 use lib.Seq.{length-take-le}
 use Rattle.pages.specs.declared.Page.{Page}
 use Rattle.pages.specs.declared.Filled.{Filled}
-use Rattle.pages.specs.Pages.{to-come, PageReady, Piece, Continues}
+use Rattle.pages.specs.Pages.{to_come, PageReady, Piece, Continues}
 use borrow.Author.Rules.{rules}
 use Rattle.basis.proofs.print.Statement.{statement}
 use Rattle.basis.proofs.print.Tie as tie
@@ -18,14 +18,14 @@ invariant-loop out₀ piece₀ out piece =
     (length out ≡ length out₀) × (piece.len ≤ length out) × (piece.more ≡ true → PageReady piece.page)
 
 abbrev decreases-loop : tie.decreases-loop
-decreases-loop out₀ piece₀ out piece = length (to-come piece.page)
+decreases-loop out₀ piece₀ out piece = length (to_come piece.page)
 
 -- the piece after a page, of what is to come after it
-next : (p : Page) (out : List ℕ) (r : Filled) → Continues out p r → Piece (to-come p) 0 out r
-next p out r more = more (to-come p) 0 (record { rest = refl; inside = omega arith })
+next : (p : Page) (out : List ℕ) (r : Filled) → Continues out p r → Piece (to_come p) 0 out r
+next p out r more = more (to_come p) 0 (record { rest = refl; inside = omega arith })
 
 -- each piece leaves less to come
-less : (text out : List ℕ) (r : Filled) → Piece text 0 out r → length (to-come r.page) < length text
+less : (text out : List ℕ) (r : Filled) → Piece text 0 out r → length (to_come r.page) < length text
 less text out r piece = omega (arith, piece.some, piece.inside, ap length piece.next.rest, length-drop (0 + r.len) text)
 
 loop-holds : tie.Need-loop-init invariant-loop decreases-loop
@@ -37,8 +37,8 @@ slice-reshare-prefix-write-output c = search rules
 slice-aggregate-write-output : tie.Need-slice-aggregate-write-output invariant-loop decreases-loop
 slice-aggregate-write-output c = sym (length-take-le _ _ c.before.loop.invariant.1)
 
-write-output-requires : tie.Need-write-output-requires invariant-loop decreases-loop
-write-output-requires c κs = search rules
+write_output-requires : tie.Need-write_output-requires invariant-loop decreases-loop
+write_output-requires c κs = search rules
 
 same_length : tie.Need-same-length invariant-loop decreases-loop
 same_length c = search rules
@@ -52,11 +52,11 @@ same-length-2 c = search rules
 returns-2 : tie.Need-returns-2 invariant-loop decreases-loop
 returns-2 c = search rules
 
-fill-more-requires : tie.Need-fill-more-requires invariant-loop decreases-loop
-fill-more-requires c κs =
-    let at-loop = c.before.before.before.before.before.before in
-    let room = at-loop.before.before.requires.0 in
-    (omega (arith, at-loop.loop.invariant.0), at-loop.loop.invariant.2 (not-false _ c.before.if2.false))
+fill_more-requires : tie.Need-fill_more-requires invariant-loop decreases-loop
+fill_more-requires c κs =
+    let at_loop = c.before.before.before.before.before.before in
+    let room = at_loop.before.before.requires.0 in
+    (omega (arith, at_loop.loop.invariant.0), at_loop.loop.invariant.2 (not-false _ c.before.if2.false))
 
 loop-less : tie.Need-loop-smaller invariant-loop decreases-loop
 loop-less c =
@@ -65,13 +65,13 @@ loop-less c =
 
 loop-again : tie.Need-loop-preserved invariant-loop decreases-loop
 loop-again c =
-    let at-loop = c.before.before.before.before.before.before.before.before.before in
+    let at_loop = c.before.before.before.before.before.before.before.before.before in
     let filled = c.before.before.fill_more in
     let piece = next _ _ filled.result filled.ensures in
-    (filled.auto.0 ∙ at-loop.loop.invariant.0, piece.fits, piece.ready)
+    (filled.auto.0 ∙ at_loop.loop.invariant.0, piece.fits, piece.ready)
 
-pub print-spec : {M : Type 1} → statement M
-print-spec =
+pub print_spec : {M : Type 1} → statement M
+print_spec =
     tie.close
     (tie.spec
     invariant-loop
@@ -79,11 +79,11 @@ print-spec =
     loop-holds
     slice-reshare-prefix-write-output
     slice-aggregate-write-output
-    write-output-requires
+    write_output-requires
     same_length
     returns
     same-length-2
     returns-2
-    fill-more-requires
+    fill_more-requires
     loop-less
     loop-again)

@@ -3,18 +3,18 @@ use mathlib.Core.Path.{sym}
 use native.Mathlib.Omega.{arith}
 use lib.ListN.{length}
 use lib.Seq.{length-take-le}
-use Rattle.answers.specs.Answer.{numberAnswer}
-use Rattle.refusals.proofs.Telling.{bytes-few}
+use Rattle.answers.specs.Answer.{number_answer}
+use Rattle.refusals.proofs.Telling.{bytes_few}
 use borrow.Author.Rules.{rules}
 use Rattle.basis.proofs.say_refusal.Statement.{statement}
 use Rattle.basis.proofs.say_refusal.Tie as tie
 
 -- the sentence stands in the list
-inside : (c : tie.After-say2) → c.before.before.before.n.given.0.0 ≤ length c.before.before.before.before.before.before.refusal-text.new.1.0
-unfolding numberAnswer
+inside : (c : tie.After-say2) → c.before.before.before.n.given.0.0 ≤ length c.before.before.before.before.before.before.refusal_text.new.1.0
+unfolding number_answer
 inside c =
-    let told = c.before.before.before.before.before.before.refusal-text in
-    omega (arith, told.auto.1.0, bytes-few _ _ _ _ (rw c.before.before.before.n.given.1 at told.ensures))
+    let told = c.before.before.before.before.before.before.refusal_text in
+    omega (arith, told.auto.1.0, bytes_few _ _ _ _ (rw c.before.before.before.n.given.1 at told.ensures))
 
 slice-aggregate-say : tie.Need-slice-aggregate-say
 slice-aggregate-say c = search rules
@@ -28,8 +28,8 @@ print-decimal-requires c κs = search rules
 slice-aggregate-refusal-text : tie.Need-slice-aggregate-refusal-text
 slice-aggregate-refusal-text c = search rules
 
-refusal-text-requires : tie.Need-refusal-text-requires
-refusal-text-requires c κs = search rules
+refusal_text-requires : tie.Need-refusal_text-requires
+refusal_text-requires c κs = search rules
 
 enum-known-n : tie.Need-enum-known-n
 enum-known-n c = search rules
@@ -61,15 +61,15 @@ say-requires-4 c κs = search rules
 returns : tie.Need-returns
 returns c = search rules
 
-pub say-refusal-spec : {M : Type 1} → statement M
-say-refusal-spec =
+pub say_refusal_spec : {M : Type 1} → statement M
+say_refusal_spec =
     tie.close
     (tie.spec
     slice-aggregate-say
     say-requires
     print-decimal-requires
     slice-aggregate-refusal-text
-    refusal-text-requires
+    refusal_text-requires
     enum-known-n
     slice-aggregate-say-2
     say-requires-2

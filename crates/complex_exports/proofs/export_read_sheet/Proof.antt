@@ -5,12 +5,12 @@ use borrow.Author.Tests.{ne_eqb}
 use lib.ListN.{length}
 use Rattle.mathematics.proofs.Signed.{back64}
 use Rattle.mathematics.proofs.Calls.{refuses, ends}
-use Rattle.complex.proofs.Accepting.{Counts, counts-own}
-use Rattle.sheet.specs.Sheet.{reading-call}
+use Rattle.complex.proofs.Accepting.{Counts, counts_own}
+use Rattle.sheet.specs.Sheet.{reading_call}
 use Rattle.exports.specs.Exports.{signed, stored}
 use Rattle.exports.proofs.Signs.{exports}
-use Rattle.exports.proofs.OnSheets.{read-tells, read-accepted}
-use Rattle.complex_exports.proofs.Parts.{parts-written}
+use Rattle.exports.proofs.OnSheets.{read_tells, read_accepted}
+use Rattle.complex_exports.proofs.Parts.{parts_written}
 use borrow.Author.Rules.{rules}
 use Rattle.complex_exports.proofs.export_read_sheet.Statement.{statement}
 use Rattle.complex_exports.proofs.export_read_sheet.Tie as tie
@@ -22,18 +22,18 @@ refused-requires : tie.Need-refused-requires
 refused-requires c κs = search rules
 
 returns : tie.Need-returns
-unfolding stored reading-call signed
-returns c = exports (refuses _ (read-tells c.before.before.open.ensures) (ne_eqb _ 0 c.before.if1.true)) (back64 _ c.refused.type-inv ∙ c.refused.ensures)
+unfolding stored reading_call signed
+returns c = exports (refuses _ (read_tells c.before.before.open.ensures) (ne_eqb _ 0 c.before.if1.true)) (back64 _ c.refused.type-inv ∙ c.refused.ensures)
 
 -- the sheet is accepted, so that its counts are small
 few : (c : tie.Else1) → Counts c.before.open.result.sheet.complex.n_vertices c.before.open.result.sheet.complex.n_edges c.before.open.result.sheet.complex.n_triangles
-few c = counts-own c.before.open.result.sheet.complex (read-accepted c.before.open.ensures c.if1.false)
+few c = counts_own c.before.open.result.sheet.complex (read_accepted c.before.open.ensures c.if1.false)
 
-edges-long : (c : tie.Else1) → length c.before.open.result.sheet.complex.edges ≡ 126
-edges-long c = search rules
+edges_long : (c : tie.Else1) → length c.before.open.result.sheet.complex.edges ≡ 126
+edges_long c = search rules
 
-triangles-long : (c : tie.Else1) → length c.before.open.result.sheet.complex.triangles ≡ 768
-triangles-long c = search rules
+triangles_long : (c : tie.Else1) → length c.before.open.result.sheet.complex.triangles ≡ 768
+triangles_long c = search rules
 
 mul-copy : tie.Need-overflow-mul-copy
 mul-copy c = omega (arith, (few c.before.before.before.before.before).edges)
@@ -43,7 +43,7 @@ copy-requires c κs =
     let e = c.before.before.before.before.before.before in
     let room : length e.before.before.before.args.edges.now ≡ 126 = search rules in
     let k = (few e).edges in
-    let long = edges-long e in
+    let long = edges_long e in
     (omega arith, omega arith)
 
 mul-copy-2 : tie.Need-overflow-mul-copy-2
@@ -54,22 +54,22 @@ copy-requires-2 c κs =
     let e = c.before.before.before.before.before.before.before.before.before.before.before in
     let room : length e.before.before.before.args.triangles.now ≡ 768 = search rules in
     let k = (few e).triangles in
-    let long = triangles-long e in
+    let long = triangles_long e in
     (omega arith, omega arith)
 
 returns-2 : tie.Need-returns-2
-unfolding stored reading-call signed
+unfolding stored reading_call signed
 returns-2 c =
     let e = c.before.before.before.before.before.before.before.before.before.before.before.before in
     let o = e.before.open.ensures in
     let is = o.holds (sym o.number ∙ e.if1.false) in
     let k = few e in
-    let es = edges-long e in
-    let ts = triangles-long e in
-    exports (ends _ (rw e.if1.false at (read-tells o)) refl (parts-written is _ _ c.before.before.before.before.before.copy.ensures c.copy2.ensures (omega (arith, k.edges)) (omega (arith, k.triangles))) tt) refl
+    let es = edges_long e in
+    let ts = triangles_long e in
+    exports (ends _ (rw e.if1.false at (read_tells o)) refl (parts_written is _ _ c.before.before.before.before.before.copy.ensures c.copy2.ensures (omega (arith, k.edges)) (omega (arith, k.triangles))) tt) refl
 
-pub export-read-sheet-spec : {M : Type 1} → statement M
-export-read-sheet-spec =
+pub export_read_sheet_spec : {M : Type 1} → statement M
+export_read_sheet_spec =
     tie.close
     (tie.spec
     open-requires

@@ -1,8 +1,8 @@
 use mathlib.Core.Path.{refl, ◌∙◌}
 use Rattle.mathematics.proofs.Signed.{back64}
-use Rattle.gauss_law.specs.Spanning.{tree-call}
-use Rattle.exports.proofs.Signs.{signed-told}
-use Rattle.exports.proofs.OnSheets.{sheet-refuses, sheet-answers, small-answer, few-small}
+use Rattle.gauss_law.specs.Spanning.{tree_call}
+use Rattle.exports.proofs.Signs.{signed_told}
+use Rattle.exports.proofs.OnSheets.{sheet_refuses, sheet_answers, small_answer, few_small}
 use borrow.Author.Rules.{rules}
 use Rattle.complex_exports.proofs.export_spanning_tree.Statement.{statement}
 use Rattle.complex_exports.proofs.export_spanning_tree.Tie as tie
@@ -14,18 +14,18 @@ refused-requires : tie.Need-refused-requires
 refused-requires c κs = search rules
 
 returns : tie.Need-returns
-unfolding tree-call
-returns c = sheet-refuses c.before.before.open.ensures _ c.before.if1.true _ (back64 _ c.refused.type-inv ∙ c.refused.ensures)
+unfolding tree_call
+returns c = sheet_refuses c.before.before.open.ensures _ c.before.if1.true _ (back64 _ c.refused.type-inv ∙ c.refused.ensures)
 
-spanning-tree-requires : tie.Need-spanning-tree-requires
-spanning-tree-requires c κs = search rules
+spanning_tree-requires : tie.Need-spanning_tree-requires
+spanning_tree-requires c κs = search rules
 
-told-number-requires : tie.Need-told-number-requires
-told-number-requires c κs = search rules
+told_number-requires : tie.Need-told_number-requires
+told_number-requires c κs = search rules
 
 signed-requires : tie.Need-signed-requires
-unfolding tree-call
-signed-requires c κs = small-answer c.before.before.before.before.before.spanning-tree.ensures (λ k. few-small k refl) c.told-number.ensures
+unfolding tree_call
+signed-requires c κs = small_answer c.before.before.before.before.before.spanning_tree.ensures (λ k. few_small k refl) c.told_number.ensures
 
 same_length : tie.Need-same-length
 same_length c = search rules
@@ -37,17 +37,17 @@ returns-2 : tie.Need-returns-2
 returns-2 c =
     let t = c.before.before.before.before.before.before in
     let e = t.before.before.before.before in
-    sheet-answers e.before.open.ensures _ e.if1.false t.spanning-tree.ensures (back64 _ c.signed.type-inv ∙ c.signed.ensures ∙ signed-told _ c.before.told-number.ensures)
+    sheet_answers e.before.open.ensures _ e.if1.false t.spanning_tree.ensures (back64 _ c.signed.type-inv ∙ c.signed.ensures ∙ signed_told _ c.before.told_number.ensures)
 
-pub export-spanning-tree-spec : {M : Type 1} → statement M
-export-spanning-tree-spec =
+pub export_spanning_tree_spec : {M : Type 1} → statement M
+export_spanning_tree_spec =
     tie.close
     (tie.spec
     open-requires
     refused-requires
     returns
-    spanning-tree-requires
-    told-number-requires
+    spanning_tree-requires
+    told_number-requires
     signed-requires
     same_length
     same-length-2

@@ -1,8 +1,8 @@
 use mathlib.Core.Path.{refl, ◌∙◌}
 use Rattle.mathematics.proofs.Signed.{back64}
-use Rattle.loops.specs.Loops.{su2-loops-call}
-use Rattle.exports.proofs.Signs.{signed-told}
-use Rattle.exports.proofs.OnSheets.{sheet-refuses, sheet-answers, small-answer, few-small}
+use Rattle.loops.specs.Loops.{su2_loops_call}
+use Rattle.exports.proofs.Signs.{signed_told}
+use Rattle.exports.proofs.OnSheets.{sheet_refuses, sheet_answers, small_answer, few_small}
 use borrow.Author.Rules.{rules}
 use Rattle.complex_exports.proofs.export_su2_fundamental_loops.Statement.{statement}
 use Rattle.complex_exports.proofs.export_su2_fundamental_loops.Tie as tie
@@ -14,18 +14,18 @@ refused-requires : tie.Need-refused-requires
 refused-requires c κs = search rules
 
 returns : tie.Need-returns
-unfolding su2-loops-call
-returns c = sheet-refuses c.before.before.open.ensures _ c.before.if1.true _ (back64 _ c.refused.type-inv ∙ c.refused.ensures)
+unfolding su2_loops_call
+returns c = sheet_refuses c.before.before.open.ensures _ c.before.if1.true _ (back64 _ c.refused.type-inv ∙ c.refused.ensures)
 
-su2-fundamental-loops-requires : tie.Need-su2-fundamental-loops-requires
-su2-fundamental-loops-requires c κs = search rules
+su2_fundamental_loops-requires : tie.Need-su2_fundamental_loops-requires
+su2_fundamental_loops-requires c κs = search rules
 
-told-number-requires : tie.Need-told-number-requires
-told-number-requires c κs = search rules
+told_number-requires : tie.Need-told_number-requires
+told_number-requires c κs = search rules
 
 signed-requires : tie.Need-signed-requires
-unfolding su2-loops-call
-signed-requires c κs = small-answer c.before.before.before.before.before.su2-fundamental-loops.ensures (λ k. few-small k.few refl) c.told-number.ensures
+unfolding su2_loops_call
+signed-requires c κs = small_answer c.before.before.before.before.before.su2_fundamental_loops.ensures (λ k. few_small k.few refl) c.told_number.ensures
 
 same_length : tie.Need-same-length
 same_length c = search rules
@@ -37,17 +37,17 @@ returns-2 : tie.Need-returns-2
 returns-2 c =
     let t = c.before.before.before.before.before.before in
     let e = t.before.before.before.before in
-    sheet-answers e.before.open.ensures _ e.if1.false t.su2-fundamental-loops.ensures (back64 _ c.signed.type-inv ∙ c.signed.ensures ∙ signed-told _ c.before.told-number.ensures)
+    sheet_answers e.before.open.ensures _ e.if1.false t.su2_fundamental_loops.ensures (back64 _ c.signed.type-inv ∙ c.signed.ensures ∙ signed_told _ c.before.told_number.ensures)
 
-pub export-su2-fundamental-loops-spec : {M : Type 1} → statement M
-export-su2-fundamental-loops-spec =
+pub export_su2_fundamental_loops_spec : {M : Type 1} → statement M
+export_su2_fundamental_loops_spec =
     tie.close
     (tie.spec
     open-requires
     refused-requires
     returns
-    su2-fundamental-loops-requires
-    told-number-requires
+    su2_fundamental_loops-requires
+    told_number-requires
     signed-requires
     same_length
     same-length-2

@@ -1,38 +1,38 @@
 use borrow.Author.Rules.{rules}
-use Rattle.complex_recorded.specs.Agreement.{matvec-agrees}
-use Rattle.recorded.proofs.Agreeing.{agrees-as}
+use Rattle.complex_recorded.specs.Agreement.{matvec_agrees}
+use Rattle.recorded.proofs.Agreeing.{agrees_as}
 use Rattle.complex_recorded.proofs.matvec_same.Statement.{statement}
 use Rattle.complex_recorded.proofs.matvec_same.Tie as tie
 
 slice-aggregate-export-matvec : tie.Need-slice-aggregate-export-matvec
 slice-aggregate-export-matvec c = search rules
 
-export-matvec-requires : tie.Need-export-matvec-requires
-export-matvec-requires c κs = search rules
+export_matvec-requires : tie.Need-export_matvec-requires
+export_matvec-requires c κs = search rules
 
-same-number-requires : tie.Need-same-number-requires
-same-number-requires c κs = search rules
+same_number-requires : tie.Need-same_number-requires
+same_number-requires c κs = search rules
 
 slice-aggregate-same-floats : tie.Need-slice-aggregate-same-floats
 slice-aggregate-same-floats c = search rules
 
-same-floats-requires : tie.Need-same-floats-requires
-same-floats-requires c κs = search rules
+same_floats-requires : tie.Need-same_floats-requires
+same_floats-requires c κs = search rules
 
 returns : tie.Need-returns
-unfolding matvec-agrees
+unfolding matvec_agrees
 returns c =
     let number = c.before.before in
     let made = number.before.before in
-    agrees-as made.export-matvec.ensures made.export-matvec.type-inv made.before.before.before.before.before.before.before.ranges.told _ number.same_number.ensures c.same-floats.ensures
+    agrees_as made.export_matvec.ensures made.export_matvec.type-inv made.before.before.before.before.before.before.before.ranges.told _ number.same_number.ensures c.same_floats.ensures
 
-pub matvec-same-spec : {M : Type 1} → statement M
-matvec-same-spec =
+pub matvec_same_spec : {M : Type 1} → statement M
+matvec_same_spec =
     tie.close
     (tie.spec
     slice-aggregate-export-matvec
-    export-matvec-requires
-    same-number-requires
+    export_matvec-requires
+    same_number-requires
     slice-aggregate-same-floats
-    same-floats-requires
+    same_floats-requires
     returns)

@@ -4,10 +4,10 @@ use lib.ListN.{length}
 use mathlib.Core.Path.{sym, ap, ◌∙◌}
 use native.Mathlib.Omega.{arith}
 use Rattle.cycles.specs.Cycles.{row}
-use Rattle.walker.specs.Walker.{block-rows}
-use Rattle.walker.proofs.BlockRows.{rows-length}
-use Rattle.cursor.proofs.Cursors.{step-may, walkable-next, block-passed, numbers_on}
-use Rattle.cursor.proofs.Numbers.{at-passed}
+use Rattle.walker.specs.Walker.{block_rows}
+use Rattle.walker.proofs.BlockRows.{rows_length}
+use Rattle.cursor.proofs.Cursors.{step_may, walkable_next, block_passed, numbers_on}
+use Rattle.cursor.proofs.Numbers.{at_passed}
 use borrow.Author.Rules.{rules}
 use Rattle.cursor.proofs.next_block.Statement.{statement}
 use Rattle.cursor.proofs.next_block.Tie as tie
@@ -21,7 +21,7 @@ few s = s.requires.0.few
 step-requires : tie.Need-step-requires
 step-requires c κs =
     let s = c.before.args in
-    step-may s.free.now s.cycles.now s.lambda s.n-free s.config.now s.c.left c.before.requires.0.walkable c.before.requires.1
+    step_may s.free.now s.cycles.now s.lambda s.n_free s.config.now s.c.left c.before.requires.0.walkable c.before.requires.1
 
 sub-first-state : tie.Need-overflow-sub-first-state
 sub-first-state c = c.before.before.before.before.before.requires.1
@@ -36,14 +36,14 @@ add-first-state c =
     let high = few start in
     search rules
 
-first-state-requires : tie.Need-first-state-requires
-first-state-requires c κs =
+first_state-requires : tie.Need-first_state-requires
+first_state-requires c κs =
     let start = c.before.before.before.before.before.before.before in
     let s = start.args in
     let step = c.before.before.before.before.before.step in
     let z = row (length s.config.now) s.cycles.now 0 in
-    let states = block-passed s.free.now s.cycles.now s.lambda s.n-free s.config.now s.c.left start.requires.0.walkable start.requires.1 step.new.0 step.ensures s.c.d s.c.to in
-    (walkable-next s.free.now s.cycles.now s.lambda s.n-free s.config.now s.c.left start.requires.0.walkable start.requires.1 step.new.0 step.ensures, numbers_on s.c.number (s.c.to - s.c.d) _ (block-rows s.config.now z s.c.d s.c.to) _ (rows-length s.config.now z s.c.d s.c.to) states start.requires.0.numbers)
+    let states = block_passed s.free.now s.cycles.now s.lambda s.n_free s.config.now s.c.left start.requires.0.walkable start.requires.1 step.new.0 step.ensures s.c.d s.c.to in
+    (walkable_next s.free.now s.cycles.now s.lambda s.n_free s.config.now s.c.left start.requires.0.walkable start.requires.1 step.new.0 step.ensures, numbers_on s.c.number (s.c.to - s.c.d) _ (block_rows s.config.now z s.c.d s.c.to) _ (rows_length s.config.now z s.c.d s.c.to) states start.requires.0.numbers)
 
 same_length : tie.Need-same-length
 same_length c = search rules
@@ -53,28 +53,28 @@ returns c =
     let start = c.before.before.before.before.before.before.before.before.before in
     let s = start.args in
     let step = c.before.before.before.before.before.before.before.step in
-    let first = c.before.first-state in
+    let first = c.before.first_state in
     let z = row (length s.config.now) s.cycles.now 0 in
-    let rows = block-rows s.config.now z s.c.d s.c.to in
+    let rows = block_rows s.config.now z s.c.d s.c.to in
     let states =
-    block-passed s.free.now s.cycles.now s.lambda s.n-free s.config.now s.c.left start.requires.0.walkable start.requires.1 step.new.0 step.ensures s.c.d s.c.to
+    block_passed s.free.now s.cycles.now s.lambda s.n_free s.config.now s.c.left start.requires.0.walkable start.requires.1 step.new.0 step.ensures s.c.d s.c.to
     ∙ ap (λ l. rows ++ l) (sym first.ensures.states) in
     let numbered = first.ensures.numbered in
     record {
       standing = first.ensures.standing;
       states = states;
       numbered = numbered;
-      at = λ all at. at-passed s.free.now s.cycles.now s.lambda s.n-free all s.config.now s.c at rows _ first.result states (numbered ∙ ap (λ k. s.c.number + k) (sym (rows-length s.config.now z s.c.d s.c.to)));
+      at = λ all at. at_passed s.free.now s.cycles.now s.lambda s.n_free all s.config.now s.c at rows _ first.result states (numbered ∙ ap (λ k. s.c.number + k) (sym (rows_length s.config.now z s.c.d s.c.to)));
     }
 
-pub next-block-spec : {M : Type 1} → statement M
-next-block-spec =
+pub next_block_spec : {M : Type 1} → statement M
+next_block_spec =
     tie.close
     (tie.spec
     step-requires
     sub-first-state
     sub-first-state-2
     add-first-state
-    first-state-requires
+    first_state-requires
     same_length
     returns)

@@ -2,8 +2,8 @@ use Prim.Native.Nat.{◌+◌, ◌<◌, ◌≤◌}
 use mathlib.Core.List.{[], ◌∷◌}
 use mathlib.Core.Path.{refl, ◌∙◌}
 use native.Mathlib.Omega.{arith}
-use Rattle.cursor.proofs.Cursors.{more_rows, last_row, numbers-next}
-use Rattle.cursor.proofs.Numbers.{at-passed}
+use Rattle.cursor.proofs.Cursors.{more_rows, last_row, numbers_next}
+use Rattle.cursor.proofs.Numbers.{at_passed}
 use borrow.Author.Rules.{rules}
 use Rattle.cursor.proofs.next_state.Statement.{statement}
 use Rattle.cursor.proofs.next_state.Tie as tie
@@ -28,7 +28,7 @@ returns c =
     let start = c.before.before.before.before.before in
     let s = start.args in
     let low = inside start in
-    let states = more_rows s.free.now s.cycles.now s.lambda s.n-free s.config.now s.c.left start.requires.0.walkable start.requires.1 s.c.d s.c.to low in
+    let states = more_rows s.free.now s.cycles.now s.lambda s.n_free s.config.now s.c.left start.requires.0.walkable start.requires.1 s.c.d s.c.to low in
     record {
       standing =
           record {
@@ -36,15 +36,15 @@ returns c =
             some = λ h. omega arith;
             few = start.requires.0.few;
             small = λ d h k. start.requires.0.small d (omega arith) k;
-            numbers = numbers-next s.c.number _ states start.requires.0.numbers;
+            numbers = numbers_next s.c.number _ states start.requires.0.numbers;
           };
       states = states;
       numbered = refl;
-      at = λ all at. at-passed s.free.now s.cycles.now s.lambda s.n-free all s.config.now s.c at (_ ∷ []) _ _ states refl;
+      at = λ all at. at_passed s.free.now s.cycles.now s.lambda s.n_free all s.config.now s.c at (_ ∷ []) _ _ states refl;
     }
 
-next-block-requires : tie.Need-next-block-requires
-next-block-requires c κs = search rules
+next_block-requires : tie.Need-next_block-requires
+next_block-requires c κs = search rules
 
 same_length : tie.Need-same-length
 same_length c = search rules
@@ -53,7 +53,7 @@ returns-2 : tie.Need-returns-2
 returns-2 c =
     let start = c.before.before.before.before.before.before in
     let s = start.args in
-    let next = c.before.next-block in
+    let next = c.before.next_block in
     let low = inside start in
     let high : s.c.to ≤ s.c.d + 1 = omega arith in
     record {
@@ -63,6 +63,6 @@ returns-2 c =
       at = next.ensures.at;
     }
 
-pub next-state-spec : {M : Type 1} → statement M
-next-state-spec =
-    tie.close (tie.spec add-if1 add-t9 add-t10 returns next-block-requires same_length returns-2)
+pub next_state_spec : {M : Type 1} → statement M
+next_state_spec =
+    tie.close (tie.spec add-if1 add-t9 add-t10 returns next_block-requires same_length returns-2)

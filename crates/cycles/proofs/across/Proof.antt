@@ -8,5 +8,5 @@ returns c = rw (eq-eqb _ _ c.if1.true)
 returns-2 : tie.Need-returns-2
 returns-2 c = rw (ne_eqb _ _ c.if1.false)
 
-pub across-spec : {M : Type 1} → statement M
-across-spec = tie.close (tie.spec returns returns-2)
+pub across_spec : {M : Type 1} → statement M
+across_spec = tie.close (tie.spec returns returns-2)

@@ -44,13 +44,13 @@ loop-less c = search rules
 
 loop-again : tie.Need-loop-preserved invariant-loop decreases-loop
 loop-again c =
-    let at-loop = c.before.before in
-    let start = at-loop.before in
+    let at_loop = c.before.before in
+    let start = at_loop.before in
     let long = start.requires.4 in
-    let inside : at-loop.loop.e < start.args.n-edges = omega arith in (
+    let inside : at_loop.loop.e < start.args.n-edges = omega arith in (
       omega arith,
-      copy_more start.args.n-edges start.requires.3 start.args.table.now at-loop.loop.table start.args.from start.args.to at-loop.loop.e _
-          (omega arith) (omega arith) start.requires.2 inside at-loop.loop.invariant.1 (back8 _ c.table.given),
+      copy_more start.args.n-edges start.requires.3 start.args.table.now at_loop.loop.table start.args.from start.args.to at_loop.loop.e _
+          (omega arith) (omega arith) start.requires.2 inside at_loop.loop.invariant.1 (back8 _ c.table.given),
     )
 
 returns : tie.Need-returns invariant-loop decreases-loop
@@ -58,8 +58,8 @@ returns c =
     let past : c.before.loop.e ≡ c.before.before.args.n-edges = omega arith in
     rw past at c.before.loop.invariant.1
 
-pub copy-row-spec : {M : Type 1} → statement M
-copy-row-spec =
+pub copy_row_spec : {M : Type 1} → statement M
+copy_row_spec =
     tie.close
     (tie.spec
     invariant-loop

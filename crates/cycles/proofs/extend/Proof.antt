@@ -10,19 +10,19 @@ use Rattle.cycles.proofs.extend.Tie as tie
 
 parent : (c : tie.After-across) → c.across.result ≡ across (entries c.before.before.before.before.args.edges.now (2 * c.before.before.before.before.args.e) 2) c.before.before.before.before.args.w
 unfolding entries across
-parent c = c.across.ensures ∙ rw (c.before.before.edge-end.ensures, c.before.before.before.edge-start.ensures)
+parent c = c.across.ensures ∙ rw (c.before.before.edge_end.ensures, c.before.before.before.edge_start.ensures)
 
-edge-start-requires : tie.Need-edge-start-requires
-edge-start-requires c κs = search rules
+edge_start-requires : tie.Need-edge_start-requires
+edge_start-requires c κs = search rules
 
-edge-end-requires : tie.Need-edge-end-requires
-edge-end-requires c κs = search rules
+edge_end-requires : tie.Need-edge_end-requires
+edge_end-requires c κs = search rules
 
 across-requires : tie.Need-across-requires
 across-requires c κs = search rules
 
-copy-row-requires : tie.Need-copy-row-requires
-copy-row-requires c κs =
+copy_row-requires : tie.Need-copy_row-requires
+copy_row-requires c κs =
     let start = c.before.before.before.before in
     rw (parent c) (start.requires.3, start.requires.2, start.requires.4, start.requires.1, start.requires.5)
 
@@ -41,17 +41,17 @@ element-set-from-paths c = search rules
 returns : tie.Need-returns
 unfolding extended toward entries
 returns c =
-    let row_copied = c.before.copy-row.ensures in
-    rw (back8 c.toward.result c.toward.type-inv, c.toward.ensures, c.before.before.before.before.edge-end.ensures, row_copied, parent c.before.before)
+    let row_copied = c.before.copy_row.ensures in
+    rw (back8 c.toward.result c.toward.type-inv, c.toward.ensures, c.before.before.before.before.edge_end.ensures, row_copied, parent c.before.before)
 
-pub extend-spec : {M : Type 1} → statement M
-extend-spec =
+pub extend_spec : {M : Type 1} → statement M
+extend_spec =
     tie.close
     (tie.spec
-    edge-start-requires
-    edge-end-requires
+    edge_start-requires
+    edge_end-requires
     across-requires
-    copy-row-requires
+    copy_row-requires
     toward-requires
     mul-t10
     add-t12

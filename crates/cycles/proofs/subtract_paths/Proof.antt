@@ -8,20 +8,20 @@ use mir.Syntax.{w8}
 use mir.Val.{to_z, of_z}
 use mir.Facts.{to_z-of_z}
 use Rattle.mathematics.proofs.Signed.{size_fits, back8}
-use Rattle.cycles.specs.Cycles.{row, with-cycle}
-use Rattle.cycles.proofs.CycleTables.{subtract-more}
+use Rattle.cycles.specs.Cycles.{row, with_cycle}
+use Rattle.cycles.proofs.CycleTables.{subtract_more}
 use borrow.Author.Rules.{rules}
 use Rattle.cycles.proofs.subtract_paths.Statement.{statement}
 use Rattle.cycles.proofs.subtract_paths.Tie as tie
 
 abbrev invariant-loop : tie.invariant-loop
-invariant-loop cycles₀ j paths a b n-edges e₀ cycles e = (e ≤ n-edges) × (cycles ≡ paste cycles₀ (63 * j) (with-cycle (row n-edges paths a) (negsuc 0) (row n-edges paths b)) e)
+invariant-loop cycles₀ j paths a b n-edges e₀ cycles e = (e ≤ n-edges) × (cycles ≡ paste cycles₀ (63 * j) (with_cycle (row n-edges paths a) (negsuc 0) (row n-edges paths b)) e)
 
 abbrev decreases-loop : tie.decreases-loop
 decreases-loop cycles₀ j paths a b n-edges e₀ cycles e = n-edges - e
 
 loop-holds : tie.Need-loop-init invariant-loop decreases-loop
-loop-holds c = (omega arith, paste-zero c.args.cycles.now (63 * c.args.j) (with-cycle (row c.args.n-edges c.args.paths.now c.args.a) (negsuc 0) (row c.args.n-edges c.args.paths.now c.args.b)))
+loop-holds c = (omega arith, paste-zero c.args.cycles.now (63 * c.args.j) (with_cycle (row c.args.n-edges c.args.paths.now c.args.a) (negsuc 0) (row c.args.n-edges c.args.paths.now c.args.b)))
 
 mul-cycles : tie.Need-overflow-mul-cycles invariant-loop decreases-loop
 mul-cycles c = search rules
@@ -52,8 +52,8 @@ read c = ap₂ ◌-ℤ◌ (back8 (x-of c) c.before.cycles.given) (back8 (y_of c)
 
 sub-cycles : tie.Need-overflow-sub-cycles invariant-loop decreases-loop
 sub-cycles c =
-    let at-loop = c.before.before.before in
-    let small : nat_abs (x-of c -ℤ y_of c) ≤ 1 = at-loop.before.requires.1.signs at-loop.loop.e (omega arith) in
+    let at_loop = c.before.before.before in
+    let small : nat_abs (x-of c -ℤ y_of c) ≤ 1 = at_loop.before.requires.1.signs at_loop.loop.e (omega arith) in
     rw (read c) (size_fits w8 (x-of c -ℤ y_of c) (omega arith))
 
 mul-t20 : tie.Need-overflow-mul-t20 invariant-loop decreases-loop
@@ -73,15 +73,15 @@ loop-less c = search rules
 
 loop-again : tie.Need-loop-preserved invariant-loop decreases-loop
 loop-again c =
-    let at-loop = c.before.before.before in
-    let start = at-loop.before in
+    let at_loop = c.before.before.before in
+    let start = at_loop.before in
     let ready = start.requires.1 in
     let long = start.requires.2 in
     let few = ready.few in
-    let inside : at-loop.loop.e < start.args.n-edges = omega arith in (
+    let inside : at_loop.loop.e < start.args.n-edges = omega arith in (
       omega arith,
-      subtract-more start.args.paths.now start.args.a start.args.b start.args.n-edges ready start.args.cycles.now at-loop.loop.cycles start.args.j at-loop.loop.e _
-          (omega arith) inside at-loop.loop.invariant.1 (to_z-of_z (sub-cycles c) ∙ read c),
+      subtract_more start.args.paths.now start.args.a start.args.b start.args.n-edges ready start.args.cycles.now at_loop.loop.cycles start.args.j at_loop.loop.e _
+          (omega arith) inside at_loop.loop.invariant.1 (to_z-of_z (sub-cycles c) ∙ read c),
     )
 
 returns : tie.Need-returns invariant-loop decreases-loop
@@ -89,8 +89,8 @@ returns c =
     let past : c.before.loop.e ≡ c.before.before.args.n-edges = omega arith in
     rw past at c.before.loop.invariant.1
 
-pub subtract-paths-spec : {M : Type 1} → statement M
-subtract-paths-spec =
+pub subtract_paths_spec : {M : Type 1} → statement M
+subtract_paths_spec =
     tie.close
     (tie.spec
     invariant-loop

@@ -3,7 +3,7 @@ use mathlib.Core.Path.{◌≡◌, refl}
 use native.Mathlib.Omega.{arith}
 use lib.ListN.{length, length-set}
 use Rattle.matrices.proofs.Literals.{zero}
-use Rattle.matrices.proofs.Matrices.{Cleared, cleared-none, cleared_more}
+use Rattle.matrices.proofs.Matrices.{Cleared, cleared_none, cleared_more}
 use borrow.Author.Rules.{rules}
 use Rattle.electric.proofs.clear.Statement.{statement}
 use Rattle.electric.proofs.clear.Tie as tie
@@ -15,7 +15,7 @@ abbrev decreases-loop : tie.decreases-loop
 decreases-loop result₀ m e₀ result e = m - e
 
 loop-holds : tie.Need-loop-init invariant-loop decreases-loop
-loop-holds c = (omega arith, refl, cleared-none _)
+loop-holds c = (omega arith, refl, cleared_none _)
 
 mul-result : tie.Need-overflow-mul-result invariant-loop decreases-loop
 mul-result c = search rules
@@ -31,8 +31,8 @@ loop-less c = search rules
 
 loop-again : tie.Need-loop-preserved invariant-loop decreases-loop
 loop-again c =
-    let at-loop = c.before in
-    (omega arith, rw length-set at-loop.loop.invariant.1, rw zero (cleared_more _ _ _ at-loop.loop.invariant.2 (omega (arith, at-loop.before.requires))))
+    let at_loop = c.before in
+    (omega arith, rw length-set at_loop.loop.invariant.1, rw zero (cleared_more _ _ _ at_loop.loop.invariant.2 (omega (arith, at_loop.before.requires))))
 
 same_length : tie.Need-same-length invariant-loop decreases-loop
 same_length c = search rules

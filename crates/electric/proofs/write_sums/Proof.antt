@@ -8,10 +8,10 @@ use lib.Ieee.{Float}
 use lib.ListN.{get_or, length, length-take, length-drop}
 use Rattle.matrices.specs.Coupling.{float_of}
 use Rattle.hilbert.specs.Search.{row}
-use Rattle.hilbert.proofs.Searching.{row-part}
-use Rattle.electric.specs.Electric.{field-sum, Begins}
-use Rattle.electric.proofs.FieldSums.{sum-next}
-use Rattle.electric.proofs.Beginnings.{begins-same}
+use Rattle.hilbert.proofs.Searching.{row_part}
+use Rattle.electric.specs.Electric.{field_sum, Begins}
+use Rattle.electric.proofs.FieldSums.{sum_next}
+use Rattle.electric.proofs.Beginnings.{begins_same}
 use borrow.Author.Rules.{rules}
 use Rattle.electric.proofs.write_sums.Statement.{statement}
 use Rattle.electric.proofs.write_sums.Tie as tie
@@ -19,7 +19,7 @@ use Rattle.electric.proofs.write_sums.Tie as tie
 abbrev invariant-loop : tie.invariant-loop
 invariant-loop list n m amplitudes result₀ i₀ result i =
     (i ≤ n) × (length result ≡ length result₀)
-    × ((old : List Float) → Begins (λ e. float_of 0) m old result₀ → Begins (λ e. field-sum amplitudes (λ k. get_or (row m list k) e (pos 0)) i) m old result)
+    × ((old : List Float) → Begins (λ e. float_of 0) m old result₀ → Begins (λ e. field_sum amplitudes (λ k. get_or (row m list k) e (pos 0)) i) m old result)
 
 abbrev decreases-loop : tie.decreases-loop
 decreases-loop list n m amplitudes result₀ i₀ result i = n - i
@@ -28,7 +28,7 @@ clear-requires : tie.Need-clear-requires invariant-loop decreases-loop
 clear-requires c κs = c.before.before.before.requires.4
 
 loop-holds : tie.Need-loop-init invariant-loop decreases-loop
-unfolding field-sum
+unfolding field_sum
 loop-holds c = (omega arith, refl, λ old b. b)
 
 abbrev start : tie.At-loop invariant-loop decreases-loop → tie.Start invariant-loop decreases-loop
@@ -69,14 +69,14 @@ part-add-state-start c = search rules
 part-add-state-end : tie.Need-slice-bounds-add-state-end invariant-loop decreases-loop
 part-add-state-end c = let h = room c.before in search rules
 
-row-long : (c : tie.In-loop invariant-loop decreases-loop) → length (row (start c.before).args.m (start c.before).args.list.now c.before.loop.i) ≡ (start c.before).args.m
-row-long c = rw (length-take, length-drop) (omega (arith, room c))
+row_long : (c : tie.In-loop invariant-loop decreases-loop) → length (row (start c.before).args.m (start c.before).args.list.now c.before.loop.i) ≡ (start c.before).args.m
+row_long c = rw (length-take, length-drop) (omega (arith, room c))
 
-add-state-requires : tie.Need-add-state-requires invariant-loop decreases-loop
-add-state-requires c κs =
-    let at-loop = c.before.before.before.before in
-    let s = start at-loop in
-    rw (row-part s.args.list.now s.args.m at-loop.loop.i, row-long c.before.before.before, at-loop.loop.invariant.1, at-loop.before.before.before.clear.auto.0) s.pre.4
+add_state-requires : tie.Need-add_state-requires invariant-loop decreases-loop
+add_state-requires c κs =
+    let at_loop = c.before.before.before.before in
+    let s = start at_loop in
+    rw (row_part s.args.list.now s.args.m at_loop.loop.i, row_long c.before.before.before, at_loop.loop.invariant.1, at_loop.before.before.before.clear.auto.0) s.pre.4
 
 add-i : tie.Need-overflow-add-i invariant-loop decreases-loop
 add-i c = search rules
@@ -87,14 +87,14 @@ loop-less c = search rules
 loop-again : tie.Need-loop-preserved invariant-loop decreases-loop
 loop-again c =
     let made = c.before.before in
-    let at-loop = made.before.before.before.before.before in
-    let s = start at-loop in
-    let part = row-part s.args.list.now s.args.m at-loop.loop.i in (
+    let at_loop = made.before.before.before.before.before in
+    let s = start at_loop in
+    let part = row_part s.args.list.now s.args.m at_loop.loop.i in (
       omega arith,
-      made.add-state.auto.1.1.0 ∙ at-loop.loop.invariant.1,
+      made.add_state.auto.1.1.0 ∙ at_loop.loop.invariant.1,
       λ old b.
-          begins-same _ _ s.args.m old _ (λ e h. sum-next s.args.amplitudes.now (λ k. get_or (row s.args.m s.args.list.now k) e (pos 0)) at-loop.loop.i)
-          ((rw (part, row-long made.before.before.before.before) at made.add-state.ensures) _ old (at-loop.loop.invariant.2 old b)),
+          begins_same _ _ s.args.m old _ (λ e h. sum_next s.args.amplitudes.now (λ k. get_or (row s.args.m s.args.list.now k) e (pos 0)) at_loop.loop.i)
+          ((rw (part, row_long made.before.before.before.before) at made.add_state.ensures) _ old (at_loop.loop.invariant.2 old b)),
     )
 
 same_length : tie.Need-same-length invariant-loop decreases-loop
@@ -102,12 +102,12 @@ same_length c = c.before.loop.invariant.1 ∙ c.before.before.before.before.clea
 
 returns : tie.Need-returns invariant-loop decreases-loop
 returns c =
-    let at-loop = c.before in
-    let past : at-loop.loop.i ≡ (start at-loop).args.n = omega arith in
-    rw past at (at-loop.loop.invariant.2 _ at-loop.before.before.before.clear.ensures)
+    let at_loop = c.before in
+    let past : at_loop.loop.i ≡ (start at_loop).args.n = omega arith in
+    rw past at (at_loop.loop.invariant.2 _ at_loop.before.before.before.clear.ensures)
 
-pub write-sums-spec : {M : Type 1} → statement M
-write-sums-spec =
+pub write_sums_spec : {M : Type 1} → statement M
+write_sums_spec =
     tie.close
     (tie.spec
     invariant-loop
@@ -122,7 +122,7 @@ write-sums-spec =
     sub-add-state
     part-add-state-start
     part-add-state-end
-    add-state-requires
+    add_state-requires
     add-i
     loop-less
     loop-again

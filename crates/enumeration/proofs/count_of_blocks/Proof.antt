@@ -2,13 +2,13 @@ use Prim.Native.Nat.{◌-◌}
 use mathlib.Core.Path.{◌≡◌, sym}
 use native.Mathlib.Omega.{arith}
 use native.Mathlib.Nat.{pow-zero}
-use Rattle.enumeration.proofs.Limits.{power-less}
+use Rattle.enumeration.proofs.Limits.{power_less}
 use borrow.Author.Rules.{rules}
 use Rattle.enumeration.proofs.count_of_blocks.Statement.{statement}
 use Rattle.enumeration.proofs.count_of_blocks.Tie as tie
 
 returns : tie.Need-returns
-returns c = let e : c.before.args.n-free - 1 ≡ 0 = omega arith in rw e (sym (pow-zero _))
+returns c = let e : c.before.args.n_free - 1 ≡ 0 = omega arith in rw e (sym (pow-zero _))
 
 mul_power : tie.Need-overflow-mul-power
 mul_power c = search rules
@@ -26,10 +26,10 @@ returns-2 : tie.Need-returns-2
 returns-2 c =
     let start = c.before.before in
     let L = start.args.lambda in
-    let n = start.args.n-free in
+    let n = start.args.n_free in
     let within = start.requires.1 in
-    c.power.ensures.exact (omega (arith, power-less L n))
+    c.power.ensures.exact (omega (arith, power_less L n))
 
-pub count-of-blocks-spec : {M : Type 1} → statement M
-count-of-blocks-spec =
+pub count_of_blocks_spec : {M : Type 1} → statement M
+count_of_blocks_spec =
     tie.close (tie.spec returns mul_power add-power sub-power power-requires returns-2)

@@ -1,4 +1,4 @@
-use Rattle.enumeration.proofs.Limits.{limited-test}
+use Rattle.enumeration.proofs.Limits.{limited_test}
 use borrow.Author.Rules.{rules}
 use Rattle.enumeration.proofs.too_many.Statement.{statement}
 use Rattle.enumeration.proofs.too_many.Tie as tie
@@ -13,7 +13,7 @@ power-requires : tie.Need-power-requires
 power-requires c κs = search rules
 
 returns : tie.Need-returns
-returns c = limited-test _ _ c.power.ensures
+returns c = limited_test _ _ c.power.ensures
 
-pub too-many-spec : {M : Type 1} → statement M
-too-many-spec = tie.close (tie.spec mul_power add-power power-requires returns)
+pub too_many_spec : {M : Type 1} → statement M
+too_many_spec = tie.close (tie.spec mul_power add-power power-requires returns)

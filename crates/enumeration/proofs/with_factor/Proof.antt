@@ -15,5 +15,5 @@ mul-result c =
 returns-2 : tie.Need-returns-2
 returns-2 c = rw (le-ltb _ _ c.if1.false)
 
-pub with-factor-spec : {M : Type 1} → statement M
-with-factor-spec = tie.close (tie.spec returns mul-result returns-2)
+pub with_factor_spec : {M : Type 1} → statement M
+with_factor_spec = tie.close (tie.spec returns mul-result returns-2)

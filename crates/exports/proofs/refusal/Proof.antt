@@ -1,5 +1,5 @@
 use mathlib.Core.Path.{sym, ap}
-use Rattle.exports.specs.Exports.{readingNumber}
+use Rattle.exports.specs.Exports.{reading_number}
 use borrow.Author.Rules.{rules}
 use Rattle.exports.proofs.refusal.Statement.{statement}
 use Rattle.exports.proofs.refusal.Tie as tie
@@ -11,12 +11,12 @@ enum-known-answer : tie.Need-enum-known-answer
 enum-known-answer c = search rules
 
 returns : tie.Need-returns
-unfolding readingNumber
-returns c = sym (ap readingNumber c.enum_told.given.1)
+unfolding reading_number
+returns c = sym (ap reading_number c.enum_told.given.1)
 
 returns-2 : tie.Need-returns-2
-unfolding readingNumber
-returns-2 c = sym (ap readingNumber c.before.answer.given.1)
+unfolding reading_number
+returns-2 c = sym (ap reading_number c.before.answer.given.1)
 
-pub refusal-spec : {M : Type 1} → statement M
-refusal-spec = tie.close (tie.spec enum_told enum-known-answer returns returns-2)
+pub refusal_spec : {M : Type 1} → statement M
+refusal_spec = tie.close (tie.spec enum_told enum-known-answer returns returns-2)

@@ -2,7 +2,7 @@ use lib.IntN.{pos, neg_ℤ}
 use native.Mathlib.Omega.{arith}
 use borrow.Author.Rules.{sfits_of}
 use Rattle.mathematics.proofs.Signed.{back64}
-use Rattle.exports.proofs.Signs.{small-mag, minus}
+use Rattle.exports.proofs.Signs.{small_mag, minus}
 use borrow.Author.Rules.{rules}
 use Rattle.exports.proofs.refused.Statement.{statement}
 use Rattle.exports.proofs.refused.Tie as tie
@@ -11,10 +11,10 @@ cast-result : tie.Need-overflow-cast-result
 cast-result c = search rules
 
 sub-result : tie.Need-overflow-sub-result
-sub-result c = rw (minus c.args.number (omega arith)) (sfits_of (small-mag c.args.number (omega arith)))
+sub-result c = rw (minus c.args.number (omega arith)) (sfits_of (small_mag c.args.number (omega arith)))
 
 returns : tie.Need-returns
-returns c = rw (minus c.args.number (omega arith)) (back64 (neg_ℤ (pos c.args.number)) (small-mag c.args.number (omega arith)))
+returns c = rw (minus c.args.number (omega arith)) (back64 (neg_ℤ (pos c.args.number)) (small_mag c.args.number (omega arith)))
 
-pub refused-spec : {M : Type 1} → statement M
-refused-spec = tie.close (tie.spec cast-result sub-result returns)
+pub refused_spec : {M : Type 1} → statement M
+refused_spec = tie.close (tie.spec cast-result sub-result returns)

@@ -20,5 +20,5 @@ returns-2 : tie.Need-returns-2
 unfolding signed_of
 returns-2 c = rw (eq-eqb _ _ c.before.if1.false) (back64 _ c.value.type-inv ∙ c.value.ensures)
 
-pub signed-spec : {M : Type 1} → statement M
-signed-spec = tie.close (tie.spec refused-requires returns value-requires returns-2)
+pub signed_spec : {M : Type 1} → statement M
+signed_spec = tie.close (tie.spec refused-requires returns value-requires returns-2)

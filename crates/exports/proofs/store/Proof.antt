@@ -1,9 +1,9 @@
 use mathlib.Core.Path.{refl, ap, ◌∙◌}
 use Rattle.mathematics.proofs.Signed.{back64}
-use Rattle.matrices.specs.Coupling.{couplingAnswer, coupling-call}
+use Rattle.matrices.specs.Coupling.{coupling_answer, coupling_call}
 use Rattle.exports.specs.Exports.{signed, three_floats}
 use Rattle.exports.proofs.Signs.{exports}
-use Rattle.exports.proofs.Answers.{stored-refuses, stored-ends}
+use Rattle.exports.proofs.Answers.{stored_refuses, stored_ends}
 use borrow.Author.Rules.{rules}
 use Rattle.exports.proofs.store.Statement.{statement}
 use Rattle.exports.proofs.store.Tie as tie
@@ -18,13 +18,13 @@ refused-requires : tie.Need-refused-requires
 refused-requires c κs = search rules
 
 returns : tie.Need-returns
-unfolding couplingAnswer signed
-returns c g own h = exports (stored-ends (coupling-call g own) three_floats _ (rw (ap couplingAnswer c.before.before.answer.given.1) at h) refl) refl
+unfolding coupling_answer signed
+returns c g own h = exports (stored_ends (coupling_call g own) three_floats _ (rw (ap coupling_answer c.before.before.answer.given.1) at h) refl) refl
 
 returns-2 : tie.Need-returns-2
-unfolding couplingAnswer signed
+unfolding coupling_answer signed
 returns-2 c g own h =
-    exports (stored-refuses (coupling-call g own) three_floats _ (rw (ap couplingAnswer c.before.before.answer2.given.1) at h)) (back64 _ c.refused.type-inv ∙ c.refused.ensures)
+    exports (stored_refuses (coupling_call g own) three_floats _ (rw (ap coupling_answer c.before.before.answer2.given.1) at h)) (back64 _ c.refused.type-inv ∙ c.refused.ensures)
 
 pub store_spec : {M : Type 1} → statement M
 store_spec =

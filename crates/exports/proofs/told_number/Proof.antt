@@ -1,6 +1,6 @@
 use mathlib.Core.Path.{sym, ap}
-use Rattle.answers.specs.Answer.{numberAnswer}
-use Rattle.exports.specs.Exports.{toldOf}
+use Rattle.answers.specs.Answer.{number_answer}
+use Rattle.exports.specs.Exports.{outcome_told}
 use borrow.Author.Rules.{rules}
 use Rattle.exports.proofs.told_number.Statement.{statement}
 use Rattle.exports.proofs.told_number.Tie as tie
@@ -12,12 +12,12 @@ enum-known-answer-2 : tie.Need-enum-known-answer-2
 enum-known-answer-2 c = search rules
 
 returns : tie.Need-returns
-unfolding toldOf numberAnswer
-returns c = sym (ap (λ w. toldOf (numberAnswer w)) c.before.answer.given.1)
+unfolding outcome_told number_answer
+returns c = sym (ap (λ w. outcome_told (number_answer w)) c.before.answer.given.1)
 
 returns-2 : tie.Need-returns-2
-unfolding toldOf numberAnswer
-returns-2 c = sym (ap (λ w. toldOf (numberAnswer w)) c.before.answer2.given.1)
+unfolding outcome_told number_answer
+returns-2 c = sym (ap (λ w. outcome_told (number_answer w)) c.before.answer2.given.1)
 
-pub told-number-spec : {M : Type 1} → statement M
-told-number-spec = tie.close (tie.spec enum-known-answer enum-known-answer-2 returns returns-2)
+pub told_number_spec : {M : Type 1} → statement M
+told_number_spec = tie.close (tie.spec enum-known-answer enum-known-answer-2 returns returns-2)

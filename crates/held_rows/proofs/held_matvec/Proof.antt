@@ -42,7 +42,7 @@ use denote.Exit.{yes}
 use denote.Triple.Clauses.{ensured, lasts}
 use Rattle.mathematics.specs.Calls.{Answered}
 use Rattle.matvec.specs.declared.product.Product.{Product}
-use Rattle.matvec.specs.Product.{productAnswer, product-call}
+use Rattle.matvec.specs.Product.{product_answer, product_call}
 use Rattle.matvec.specs.contracts.product.Product as S
 use Rattle.matvec.proofs.product.Product.TheLaws as S'
 use Rattle.held_rows.specs.declared.RowLists.{RowLists}
@@ -126,7 +126,7 @@ module _ {M : Type 1} {𝓤 : Ura M} (𝓛 : Logic 𝓤) (mem : Memory → SProp
 
   -- what this contract and that of `matvec` say of an answer and of the result at the end
   abbrev Told : Product → List Float → Type 0
-  Told r zs = Answered (product-call s.now c.now v.now x.now ys) (productAnswer r) zs
+  Told r zs = Answered (product_call s.now c.now v.now x.now ys) (product_answer r) zs
 
   abbrev Post : Val → SProp 𝓤
   Post = (walk_of 𝓛 held.ended stayed (held.clauses 𝓛 mem run)).post ((κs, qs, tt, a, vals), tt)
@@ -167,17 +167,17 @@ module _ {M : Type 1} {𝓤 : Ura M} (𝓛 : Logic 𝓤) (mem : Memory → SProp
   Kept₂ = Lists ⊛ ‵ OX
 
   -- the call of `new`: what it is passed, what it asks, and what is known of its result
-  abbrev to-new : (New 𝓛 mem run).Ghost
-  to-new = ((κs₃, qs₃, tt, (s, (c, (v, tt))), (sv ∷ [], (cv ∷ [], (vv ∷ [], tt)))), tt)
+  abbrev to_new : (New 𝓛 mem run).Ghost
+  to_new = ((κs₃, qs₃, tt, (s, (c, (v, tt))), (sv ∷ [], (cv ∷ [], (vv ∷ [], tt)))), tt)
 
   abbrev ToNew : Item 𝓤
   ToNew = ‵ (owns (ShrSlice (named 0) κ₀ u32 ∷ ShrSlice (named 1) κ₁ u32 ∷ ShrSlice (named 2) κ₂ f64 ∷ []) (s, (c, (v, tt))) (sv ∷ [], (cv ∷ [], (vv ∷ [], tt))))
 
-  asked-new : ent 𝓤 (⋆ 𝓛 (Tokens₃ ∷ ToNew ∷ [])) ((New 𝓛 mem run).pre to-new)
-  asked-new = qed 𝓛 (Tokens₃ ∷ ToNew ∷ []) ∵ join ! $ frame ! $ done !
+  asked_new : ent 𝓤 (⋆ 𝓛 (Tokens₃ ∷ ToNew ∷ [])) ((New 𝓛 mem run).pre to_new)
+  asked_new = qed 𝓛 (Tokens₃ ∷ ToNew ∷ []) ∵ join ! $ frame ! $ done !
 
-  goes-new : ent 𝓤 (on_entry 𝓛 held.signature κs qs a vals) (sep 𝓤 ((New 𝓛 mem run).pre to-new) (mean 𝓛 Kept₁))
-  goes-new =
+  goes_new : ent 𝓤 (on_entry 𝓛 held.signature κs qs a vals) (sep 𝓤 ((New 𝓛 mem run).pre to_new) (mean 𝓛 Kept₁))
+  goes_new =
       qed 𝓛 (Tokens ∷ ‵ (owns (ShrSlice (named 0) κ₀ u32 ∷ ShrSlice (named 1) κ₁ u32 ∷ ShrSlice (named 2) κ₂ f64 ∷ ShrSlice (named 3) κ₃ f64 ∷ MutSlice (named 4) κ₄ f64 ∷ []) a vals) ∷ []) ∵
       move ! (1 ∷ []) $ fsplit ! $ use1 𝓛 (‵ OS ⊛ ‵ OS) ((shr_slice_copy 𝓛 (named 0) κ₀ u32).twice s (sv ∷ [])) $ split ! $
       move ! (2 ∷ []) $ fsplit ! $ use1 𝓛 (‵ OC ⊛ ‵ OC) ((shr_slice_copy 𝓛 (named 1) κ₁ u32).twice c (cv ∷ [])) $ split ! $
@@ -190,26 +190,26 @@ module _ {M : Type 1} {𝓤 : Ura M} (𝓛 : Logic 𝓤) (mem : Memory → SProp
       -- [the values' token; the other tokens; the columns' token; the starts' token; the three; ..]
       nothing ! $ move ! (1 ∷ 0 ∷ []) $ join ! $ move ! (2 ∷ 0 ∷ []) $ join ! $ move ! (2 ∷ 0 ∷ []) $ join ! $
       -- [the lists' tokens; the other tokens; the three; x; x; y; values; columns; starts]
-      move ! (0 ∷ 2 ∷ []) $ use2 𝓛 (raw ((New 𝓛 mem run).pre to-new)) asked-new $ frame ! $ frame ! $ frame ! $ frame ! $ frame ! $ frame ! $ frame ! $ done !
+      move ! (0 ∷ 2 ∷ []) $ use2 𝓛 (raw ((New 𝓛 mem run).pre to_new)) asked_new $ frame ! $ frame ! $ frame ! $ frame ! $ frame ! $ frame ! $ frame ! $ done !
 
   abbrev Made : RowLists → Type 0
   Made r = (r.starts ≡ s) × (r.columns ≡ c) × (r.values ≡ v)
 
-  new-said : (r : RowLists) → ent 𝓤 (ensured 𝓛 new.ended (new.clauses 𝓛 mem run) κs₃ (s, (c, (v, tt))) tt r) (fact 𝓤 (Made r))
-  new-said r = ex_e 𝓤 _ (λ ws. snd∗ 𝓤 (sem 𝓛 (lasts new.ended κs₃ (s, (c, (v, tt))) ws)) (fact 𝓤 (Made r)))
+  new_said : (r : RowLists) → ent 𝓤 (ensured 𝓛 new.ended (new.clauses 𝓛 mem run) κs₃ (s, (c, (v, tt))) tt r) (fact 𝓤 (Made r))
+  new_said r = ex_e 𝓤 _ (λ ws. snd∗ 𝓤 (sem 𝓛 (lasts new.ended κs₃ (s, (c, (v, tt))) ws)) (fact 𝓤 (Made r)))
 
   -- the call of `matvec`, at the record with the machine value u
-  abbrev to-mat : Val → (Mat 𝓛 mem run).Ghost
-  to-mat u = ((κs, qs, tt, (h₀, (x, (y, tt))), (u ∷ [], (xv ∷ [], (yv ∷ [], tt)))), tt)
+  abbrev to_mat : Val → (Mat 𝓛 mem run).Ghost
+  to_mat u = ((κs, qs, tt, (h₀, (x, (y, tt))), (u ∷ [], (xv ∷ [], (yv ∷ [], tt)))), tt)
 
   abbrev ToMat : Val → Item 𝓤
   ToMat u = ‵ (owns (Row 2 κs ∷ ShrSlice (named 3) κ₃ f64 ∷ MutSlice (named 4) κ₄ f64 ∷ []) (h₀, (x, (y, tt))) (u ∷ [], (xv ∷ [], (yv ∷ [], tt))))
 
-  asked-mat : (u : Val) → ent 𝓤 (⋆ 𝓛 (Tokens ∷ ToMat u ∷ [])) ((Mat 𝓛 mem run).pre (to-mat u))
-  asked-mat u = qed 𝓛 (Tokens ∷ ToMat u ∷ []) ∵ join ! $ frame ! $ done !
+  asked_mat : (u : Val) → ent 𝓤 (⋆ 𝓛 (Tokens ∷ ToMat u ∷ [])) ((Mat 𝓛 mem run).pre (to_mat u))
+  asked_mat u = qed 𝓛 (Tokens ∷ ToMat u ∷ []) ∵ join ! $ frame ! $ done !
 
-  goes-mat : (u : Val) → ent 𝓤 (⋆ 𝓛 ((‵ ((Row 2 κs).own h₀ (u ∷ [])) ⊛ Tokens₃) ∷ Kept₁ ∷ [])) (sep 𝓤 ((Mat 𝓛 mem run).pre (to-mat u)) (mean 𝓛 Kept₂))
-  goes-mat u =
+  goes_mat : (u : Val) → ent 𝓤 (⋆ 𝓛 ((‵ ((Row 2 κs).own h₀ (u ∷ [])) ⊛ Tokens₃) ∷ Kept₁ ∷ [])) (sep 𝓤 ((Mat 𝓛 mem run).pre (to_mat u)) (mean 𝓛 Kept₂))
+  goes_mat u =
       qed 𝓛 ((‵ ((Row 2 κs).own h₀ (u ∷ [])) ⊛ Tokens₃) ∷ Kept₁ ∷ []) ∵ split ! $
       move ! (2 ∷ []) $ split ! $ move ! (1 ∷ []) $ split ! $ move ! (1 ∷ []) $ split ! $ move ! (1 ∷ []) $ split ! $
       -- [y; the lists; x; x; the other tokens; the record; the lists' tokens]
@@ -218,7 +218,7 @@ module _ {M : Type 1} {𝓤 : Ura M} (𝓛 : Logic 𝓤) (mem : Memory → SProp
       move ! (4 ∷ []) $ split ! $ move ! (1 ∷ []) $ split ! $ move ! (1 ∷ []) $ split ! $ move ! (1 ∷ []) $ drop ! $
       -- [the values' token; the columns' token; the starts' token; the three; the lists; x; the other tokens]
       move ! (0 ∷ 6 ∷ []) $ join ! $ move ! (1 ∷ 0 ∷ []) $ join ! $ move ! (1 ∷ 0 ∷ []) $ join ! $
-      use2 𝓛 (raw ((Mat 𝓛 mem run).pre (to-mat u))) (asked-mat u) $ frame ! $ frame ! $ done !
+      use2 𝓛 (raw ((Mat 𝓛 mem run).pre (to_mat u))) (asked_mat u) $ frame ! $ frame ! $ done !
 
   exits : (r : Product) (u : Val) (zs : List Float) → Told r zs → length zs ≡ length ys
       → ent 𝓤 (⋆ 𝓛 (Tokens ∷ ‵ (finally f64 γ zs) ∷ ‵ ((S.the_row).own_val r (u ∷ [])) ∷ Kept₂ ∷ [])) (Post u)
@@ -229,7 +229,7 @@ module _ {M : Type 1} {𝓤 : Ura M} (𝓛 : Logic 𝓤) (mem : Memory → SProp
       -- [the lists; x; y's last list; the result]
       move ! (1 ∷ 2 ∷ []) $ fjoin ! $ move ! (1 ∷ []) $ split ! $ move ! (0 ∷ 2 ∷ []) $ fjoin ! $ move ! (1 ∷ []) $ split ! $ move ! (0 ∷ 2 ∷ []) $ fjoin ! $ move ! (1 ∷ 0 ∷ []) $ fjoin ! $ frame ! $ done !
 
-  module _ (C : Calls 𝓤 H) (Λ : Loops 𝓤 H) (fm : FmC 𝓤 H 𝓛.laws C) (known-new : Triple 𝓤 (C #new) (New 𝓛 mem run)) (known-mat : Triple 𝓤 (C #matvec) (Mat 𝓛 mem run)) where
+  module _ (C : Calls 𝓤 H) (Λ : Loops 𝓤 H) (fm : FmC 𝓤 H 𝓛.laws C) (known_new : Triple 𝓤 (C #new) (New 𝓛 mem run)) (known_mat : Triple 𝓤 (C #matvec) (Mat 𝓛 mem run)) where
     walk : Is (ShrSlice (named 0) κ₀ u32) s (sv ∷ []) → Is (ShrSlice (named 1) κ₁ u32) c (cv ∷ []) → Is (ShrSlice (named 2) κ₂ f64) v (vv ∷ []) → Is (ShrSlice (named 3) κ₃ f64) x (xv ∷ []) → Room f64 (length ys)
         → ent 𝓤 (on_entry 𝓛 held.signature κs qs a vals) (WpFn 𝓤 H C Λ code.function (sv ∷ cv ∷ vv ∷ xv ∷ yv ∷ []) Post)
     walk ps pc pv px room =
@@ -240,18 +240,18 @@ module _ {M : Type 1} {𝓤 : Ura M} (𝓛 : Logic 𝓤) (mem : Memory → SProp
         pass1 ! (init ! 6 refl (tt, (tt, (record { fits = room.0 }, tt)))) $ pass0 ! $
         -- [_8; …; _7; …; _6; …; _5; …; _4; …; _3; …; _2; …; _1; …; room for _0; …; what is had at entry]
         -- `new`
-        move ! (18 ∷ []) $ use1 𝓛 (raw ((New 𝓛 mem run).pre to-new) ⊛ Kept₁) goes-new $ split ! $
-        calls_at ! fm (New 𝓛 mem run) known-new to-new (and_then ! (load ! (from ! (stop !)) (look ! 16 refl)) (and_then ! (load ! (from ! (stop !)) (look ! 14 refl)) (and_then ! (load ! (from ! (stop !)) (look ! 12 refl)) (no_more !)))) (λ u₀.
+        move ! (18 ∷ []) $ use1 𝓛 (raw ((New 𝓛 mem run).pre to_new) ⊛ Kept₁) goes_new $ split ! $
+        calls_at ! fm (New 𝓛 mem run) known_new to_new (and_then ! (load ! (from ! (stop !)) (look ! 16 refl)) (and_then ! (load ! (from ! (stop !)) (look ! 14 refl)) (and_then ! (load ! (from ! (stop !)) (look ! 12 refl)) (no_more !)))) (λ u₀.
         use1 𝓛 (later (some (λ (r : RowLists). (Tokens₃ ⊛ ‵ ((Row 2 κs).own r (u₀ ∷ []))) ⊛ raw (ensured 𝓛 new.ended (new.clauses 𝓛 mem run) κs₃ (s, (c, (v, tt))) tt r)))) (id⊢ 𝓤 _) $ await ! tt $ pick ! (λ r₀.
-        split ! $ move ! (1 ∷ []) $ use1 𝓛 (raw (fact 𝓤 (Made r₀))) (new-said r₀) $ heard ! (Made r₀) (λ e₀.
+        split ! $ move ! (1 ∷ []) $ use1 𝓛 (raw (fact 𝓤 (Made r₀))) (new_said r₀) $ heard ! (Made r₀) (λ e₀.
         split ! $ rewrite ! 1 (λ (h : RowLists). ‵ ((Row 2 κs).own h (u₀ ∷ []))) (λ i. record { starts = e₀.0 i; columns = e₀.1 i; values = e₀.2 i }) refl $
         -- [what the record owns; the lists' tokens; what is kept; _8; …]
         move ! (1 ∷ []) $ peeks ! (Row 2 κs) (Is (Row 2 κs)) (shows 𝓛 (Row 2 κs)) h₀ (u₀ ∷ []) (λ is₀. land ! (from ! (stop !)) (init ! 7 refl ((LL.lawful (T.the_type (local κ₀) (local κ₁) (local κ₂)) (T'.the_laws (local κ₀) (local κ₁) (local κ₂)) 𝓛).typed h₀ _ is₀).0) $
         assigns ! (addr ! (from ! (fld ! refl (hop ! (look_in ! 9 (sub ! 0 refl (whole !))) (stop !))))) (from ! (stop !)) (init ! 5 refl (tt, tt)) $
         assigns ! (agg ! (and_then ! (load ! (from ! (stop !)) (look ! 5 refl)) (and_then ! (load ! (from ! (fld ! refl (stop !))) (look_in ! 9 (sub ! 1 refl (whole !)))) (no_more !)))) (from ! (stop !)) (init ! 3 refl (tt, (tt, (record { fits = room.0 }, tt)))) $
         -- `matvec`
-        join ! $ use2 𝓛 (raw ((Mat 𝓛 mem run).pre (to-mat u₀)) ⊛ Kept₂) (goes-mat u₀) $ split ! $
-        calls_at ! fm (Mat 𝓛 mem run) known-mat (to-mat u₀) (and_then ! (load ! (from ! (stop !)) (look ! 6 refl)) (and_then ! (load ! (from ! (stop !)) (look ! 10 refl)) (and_then ! (load ! (from ! (stop !)) (look ! 2 refl)) (no_more !)))) (λ u.
+        join ! $ use2 𝓛 (raw ((Mat 𝓛 mem run).pre (to_mat u₀)) ⊛ Kept₂) (goes_mat u₀) $ split ! $
+        calls_at ! fm (Mat 𝓛 mem run) known_mat (to_mat u₀) (and_then ! (load ! (from ! (stop !)) (look ! 6 refl)) (and_then ! (load ! (from ! (stop !)) (look ! 10 refl)) (and_then ! (load ! (from ! (stop !)) (look ! 2 refl)) (no_more !)))) (λ u.
         use1 𝓛 (later (some (λ (r : Product). (Tokens ⊛ ‵ ((S.the_row).own_val r (u ∷ []))) ⊛ raw (ensured 𝓛 matvec.ended (matvec.clauses 𝓛 mem run) κs (h₀, (x, (y, tt))) tt r)))) (id⊢ 𝓤 _) $ await ! tt $ pick ! (λ r.
         split ! $ move ! (1 ∷ []) $ use1 𝓛 (some (λ (zs : Unit {0} × (Unit {0} × (List Float × Unit {0}))). ‵ (lasts matvec.ended κs (h₀, (x, (y, tt))) zs) ⊛ raw (fact 𝓤 (Told r zs.1.1.0)))) (id⊢ 𝓤 _) $ pick ! (λ zs.
         split ! $ move ! (1 ∷ []) $ heard ! (Told r zs.1.1.0) (λ e.
@@ -266,18 +266,18 @@ module _ {M : Type 1} {𝓤 : Ura M} (𝓛 : Logic 𝓤) (mem : Memory → SProp
 module _ {M : Type 1} {𝓤 : Ura M} (𝓛 : Logic 𝓤) (mem : Memory → SProp 𝓤) (run : Routine → Fun 𝓤) where
   open 𝓛 use {H}
 
-  held-matvec-walks : (C : Calls 𝓤 H) (Λ : Loops 𝓤 H) → FmC 𝓤 H 𝓛.laws C → Triple 𝓤 (C #new) (New 𝓛 mem run) → Triple 𝓤 (C #matvec) (Mat 𝓛 mem run)
+  held_matvec_walks : (C : Calls 𝓤 H) (Λ : Loops 𝓤 H) → FmC 𝓤 H 𝓛.laws C → Triple 𝓤 (C #new) (New 𝓛 mem run) → Triple 𝓤 (C #matvec) (Mat 𝓛 mem run)
       → Walks 𝓛 held.ended stayed (WpFn 𝓤 H C Λ code.function) (held.clauses 𝓛 mem run)
-  held-matvec-walks C Λ fm known-new known-mat = walked 𝓛 held.ended stayed (held.clauses 𝓛 mem run) (WpFn 𝓤 H C Λ code.function) (λ κs. (shr_slice_vals, (shr_slice_vals, (shr_slice_vals, (shr_slice_vals, (shr_slice_vals, tt))))))
+  held_matvec_walks C Λ fm known_new known_mat = walked 𝓛 held.ended stayed (held.clauses 𝓛 mem run) (WpFn 𝓤 H C Λ code.function) (λ κs. (shr_slice_vals, (shr_slice_vals, (shr_slice_vals, (shr_slice_vals, (shr_slice_vals, tt))))))
       (λ κs. (shr_slice_Tells (named 0) κs.0 u32, (shr_slice_Tells (named 1) κs.1.0 u32, (shr_slice_Tells (named 2) κs.1.1.0 f64, (shr_slice_Tells (named 3) κs.1.1.1.0 f64, (mut_slice_Tells (named 4) κs.1.1.1.1.0 f64, tt))))))
       (λ κs qs bounds a g are. via 𝓤 _ (fst∗ 𝓤 _ (emp 𝓤)) (walk 𝓛 mem run κs.0 κs.1.0 κs.1.1.0 κs.1.1.1.0 κs.1.1.1.1.0 qs.0 qs.1.0 qs.1.1.0 qs.1.1.1.0 qs.1.1.1.1.0
       a.0 a.1.0 a.1.1.0 a.1.1.1.0
-      a.1.1.1.1.0.ref_ptr.0 a.1.1.1.1.0.ref_ptr.1 a.1.1.1.1.0.ghost_name a.1.1.1.1.0.now C Λ fm known-new known-mat are.0 are.1.0 are.1.1.0 are.1.1.1.0 are.1.1.1.1.0.0.1))
+      a.1.1.1.1.0.ref_ptr.0 a.1.1.1.1.0.ref_ptr.1 a.1.1.1.1.0.ghost_name a.1.1.1.1.0.now C Λ fm known_new known_mat are.0 are.1.0 are.1.1.0 are.1.1.1.0 are.1.1.1.1.0.0.1))
 
-held-matvec-meets : {M : Type 1} {𝓤 : Ura M} (𝓛 : Logic 𝓤) (mem : Memory → SProp 𝓤) (run : Routine → Fun 𝓤) (𝓣 : Tables 𝓤 𝓛.H)
+held_matvec_meets : {M : Type 1} {𝓤 : Ura M} (𝓛 : Logic 𝓤) (mem : Memory → SProp 𝓤) (run : Routine → Fun 𝓤) (𝓣 : Tables 𝓤 𝓛.H)
     → Triple 𝓤 (𝓣.C #new) (New 𝓛 mem run) → Triple 𝓤 (𝓣.C #matvec) (Mat 𝓛 mem run)
     → Meets 𝓛 held.signature (WpFn 𝓤 𝓛.H 𝓣.C 𝓣.Λ code.function) (held.spec 𝓛 mem run)
-held-matvec-meets {𝓤 = 𝓤} 𝓛 mem run 𝓣 known-new known-mat = walk_Meets 𝓛 held.ended stayed (
+held_matvec_meets {𝓤 = 𝓤} 𝓛 mem run 𝓣 known_new known_mat = walk_Meets 𝓛 held.ended stayed (
   Goes-none_slice 𝓛 5 (0 ∷ []) tt (plain (λ _. u32)) yes,
   (
     Goes-none_slice 𝓛 5 (1 ∷ []) tt (plain (λ _. u32)) yes,
@@ -288,13 +288,13 @@ held-matvec-meets {𝓤 = 𝓤} 𝓛 mem run 𝓣 known-new known-mat = walk_Mee
   ),
 )
     (held.clauses 𝓛 mem run) (WpFn 𝓤 𝓛.H 𝓣.C 𝓣.Λ code.function) (WpFn-mono 𝓤 𝓛.H 𝓛.laws 𝓣 code.function)
-    (held-matvec-walks 𝓛 mem run 𝓣.C 𝓣.Λ (fm_of 𝓤 𝓛.H 𝓛.laws 𝓣) known-new known-mat)
+    (held_matvec_walks 𝓛 mem run 𝓣.C 𝓣.Λ (fm_of 𝓤 𝓛.H 𝓛.laws 𝓣) known_new known_mat)
 
-pub held-matvec-spec : {M : Type 1} → stated.statement M
+pub held_matvec_spec : {M : Type 1} → stated.statement M
 unfolding code.routine tables_of
-held-matvec-spec 𝓤 𝓛 𝓜 𝓡 =
+held_matvec_spec 𝓤 𝓛 𝓜 𝓡 =
     entered 𝓤 𝓛.H (triple_of 𝓛 held.signature (held.spec 𝓛 𝓜.mem 𝓡.run))
     (tables 𝓤 𝓛.H 𝓜 𝓡 code.env).C (tables 𝓤 𝓛.H 𝓜 𝓡 code.env).Λ #held-matvec code.function (code.unfolded 𝓤 𝓛.H 𝓜 𝓡)
-    (held-matvec-meets 𝓛 𝓜.mem 𝓡.run (tables_of 𝓤 𝓛.H 𝓜 (tables 𝓤 𝓛.H 𝓜 𝓡 code.env))
+    (held_matvec_meets 𝓛 𝓜.mem 𝓡.run (tables_of 𝓤 𝓛.H 𝓜 (tables 𝓤 𝓛.H 𝓜 𝓡 code.env))
     (cited 𝓤 𝓛.H (New 𝓛 𝓜.mem 𝓡.run) 𝓜 𝓡 code.env #new new-def.routine code.calls-held-rows::RowLists::new (new-thm.met 𝓤 𝓛 𝓜 𝓡))
     (cited 𝓤 𝓛.H (Mat 𝓛 𝓜.mem 𝓡.run) 𝓜 𝓡 code.env #matvec matvec-def.routine code.calls-held-rows::RowLists::matvec (matvec-thm.met 𝓤 𝓛 𝓜 𝓡)))

@@ -4,7 +4,7 @@ use lib.ListN.{get_or}
 use mir.Syntax.{w64}
 use mir.Val.{to_z, of_z}
 use Rattle.mathematics.proofs.Signed.{back32, back64}
-use Rattle.law_check.specs.Law.{sums-with}
+use Rattle.law_check.specs.Law.{sums_with}
 use borrow.Author.Rules.{rules}
 use Rattle.law_check.proofs.carry.Statement.{statement}
 use Rattle.law_check.proofs.carry.Tie as tie
@@ -40,7 +40,7 @@ element-set-from-more : tie.Need-element-set-from-more
 element-set-from-more c = search rules
 
 returns : tie.Need-returns
-unfolding sums-with
+unfolding sums_with
 returns c =
     let start = c.before.before.before.before in
     let sums = start.args.sums.now in
@@ -54,8 +54,8 @@ returns c =
     back64 c.plus.result c.plus.type-inv ∙ c.plus.ensures ∙ ap₂ ◌+ℤ◌ (back64 (get_or sums b (pos 0)) c.before.plus-arg.given) (back32 x start.ranges.x.sfits) in
     rw (less, more)
 
-pub carry-spec : {M : Type 1} → statement M
-carry-spec =
+pub carry_spec : {M : Type 1} → statement M
+carry_spec =
     tie.close
     (tie.spec
     mul-minus

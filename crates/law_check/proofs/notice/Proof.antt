@@ -15,5 +15,5 @@ returns-2 c =
     let start = c.before.before in
     rw (back64 start.args.sum start.ranges.sum.sfits, ← zero64 start.args.sum start.ranges.sum.sfits, c.if1.false)
 
-pub notice-spec : {M : Type 1} → statement M
-notice-spec = tie.close (tie.spec returns returns-2)
+pub notice_spec : {M : Type 1} → statement M
+notice_spec = tie.close (tie.spec returns returns-2)

@@ -24,6 +24,6 @@ cast-result-3 c = rw (back32 c.before.args.n c.before.ranges.n.sfits) (not_negat
 returns-2 : tie.Need-returns-2
 returns-2 c = search rules
 
-pub absolute-spec : {M : Type 1} → statement M
-absolute-spec =
+pub absolute_spec : {M : Type 1} → statement M
+absolute_spec =
     tie.close (tie.spec cast-result sub-result cast-result-2 returns cast-result-3 returns-2)

@@ -2,10 +2,10 @@ use Prim.Native.Nat.{◌≤◌, ◌/◌}
 use mathlib.Core.Path.{◌≡◌, refl}
 use native.Mathlib.Omega.{arith}
 use lib.ListN.{length}
-use Rattle.complex.specs.Complex.{complexOf}
+use Rattle.complex.specs.Complex.{complex_of}
 use Rattle.complex.proofs.Accepting.{counts}
-use Rattle.making.specs.Making.{flatComplex}
-use Rattle.making.proofs.Makings.{Sizes, sizes-of, whole-list}
+use Rattle.making.specs.Making.{flat_complex}
+use Rattle.making.proofs.Makings.{Sizes, sizes_of, whole_list}
 use Rattle.making.proofs.sheet_of.Statement.{statement}
 use Rattle.making.proofs.sheet_of.Tie as tie
 use Rattle.making.proofs.sheet_of.Reads as reads
@@ -14,12 +14,12 @@ use Rattle.sheet.proofs.edges_in.Reads as edges-in-reads
 use Rattle.sheet.proofs.triangles_in.Reads as triangles-in-reads
 
 sizes : (c : tie.Start) → Sizes c.args.n-vertices c.args.edges.now c.args.triangles.now c.args.lambda
-sizes c = sizes-of _ _ _ _ c.requires
+sizes c = sizes_of _ _ _ _ c.requires
 
 few : (c : tie.Start) → (length c.args.edges.now ≤ 126) × (length c.args.triangles.now ≤ 768)
 few c =
     let s = sizes c in
-    let k = counts _ _ _ s.counts-pass in
+    let k = counts _ _ _ s.counts_pass in
     let e = k.edges in
     let t = k.triangles in
     let pairs = s.pairs in
@@ -27,20 +27,20 @@ few c =
     (omega arith, omega arith)
 
 -- src/lib.rt:235:9
-edges-in-requires : tie.Need-edges-in-requires
-edges-in-requires c κs = let s = few c.before.before in (omega arith, omega arith)
+edges_in-requires : tie.Need-edges_in-requires
+edges_in-requires c κs = let s = few c.before.before in (omega arith, omega arith)
 
 -- src/lib.rt:236:9
-triangles-in-requires : tie.Need-triangles-in-requires
-triangles-in-requires c κs = let s = few c.before.before.before in (omega arith, omega arith)
+triangles_in-requires : tie.Need-triangles_in-requires
+triangles_in-requires c κs = let s = few c.before.before.before in (omega arith, omega arith)
 
 -- src/lib.rt:231:1
 returns : tie.Need-returns
-unfolding complexOf flatComplex
+unfolding complex_of flat_complex
 returns c =
     let a = c.before.before.before.before in
     let s = sizes a in
-    (rw (c.triangles-in.ensures, c.before.edges-in.ensures, whole-list 2 126 a.args.edges.now _ s.pairs, whole-list 3 768 a.args.triangles.now _ s.triples), refl)
+    (rw (c.triangles_in.ensures, c.before.edges_in.ensures, whole_list 2 126 a.args.edges.now _ s.pairs, whole_list 3 768 a.args.triangles.now _ s.triples), refl)
 
-pub sheet-of-spec : {M : Type 1} → statement M
-sheet-of-spec = tie.close (tie.spec edges-in-requires triangles-in-requires returns)
+pub sheet_of_spec : {M : Type 1} → statement M
+sheet_of_spec = tie.close (tie.spec edges_in-requires triangles_in-requires returns)

@@ -9,5 +9,5 @@ cast-result c = widens w32 c.args.x tt c.ranges.x
 returns : tie.Need-returns
 returns c = widened w32 c.args.x tt c.ranges.x
 
-pub i32-to-i64-spec : {M : Type 1} → statement M
-i32-to-i64-spec = tie.close (tie.spec cast-result returns)
+pub i32_to_i64_spec : {M : Type 1} → statement M
+i32_to_i64_spec = tie.close (tie.spec cast-result returns)

@@ -5,31 +5,31 @@ use lib.IntN.{nat_abs, ◌-ℤ◌}
 use mir.Syntax.{w64}
 use mir.Val.{to_z, of_z}
 use mir.Facts.{to_z-of_z}
-use Rattle.mathematics.proofs.Signed.{size-difference, size-within, size_fits, back32, back64}
+use Rattle.mathematics.proofs.Signed.{size_difference, size_within, size_fits, back32, back64}
 use borrow.Author.Rules.{rules}
 use Rattle.numbers.proofs.minus.Statement.{statement}
 use Rattle.numbers.proofs.minus.Tie as tie
 
-i32-to-i64-requires : tie.Need-i32-to-i64-requires
-i32-to-i64-requires c κs = search rules
+i32_to_i64-requires : tie.Need-i32_to_i64-requires
+i32_to_i64-requires c κs = search rules
 
-back_sum : (c : tie.After-i32-to-i64) → to_z w64 (of_z w64 c.before.args.sum) ≡ c.before.args.sum
+back_sum : (c : tie.After-i32_to_i64) → to_z w64 (of_z w64 c.before.args.sum) ≡ c.before.args.sum
 back_sum c = back64 c.before.args.sum c.before.ranges.sum.sfits
 
-back-x : (c : tie.After-i32-to-i64) → to_z w64 (of_z w64 c.i32-to-i64.result) ≡ c.before.args.x
-back-x c = back64 c.i32-to-i64.result c.i32-to-i64.type-inv ∙ c.i32-to-i64.ensures ∙ back32 c.before.args.x c.before.ranges.x.sfits
+back_x : (c : tie.After-i32_to_i64) → to_z w64 (of_z w64 c.i32_to_i64.result) ≡ c.before.args.x
+back_x c = back64 c.i32_to_i64.result c.i32_to_i64.type-inv ∙ c.i32_to_i64.ensures ∙ back32 c.before.args.x c.before.ranges.x.sfits
 
 sub-result : tie.Need-overflow-sub-result
 sub-result c =
     let start = c.before in
     let sum = start.args.sum in
     let x = start.args.x in
-    let small : nat_abs x ≤ 2 ^ 31 = size-within x start.ranges.x.sfits in
+    let small : nat_abs x ≤ 2 ^ 31 = size_within x start.ranges.x.sfits in
     let before = start.requires in
-    rw (back_sum c, back-x c) (size_fits w64 (◌-ℤ◌ sum x) (omega (arith, size-difference sum x)))
+    rw (back_sum c, back_x c) (size_fits w64 (◌-ℤ◌ sum x) (omega (arith, size_difference sum x)))
 
 returns : tie.Need-returns
-returns c = to_z-of_z (sub-result c) ∙ ap₂ ◌-ℤ◌ (back_sum c) (back-x c)
+returns c = to_z-of_z (sub-result c) ∙ ap₂ ◌-ℤ◌ (back_sum c) (back_x c)
 
-pub minus-spec : {M : Type 1} → statement M
-minus-spec = tie.close (tie.spec i32-to-i64-requires sub-result returns)
+pub minus_spec : {M : Type 1} → statement M
+minus_spec = tie.close (tie.spec i32_to_i64-requires sub-result returns)

@@ -17,5 +17,5 @@ add-result c = rw (is c) (size_fits w32 (◌+ℤ◌ c.args.x c.args.delta) (omeg
 returns : tie.Need-returns
 returns c = to_z-of_z (add-result c) ∙ is c
 
-pub sum-spec : {M : Type 1} → statement M
-sum-spec = tie.close (tie.spec add-result returns)
+pub sum_spec : {M : Type 1} → statement M
+sum_spec = tie.close (tie.spec add-result returns)

@@ -1,7 +1,7 @@
 use lib.IntN.{pos}
 use mir.Syntax.{w32}
 use native.Mathlib.Omega.{arith}
-use Rattle.mathematics.proofs.Signed.{size_fits, small-back}
+use Rattle.mathematics.proofs.Signed.{size_fits, small_back}
 use Rattle.numbers.proofs.usize_to_i32.Statement.{statement}
 use Rattle.numbers.proofs.usize_to_i32.Tie as tie
 
@@ -9,7 +9,7 @@ cast-result : tie.Need-overflow-cast-result
 cast-result c = size_fits w32 (pos c.args.x) (omega (arith, c.requires))
 
 returns : tie.Need-returns
-returns c = small-back (pos c.args.x) (omega (arith, c.requires))
+returns c = small_back (pos c.args.x) (omega (arith, c.requires))
 
-pub usize-to-i32-spec : {M : Type 1} → statement M
-usize-to-i32-spec = tie.close (tie.spec cast-result returns)
+pub usize_to_i32_spec : {M : Type 1} → statement M
+usize_to_i32_spec = tie.close (tie.spec cast-result returns)

@@ -2,21 +2,21 @@ use Prim.Native.Nat.{◌+◌, ◌≤◌}
 use mathlib.Core.Path.{refl}
 use native.Mathlib.Omega.{arith}
 use lib.ListN.{length}
-use Rattle.lines.specs.Lines.{refusedLine}
-use Rattle.lines.proofs.Lengths.{refused-line-long}
-use Rattle.pages.proofs.Turning.{refused-fills}
+use Rattle.lines.specs.Lines.{refused_line}
+use Rattle.lines.proofs.Lengths.{refused_line_long}
+use Rattle.pages.proofs.Turning.{refused_fills}
 use borrow.Author.Rules.{rules}
 use Rattle.pages.proofs.fill_refused.Statement.{statement}
 use Rattle.pages.proofs.fill_refused.Tie as tie
 
-short : (s : tie.Start) → 0 + length (refusedLine s.args.number) ≤ length s.args.out.now
-short s = let room = s.requires in omega (arith, refused-line-long s.args.number s.ranges.number.fits)
+short : (s : tie.Start) → 0 + length (refused_line s.args.number) ≤ length s.args.out.now
+short s = let room = s.requires in omega (arith, refused_line_long s.args.number s.ranges.number.fits)
 
-write-refused-line-requires : tie.Need-write-refused-line-requires
-write-refused-line-requires c κs = short c.before.before
+write_refused_line-requires : tie.Need-write_refused_line-requires
+write_refused_line-requires c κs = short c.before.before
 
-last-page-requires : tie.Need-last-page-requires
-last-page-requires c κs = search rules
+last_page-requires : tie.Need-last_page-requires
+last_page-requires c κs = search rules
 
 same_length : tie.Need-same-length
 same_length c = search rules
@@ -25,10 +25,10 @@ returns : tie.Need-returns
 returns c =
     let s = c.before.before.before.before.before.before in
     record {
-      fills = refused-fills s.args.number _ _ _ (short s) refl c.last-page.ensures c.before.before.before.write-refused-line.ensures;
+      fills = refused_fills s.args.number _ _ _ (short s) refl c.last_page.ensures c.before.before.before.write_refused_line.ensures;
       refusal = refl;
     }
 
-pub fill-refused-spec : {M : Type 1} → statement M
-fill-refused-spec =
-    tie.close (tie.spec write-refused-line-requires last-page-requires same_length returns)
+pub fill_refused_spec : {M : Type 1} → statement M
+fill_refused_spec =
+    tie.close (tie.spec write_refused_line-requires last_page-requires same_length returns)

@@ -1,9 +1,9 @@
 use borrow.Author.Rules.{rules}
 use mathlib.Core.Path.{ap, ◌∙◌}
 use lib.ListN.{length}
-use Rattle.walker.proofs.Fitting.{begin-part}
-use Rattle.cursor.proofs.Cursors.{anew-long}
-use Rattle.pages.proofs.Turning.{page-lines, page-ready, first-ready, first-lines}
+use Rattle.walker.proofs.Fitting.{begin_part}
+use Rattle.cursor.proofs.Cursors.{anew_long}
+use Rattle.pages.proofs.Turning.{page_lines, page_ready, first_ready, first_lines}
 use Rattle.pages.proofs.first_page.Statement.{statement}
 use Rattle.pages.proofs.first_page.Tie as tie
 
@@ -22,30 +22,30 @@ part-space-end c =
 slice-aggregate-first-state : tie.Need-slice-aggregate-first-state
 slice-aggregate-first-state c = search rules
 
-first-state-requires : tie.Need-first-state-requires
-first-state-requires c κs =
+first_state-requires : tie.Need-first_state-requires
+first_state-requires c κs =
     let s = c.before.before.before.before.before.before in
     let w = s.args.w in
-    first-ready w s.args.lambda s.args.blocks s.requires _ (begin-part w)
+    first_ready w s.args.lambda s.args.blocks s.requires _ (begin_part w)
 
 returns : tie.Need-returns
 returns c =
     let s = c.before.before.before.before.before.before.before.before in
     let w = s.args.w in
-    let first = c.before.first-state in
-    let long = first.auto.0 ∙ ap length (begin-part w) ∙ s.requires.sized in (
-      page-lines w s.args.lambda first.result first.new.0 _ long
-          ∙ first-lines w s.args.lambda s.args.blocks s.requires _ (begin-part w) first.new.0 first.result first.ensures,
-      λ some. page-ready w s.args.lambda first.result first.new.0 _ long s.requires.edges (anew-long first.new.0 w.first w.n_edges long s.requires.edges s.requires.space) first.ensures.standing some,
+    let first = c.before.first_state in
+    let long = first.auto.0 ∙ ap length (begin_part w) ∙ s.requires.sized in (
+      page_lines w s.args.lambda first.result first.new.0 _ long
+          ∙ first_lines w s.args.lambda s.args.blocks s.requires _ (begin_part w) first.new.0 first.result first.ensures,
+      λ some. page_ready w s.args.lambda first.result first.new.0 _ long s.requires.edges (anew_long first.new.0 w.first w.n_edges long s.requires.edges s.requires.space) first.ensures.standing some,
     )
 
-pub first-page-spec : {M : Type 1} → statement M
-first-page-spec =
+pub first_page_spec : {M : Type 1} → statement M
+first_page_spec =
     tie.close
     (tie.spec
     sub-config
     part-space-start
     part-space-end
     slice-aggregate-first-state
-    first-state-requires
+    first_state-requires
     returns)

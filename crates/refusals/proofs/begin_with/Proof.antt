@@ -4,27 +4,27 @@ use native.Mathlib.Nat.{zero-add}
 use borrow.Author.Tests.{lt-ltb, le-ltb}
 use Rattle.mathematics.proofs.Puts.{put_front}
 use Rattle.mathematics.proofs.Calls.{none, here, past, refuses, ends}
-use Rattle.answers.specs.Answer.{numberAnswer}
-use Rattle.refusals.specs.Sentences.{front-call}
+use Rattle.answers.specs.Answer.{number_answer}
+use Rattle.refusals.specs.Sentences.{front_call}
 use borrow.Author.Rules.{rules}
 use Rattle.refusals.proofs.begin_with.Statement.{statement}
 use Rattle.refusals.proofs.begin_with.Tie as tie
 
 returns : tie.Need-returns
-unfolding front-call numberAnswer
+unfolding front_call number_answer
 returns c = refuses _ (here (lt-ltb _ _ c.if1.true)) refl
 
-write-text-requires : tie.Need-write-text-requires
-write-text-requires c κs = search rules
+write_text-requires : tie.Need-write_text-requires
+write_text-requires c κs = search rules
 
 same_length : tie.Need-same-length
 same_length c = search rules
 
 returns-2 : tie.Need-returns-2
-unfolding front-call numberAnswer
+unfolding front_call number_answer
 returns-2 c =
-    let put = c.before.before.write-text.ensures in
+    let put = c.before.before.write_text.ensures in
     ends _ (past (le-ltb _ _ c.before.before.before.before.if1.false) none) (put.place ∙ zero-add _) (put.list ∙ put_front _ _) tt
 
-pub begin-with-spec : {M : Type 1} → statement M
-begin-with-spec = tie.close (tie.spec returns write-text-requires same_length returns-2)
+pub begin_with_spec : {M : Type 1} → statement M
+begin_with_spec = tie.close (tie.spec returns write_text-requires same_length returns-2)

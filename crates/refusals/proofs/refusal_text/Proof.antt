@@ -1,17 +1,17 @@
 use mathlib.Core.Path.{refl}
 use Rattle.mathematics.specs.Lists.{listed}
-use Rattle.answers.specs.Answer.{numberAnswer}
+use Rattle.answers.specs.Answer.{number_answer}
 use Rattle.lines.specs.Lines.{ascii}
-use Rattle.refusals.specs.Sentences.{refusals, numbers, sentence-in, sentence, in_table}
-use Rattle.refusals.proofs.Telling.{sentence-told, none_told}
+use Rattle.refusals.specs.Sentences.{refusals, numbers, sentence_in, sentence, in_table}
+use Rattle.refusals.proofs.Telling.{sentence_told, none_told}
 use borrow.Author.Rules.{rules}
 use Rattle.refusals.proofs.refusal_text.Statement.{statement}
 use Rattle.refusals.proofs.refusal_text.Tie as tie
 
 -- Each arm: its text is lent whole, begin_with asks nothing, the list keeps its length, and the text is the table's sentence.
-pub refusal-text-spec : {M : Type 1} → statement M
-unfolding numberAnswer refusals numbers sentence-in sentence in_table listed ascii
-refusal-text-spec =
+pub refusal_text_spec : {M : Type 1} → statement M
+unfolding number_answer refusals numbers sentence_in sentence in_table listed ascii
+refusal_text_spec =
     tie.close
     (tie.spec
     (λ c. search rules)
@@ -49,37 +49,37 @@ refusal-text-spec =
     (λ c. search rules)
     (λ c κs. search rules)
     (λ c. search rules)
-    (λ c. sentence-told 1 refl c.before.before.before.before.before.match.keys1 _ c.before.before.begin-with.ensures)
+    (λ c. sentence_told 1 refl c.before.before.before.before.before.match.keys1 _ c.before.before.begin_with.ensures)
     (λ c. search rules)
-    (λ c. sentence-told 2 refl c.before.before.before.before.before.match.keys2 _ c.before.before.begin-with2.ensures)
+    (λ c. sentence_told 2 refl c.before.before.before.before.before.match.keys2 _ c.before.before.begin-with2.ensures)
     (λ c. search rules)
-    (λ c. sentence-told 3 refl c.before.before.before.before.before.match.keys3 _ c.before.before.begin-with3.ensures)
+    (λ c. sentence_told 3 refl c.before.before.before.before.before.match.keys3 _ c.before.before.begin-with3.ensures)
     (λ c. search rules)
-    (λ c. sentence-told 4 refl c.before.before.before.before.before.match.keys4 _ c.before.before.begin-with4.ensures)
+    (λ c. sentence_told 4 refl c.before.before.before.before.before.match.keys4 _ c.before.before.begin-with4.ensures)
     (λ c. search rules)
-    (λ c. sentence-told 5 refl c.before.before.before.before.before.match.keys5 _ c.before.before.begin-with5.ensures)
+    (λ c. sentence_told 5 refl c.before.before.before.before.before.match.keys5 _ c.before.before.begin-with5.ensures)
     (λ c. search rules)
-    (λ c. sentence-told 6 refl c.before.before.before.before.before.match.keys6 _ c.before.before.begin-with6.ensures)
+    (λ c. sentence_told 6 refl c.before.before.before.before.before.match.keys6 _ c.before.before.begin-with6.ensures)
     (λ c. search rules)
-    (λ c. sentence-told 7 refl c.before.before.before.before.before.match.keys7 _ c.before.before.begin-with7.ensures)
+    (λ c. sentence_told 7 refl c.before.before.before.before.before.match.keys7 _ c.before.before.begin-with7.ensures)
     (λ c. search rules)
-    (λ c. sentence-told 8 refl c.before.before.before.before.before.match.keys8 _ c.before.before.begin-with8.ensures)
+    (λ c. sentence_told 8 refl c.before.before.before.before.before.match.keys8 _ c.before.before.begin-with8.ensures)
     (λ c. search rules)
-    (λ c. sentence-told 9 refl c.before.before.before.before.before.match.keys9 _ c.before.before.begin-with9.ensures)
+    (λ c. sentence_told 9 refl c.before.before.before.before.before.match.keys9 _ c.before.before.begin-with9.ensures)
     (λ c. search rules)
-    (λ c. sentence-told 10 refl c.before.before.before.before.before.match.keys10 _ c.before.before.begin-with10.ensures)
+    (λ c. sentence_told 10 refl c.before.before.before.before.before.match.keys10 _ c.before.before.begin-with10.ensures)
     (λ c. search rules)
-    (λ c. sentence-told 11 refl c.before.before.before.before.before.match.keys11 _ c.before.before.begin-with11.ensures)
+    (λ c. sentence_told 11 refl c.before.before.before.before.before.match.keys11 _ c.before.before.begin-with11.ensures)
     (λ c. search rules)
-    (λ c. sentence-told 12 refl c.before.before.before.before.before.match.keys12 _ c.before.before.begin-with12.ensures)
+    (λ c. sentence_told 12 refl c.before.before.before.before.before.match.keys12 _ c.before.before.begin-with12.ensures)
     (λ c. search rules)
-    (λ c. sentence-told 13 refl c.before.before.before.before.before.match.keys13 _ c.before.before.begin-with13.ensures)
+    (λ c. sentence_told 13 refl c.before.before.before.before.before.match.keys13 _ c.before.before.begin-with13.ensures)
     (λ c. search rules)
-    (λ c. sentence-told 14 refl c.before.before.before.before.before.match.keys14 _ c.before.before.begin-with14.ensures)
+    (λ c. sentence_told 14 refl c.before.before.before.before.before.match.keys14 _ c.before.before.begin-with14.ensures)
     (λ c. search rules)
-    (λ c. sentence-told 15 refl c.before.before.before.before.before.match.keys15 _ c.before.before.begin-with15.ensures)
+    (λ c. sentence_told 15 refl c.before.before.before.before.before.match.keys15 _ c.before.before.begin-with15.ensures)
     (λ c. search rules)
-    (λ c. sentence-told 16 refl c.before.before.before.before.before.match.keys16 _ c.before.before.begin-with16.ensures)
+    (λ c. sentence_told 16 refl c.before.before.before.before.before.match.keys16 _ c.before.before.begin-with16.ensures)
     (λ c. search rules)
-    (λ c. sentence-told 17 refl c.before.before.before.before.before.match.keys17 _ c.before.before.begin-with17.ensures)
+    (λ c. sentence_told 17 refl c.before.before.before.before.before.match.keys17 _ c.before.before.begin-with17.ensures)
     (λ c. none_told _ c.match.rest _))

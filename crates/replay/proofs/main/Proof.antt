@@ -22,14 +22,14 @@ array-share-prefix-buffer c = search rules
 slice-aggregate-write-told-2 : tie.Need-slice-aggregate-write-told-2
 slice-aggregate-write-told-2 c = search rules
 
-write-told-requires : tie.Need-write-told-requires
-write-told-requires c κs = search rules
+write_told-requires : tie.Need-write_told-requires
+write_told-requires c κs = search rules
 
 array-share-prefix-line : tie.Need-array-share-prefix-line
-array-share-prefix-line c = c.before.write-told.ensures.1
+array-share-prefix-line c = c.before.write_told.ensures.1
 
 slice-aggregate-write-all : tie.Need-slice-aggregate-write-all
-slice-aggregate-write-all c = sym (length-take-le _ _ c.before.before.write-told.ensures.1)
+slice-aggregate-write-all c = sym (length-take-le _ _ c.before.before.write_told.ensures.1)
 
 write-all-requires : tie.Need-write-all-requires
 write-all-requires c κs = search rules
@@ -47,7 +47,7 @@ main_spec =
     slice-aggregate-write-told
     array-share-prefix-buffer
     slice-aggregate-write-told-2
-    write-told-requires
+    write_told-requires
     array-share-prefix-line
     slice-aggregate-write-all
     write-all-requires

@@ -5,8 +5,8 @@ use native.Mathlib.Nat.{sub-zero}
 use lib.IntN.{pos}
 use lib.ListN.{length, take, replicate}
 use lib.Seq.{length-take-le}
-use Rattle.walker.specs.Tables.{states-of}
-use Rattle.walker.proofs.Fitting.{begin-part}
+use Rattle.walker.specs.Tables.{states_of}
+use Rattle.walker.proofs.Fitting.{begin_part}
 use borrow.Author.Rules.{rules}
 use Rattle.runs.proofs.write_states.Statement.{statement}
 use Rattle.runs.proofs.write_states.Tie as tie
@@ -29,26 +29,26 @@ part-rows-start c = search rules
 part-rows-end : tie.Need-slice-bounds-rows-end
 part-rows-end c = search rules
 
-write-blocks-requires : tie.Need-write-blocks-requires
-unfolding states-of
-write-blocks-requires c κs =
+write_blocks-requires : tie.Need-write_blocks-requires
+unfolding states_of
+write_blocks-requires c κs =
     let s = c.before.before.before.before.before.before.before.before.before in
     let w = s.args.t1 in
     let fit = s.requires.0 in
     let zeros : length (take (w.n_edges - 0) (replicate 63 (pos 0))) ≡ w.n_edges = rw (sub-zero w.n_edges) (length-take-le w.n_edges (replicate 63 (pos 0)) (omega (arith, fit.edges))) in
-    rw (begin-part w) (zeros ∙ sym fit.sized, fit.walkable, fit.runs, rw fit.sized s.requires.1)
+    rw (begin_part w) (zeros ∙ sym fit.sized, fit.walkable, fit.runs, rw fit.sized s.requires.1)
 
 same_length : tie.Need-same-length
 same_length c = search rules
 
 returns : tie.Need-returns
-unfolding states-of
+unfolding states_of
 returns c =
     let s = c.before.before.before.before.before.before.before.before.before.before.before.before.before in
-    rw (begin-part s.args.t1, s.requires.0.sized) at c.before.before.before.write-blocks.ensures
+    rw (begin_part s.args.t1, s.requires.0.sized) at c.before.before.before.write_blocks.ensures
 
-pub write-states-spec : {M : Type 1} → statement M
-write-states-spec =
+pub write_states_spec : {M : Type 1} → statement M
+write_states_spec =
     tie.close
     (tie.spec
     sub-config
@@ -57,6 +57,6 @@ write-states-spec =
     sub_row
     part-rows-start
     part-rows-end
-    write-blocks-requires
+    write_blocks-requires
     same_length
     returns)

@@ -47,12 +47,12 @@ loop-less c = search rules
 -- src/lib.rt:78:5
 loop-again : tie.Need-loop-preserved invariant-loop decreases-loop
 loop-again c =
-    let at-loop = c.before.before in
-    let a = at-loop.before.args in
-    let i = at-loop.loop.i in
-    let room : a.at + i < length a.out.now = omega (arith, at-loop.before.requires.1) in
-    let here : i < length (drop a.start a.src.now) = omega (arith, at-loop.before.requires.0, length-drop a.start a.src.now) in
-    (omega arith, simp length-set at-loop.loop.invariant.1, rw (at-loop.loop.invariant.2, ← get_or-drop a.start a.src.now i 0, add-one i) (paste-suc a.out.now a.at (drop a.start a.src.now) i 0 room here))
+    let at_loop = c.before.before in
+    let a = at_loop.before.args in
+    let i = at_loop.loop.i in
+    let room : a.at + i < length a.out.now = omega (arith, at_loop.before.requires.1) in
+    let here : i < length (drop a.start a.src.now) = omega (arith, at_loop.before.requires.0, length-drop a.start a.src.now) in
+    (omega arith, simp length-set at_loop.loop.invariant.1, rw (at_loop.loop.invariant.2, ← get_or-drop a.start a.src.now i 0, add-one i) (paste-suc a.out.now a.at (drop a.start a.src.now) i 0 room here))
 
 -- src/lib.rt:74:1
 same_length : tie.Need-same-length invariant-loop decreases-loop

@@ -1,5 +1,5 @@
 use mathlib.Core.Path.{refl}
-use Rattle.sheet.specs.Sheet.{headerOf}
+use Rattle.sheet.specs.Sheet.{header_bytes}
 use borrow.Author.Rules.{rules}
 use Rattle.sheet.proofs.header.Statement.{statement}
 use Rattle.sheet.proofs.header.Tie as tie
@@ -32,8 +32,8 @@ cast-t14 c = search rules
 
 -- src/lib.rt:146:1
 returns : tie.Need-returns
-unfolding headerOf
+unfolding header_bytes
 returns c = refl
 
-pub header-spec : {M : Type 1} → statement M
-header-spec = tie.close (tie.spec cast-t5 cast-t6 cast-t8 cast-t10 cast-t12 cast-t14 returns)
+pub header_spec : {M : Type 1} → statement M
+header_spec = tie.close (tie.spec cast-t5 cast-t6 cast-t8 cast-t10 cast-t12 cast-t14 returns)

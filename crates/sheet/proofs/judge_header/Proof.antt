@@ -8,10 +8,10 @@ use lib.ListN.{get_or, length, take}
 use lib.Dec.{eqb, ltb}
 use Rattle.mathematics.specs.Lists.{same}
 use Rattle.mathematics.specs.Refusals.{first}
-use Rattle.complex.specs.Judge.{counts-right}
+use Rattle.complex.specs.Judge.{counts_right}
 use Rattle.complex.proofs.Accepting.{counts}
-use Rattle.sheet.specs.Sheet.{word, header-tests}
-use Rattle.sheet.proofs.Headers.{mark-test}
+use Rattle.sheet.specs.Sheet.{word, header_tests}
+use Rattle.sheet.proofs.Headers.{mark_test}
 use borrow.Author.Rules.{rules}
 use Rattle.sheet.proofs.judge_header.Statement.{statement}
 use Rattle.sheet.proofs.judge_header.Tie as tie
@@ -33,39 +33,39 @@ abbrev bytes-1 : tie.Else1 → List ℕ
 bytes-1 c = c.before.before.args.b.now
 
 -- the tests that were passed at each place
-passed-1 : (c : tie.Else1) → ltb (length (bytes-1 c)) 11 ≡ false
-passed-1 c = le-ltb _ _ c.if1.false
+passed_1 : (c : tie.Else1) → ltb (length (bytes-1 c)) 11 ≡ false
+passed_1 c = le-ltb _ _ c.if1.false
 
 long : (c : tie.Else1) → 3 ≤ length (bytes-1 c)
 long c = omega arith
 
-passed-2 : (c : tie.Else2) → same (take 3 (bytes-1 (to-1 c))) (71 ∷ 76 ∷ 83 ∷ []) ≡ true
-passed-2 c = mark-test (bytes-1 (to-1 c)) 71 76 83 (long (to-1 c)) ∙ not-false _ c.if2.false
+passed_2 : (c : tie.Else2) → same (take 3 (bytes-1 (to-1 c))) (71 ∷ 76 ∷ 83 ∷ []) ≡ true
+passed_2 c = mark_test (bytes-1 (to-1 c)) 71 76 83 (long (to-1 c)) ∙ not-false _ c.if2.false
 
-failed-2 : (c : tie.Then2) → same (take 3 (bytes-1 c.before.before.before.before)) (71 ∷ 76 ∷ 83 ∷ []) ≡ false
-failed-2 c = mark-test (bytes-1 c.before.before.before.before) 71 76 83 (long c.before.before.before.before) ∙ not-true _ c.if2.true
+failed_2 : (c : tie.Then2) → same (take 3 (bytes-1 c.before.before.before.before)) (71 ∷ 76 ∷ 83 ∷ []) ≡ false
+failed_2 c = mark_test (bytes-1 c.before.before.before.before) 71 76 83 (long c.before.before.before.before) ∙ not-true _ c.if2.true
 
-passed-3 : (c : tie.Else3) → eqb (word (bytes-1 (to-1 (to-2 c))) 3) 1 ≡ true
-passed-3 c = eq-eqb _ _ (sym c.before.word.ensures.0 ∙ c.if3.false)
+passed_3 : (c : tie.Else3) → eqb (word (bytes-1 (to-1 (to-2 c))) 3) 1 ≡ true
+passed_3 c = eq-eqb _ _ (sym c.before.word.ensures.0 ∙ c.if3.false)
 
 -- the counts as they were read
-counted : (c : tie.After-counts-right) → counts-right (get_or (bytes-1 (to-1 (to-2 c.before.before.before.before.before.before))) 5 0) (get_or (bytes-1 (to-1 (to-2 c.before.before.before.before.before.before))) 6 0) (word (bytes-1 (to-1 (to-2 c.before.before.before.before.before.before))) 7) ≡ c.counts-right.result
-counted c = rw (← c.before.byte2.ensures, ← c.before.before.before.before.byte.ensures, ← c.before.before.before.word2.ensures.0) (sym c.counts-right.ensures)
+counted : (c : tie.After-counts_right) → counts_right (get_or (bytes-1 (to-1 (to-2 c.before.before.before.before.before.before))) 5 0) (get_or (bytes-1 (to-1 (to-2 c.before.before.before.before.before.before))) 6 0) (word (bytes-1 (to-1 (to-2 c.before.before.before.before.before.before))) 7) ≡ c.counts_right.result
+counted c = rw (← c.before.byte2.ensures, ← c.before.before.before.before.byte.ensures, ← c.before.before.before.word2.ensures.0) (sym c.counts_right.ensures)
 
-passed-4 : (c : tie.Else4) → counts-right (get_or (bytes-1 (to-1 (to-2 (to-3 c)))) 5 0) (get_or (bytes-1 (to-1 (to-2 (to-3 c)))) 6 0) (word (bytes-1 (to-1 (to-2 (to-3 c)))) 7) ≡ true
-passed-4 c = counted c.before ∙ not-false _ c.if4.false
+passed_4 : (c : tie.Else4) → counts_right (get_or (bytes-1 (to-1 (to-2 (to-3 c)))) 5 0) (get_or (bytes-1 (to-1 (to-2 (to-3 c)))) 6 0) (word (bytes-1 (to-1 (to-2 (to-3 c)))) 7) ≡ true
+passed_4 c = counted c.before ∙ not-false _ c.if4.false
 
-passed-5 : (c : tie.Else5) → ltb 1000 (word (bytes-1 (to-1 (to-2 (to-3 (to-4 c))))) 9) ≡ false
-passed-5 c = rw (← c.before.word3.ensures.0) (le-ltb _ _ c.if5.false)
+passed_5 : (c : tie.Else5) → ltb 1000 (word (bytes-1 (to-1 (to-2 (to-3 (to-4 c))))) 9) ≡ false
+passed_5 c = rw (← c.before.word3.ensures.0) (le-ltb _ _ c.if5.false)
 
 -- the counts are small
 few : (c : tie.Else5) → ((to-4 c).before.before.before.before.before.byte.result ≤ 63) × ((to-4 c).before.before.before.before.word2.result ≤ 256)
 few c =
-    let k = counts _ _ _ (passed-4 (to-4 c)) in
+    let k = counts _ _ _ (passed_4 (to-4 c)) in
     (rw (to-4 c).before.before.before.before.before.byte.ensures k.edges, rw (to-4 c).before.before.before.before.word2.ensures.0 k.triangles)
 
 returns : tie.Need-returns
-unfolding first header-tests
+unfolding first header_tests
 returns c = rw (lt-ltb _ _ c.if1.true)
 
 shared-slice-read-if2 : tie.Need-shared-slice-read-if2
@@ -78,15 +78,15 @@ shared-slice-read-if2-3 : tie.Need-shared-slice-read-if2-3
 shared-slice-read-if2-3 c = search rules
 
 returns-2 : tie.Need-returns-2
-unfolding first header-tests
-returns-2 c = rw (passed-1 c.before.before.before.before, failed-2 c)
+unfolding first header_tests
+returns-2 c = rw (passed_1 c.before.before.before.before, failed_2 c)
 
 word-requires : tie.Need-word-requires
 word-requires c κs = search rules
 
 returns-3 : tie.Need-returns-3
-unfolding first header-tests
-returns-3 c = rw (passed-1 (to-1 c.before.before), passed-2 c.before.before, ← c.before.word.ensures.0, ne_eqb _ _ c.if3.true)
+unfolding first header_tests
+returns-3 c = rw (passed_1 (to-1 c.before.before), passed_2 c.before.before, ← c.before.word.ensures.0, ne_eqb _ _ c.if3.true)
 
 shared-slice-read-byte : tie.Need-shared-slice-read-byte
 shared-slice-read-byte c = search rules
@@ -103,23 +103,23 @@ shared-slice-read-byte-2 c = search rules
 byte-requires-2 : tie.Need-byte-requires-2
 byte-requires-2 c κs = search rules
 
-counts-right-requires : tie.Need-counts-right-requires
-counts-right-requires c κs = search rules
+counts_right-requires : tie.Need-counts_right-requires
+counts_right-requires c κs = search rules
 
 returns-4 : tie.Need-returns-4
-unfolding first header-tests
+unfolding first header_tests
 returns-4 c =
     let e = c.before.before.before.before.before.before.before in
-    rw (passed-1 (to-1 (to-2 e)), passed-2 (to-2 e), passed-3 e, counted c.before, not-true c.before.counts-right.result c.if4.true)
+    rw (passed_1 (to-1 (to-2 e)), passed_2 (to-2 e), passed_3 e, counted c.before, not-true c.before.counts_right.result c.if4.true)
 
 word-requires-3 : tie.Need-word-requires-3
 word-requires-3 c κs = search rules
 
 returns-5 : tie.Need-returns-5
-unfolding first header-tests
+unfolding first header_tests
 returns-5 c =
     let e = c.before.before in
-    rw (passed-1 (to-1 (to-2 (to-3 e))), passed-2 (to-2 (to-3 e)), passed-3 (to-3 e), passed-4 e, ← c.before.word3.ensures.0, lt-ltb _ _ c.if5.true)
+    rw (passed_1 (to-1 (to-2 (to-3 e))), passed_2 (to-2 (to-3 e)), passed_3 (to-3 e), passed_4 e, ← c.before.word3.ensures.0, lt-ltb _ _ c.if5.true)
 
 mul-if6 : tie.Need-overflow-mul-if6
 mul-if6 c = omega (arith, few c)
@@ -134,19 +134,19 @@ add-if6-2 : tie.Need-overflow-add-if6-2
 add-if6-2 c = omega (arith, few c)
 
 returns-6 : tie.Need-returns-6
-unfolding first header-tests
+unfolding first header_tests
 returns-6 c =
     let e = to-4 c.before in
-    rw (passed-1 (to-1 (to-2 (to-3 e))), passed-2 (to-2 (to-3 e)), passed-3 (to-3 e), passed-4 e, passed-5 c.before, ← e.before.before.before.before.before.byte.ensures, ← e.before.before.before.before.word2.ensures.0, ne_eqb _ _ c.if6.true)
+    rw (passed_1 (to-1 (to-2 (to-3 e))), passed_2 (to-2 (to-3 e)), passed_3 (to-3 e), passed_4 e, passed_5 c.before, ← e.before.before.before.before.before.byte.ensures, ← e.before.before.before.before.word2.ensures.0, ne_eqb _ _ c.if6.true)
 
 returns-7 : tie.Need-returns-7
-unfolding first header-tests
+unfolding first header_tests
 returns-7 c =
     let e = to-4 c.before in
-    rw (passed-1 (to-1 (to-2 (to-3 e))), passed-2 (to-2 (to-3 e)), passed-3 (to-3 e), passed-4 e, passed-5 c.before, ← e.before.before.before.before.before.byte.ensures, ← e.before.before.before.before.word2.ensures.0, eq-eqb _ _ c.if6.false)
+    rw (passed_1 (to-1 (to-2 (to-3 e))), passed_2 (to-2 (to-3 e)), passed_3 (to-3 e), passed_4 e, passed_5 c.before, ← e.before.before.before.before.before.byte.ensures, ← e.before.before.before.before.word2.ensures.0, eq-eqb _ _ c.if6.false)
 
-pub judge-header-spec : {M : Type 1} → statement M
-judge-header-spec =
+pub judge_header_spec : {M : Type 1} → statement M
+judge_header_spec =
     tie.close
     (tie.spec
     returns
@@ -161,7 +161,7 @@ judge-header-spec =
     word-requires-2
     shared-slice-read-byte-2
     byte-requires-2
-    counts-right-requires
+    counts_right-requires
     returns-4
     word-requires-3
     returns-5

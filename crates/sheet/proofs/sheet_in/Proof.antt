@@ -3,7 +3,7 @@ use mathlib.Core.Path.{◌≡◌}
 use native.Mathlib.Omega.{arith}
 use lib.ListN.{length}
 use Rattle.complex.proofs.Accepting.{counts}
-use Rattle.sheet.specs.Sheet.{sheetIn}
+use Rattle.sheet.specs.Sheet.{sheet_in}
 use Rattle.sheet.proofs.Sheets.{Header, header_of}
 use borrow.Author.Rules.{rules}
 use Rattle.sheet.proofs.sheet_in.Statement.{statement}
@@ -17,7 +17,7 @@ head c = header_of c.args.b.now c.requires
 sizes : (c : tie.After-word) → (c.before.byte2.result ≤ 63) × (c.word.result ≤ 256) × (11 + 2 * c.before.byte2.result + 3 * c.word.result ≡ length c.before.before.before.before.before.before.args.b.now)
 sizes c =
     let h = head c.before.before.before.before.before.before in
-    let k = counts _ _ _ h.counts-pass in
+    let k = counts _ _ _ h.counts_pass in
     let few = k.edges in
     let less = k.triangles in
     let size = h.size in
@@ -46,8 +46,8 @@ word-requires-2 c κs = omega (arith, (head c.before.before.before.before.before
 mul-edges-in : tie.Need-overflow-mul-edges-in
 mul-edges-in c = omega (arith, sizes c.before)
 
-edges-in-requires : tie.Need-edges-in-requires
-edges-in-requires c κs = omega (arith, sizes c.before)
+edges_in-requires : tie.Need-edges_in-requires
+edges_in-requires c κs = omega (arith, sizes c.before)
 
 mul-triangles-in : tie.Need-overflow-mul-triangles-in
 mul-triangles-in c = omega (arith, sizes c.before.before)
@@ -58,17 +58,17 @@ add-triangles-in c = omega (arith, sizes c.before.before)
 mul-triangles-in-2 : tie.Need-overflow-mul-triangles-in-2
 mul-triangles-in-2 c = omega (arith, sizes c.before.before)
 
-triangles-in-requires : tie.Need-triangles-in-requires
-triangles-in-requires c κs = omega (arith, sizes c.before.before)
+triangles_in-requires : tie.Need-triangles_in-requires
+triangles_in-requires c κs = omega (arith, sizes c.before.before)
 
 returns : tie.Need-returns
-unfolding sheetIn
+unfolding sheet_in
 returns c =
     let w = c.before.before.before in
-    rw (c.triangles-in.ensures, c.before.edges-in.ensures, c.before.before.word2.ensures.0, w.word.ensures.0, w.before.byte2.ensures, w.before.before.before.byte.ensures)
+    rw (c.triangles_in.ensures, c.before.edges_in.ensures, c.before.before.word2.ensures.0, w.word.ensures.0, w.before.byte2.ensures, w.before.before.before.byte.ensures)
 
-pub sheet-in-spec : {M : Type 1} → statement M
-sheet-in-spec =
+pub sheet_in_spec : {M : Type 1} → statement M
+sheet_in_spec =
     tie.close
     (tie.spec
     shared-slice-read-byte
@@ -78,9 +78,9 @@ sheet-in-spec =
     word-requires
     word-requires-2
     mul-edges-in
-    edges-in-requires
+    edges_in-requires
     mul-triangles-in
     add-triangles-in
     mul-triangles-in-2
-    triangles-in-requires
+    triangles_in-requires
     returns)

@@ -2,7 +2,7 @@ use Prim.Native.Nat.{◌≤◌}
 use mathlib.Core.Path.{◌≡◌, ◌∙◌}
 use native.Mathlib.Omega.{arith}
 use lib.ListN.{length, length-drop, drop}
-use Rattle.sheet.proofs.Sheets.{paste-padded}
+use Rattle.sheet.proofs.Sheets.{paste_padded}
 use borrow.Author.Rules.{rules}
 use Rattle.sheet.proofs.triangles_in.Statement.{statement}
 use Rattle.sheet.proofs.triangles_in.Tie as tie
@@ -23,7 +23,7 @@ returns : tie.Need-returns
 returns c =
     let a = c.before.before.before.before in
     let here : a.args.count ≤ length (drop a.args.start a.args.b.now) = omega (arith, a.requires.0, length-drop a.args.start a.args.b.now) in
-    c.before.copy.ensures ∙ paste-padded 768 _ _ a.requires.1 here
+    c.before.copy.ensures ∙ paste_padded 768 _ _ a.requires.1 here
 
-pub triangles-in-spec : {M : Type 1} → statement M
-triangles-in-spec = tie.close (tie.spec slice-aggregate-copy copy-requires returns)
+pub triangles_in_spec : {M : Type 1} → statement M
+triangles_in_spec = tie.close (tie.spec slice-aggregate-copy copy-requires returns)

@@ -24,21 +24,21 @@ byte-requires-2 c κs = search rules
 first_byte : (c : tie.After-byte) → c.byte.result < 256
 first_byte c = omega (arith, c.byte.ensures, c.before.shared-slice-known2.given c.before.before.before.args.i)
 
-second-byte : (c : tie.After-byte2) → c.byte2.result < 256
-second-byte c = omega (arith, c.byte2.ensures, c.before.shared-slice-known3.given (c.before.before.before.before.before.args.i + 1))
+second_byte : (c : tie.After-byte2) → c.byte2.result < 256
+second_byte c = omega (arith, c.byte2.ensures, c.before.shared-slice-known3.given (c.before.before.before.before.before.args.i + 1))
 
 mul-result : tie.Need-overflow-mul-result
-mul-result c = omega (arith, second-byte c)
+mul-result c = omega (arith, second_byte c)
 
 add-result : tie.Need-overflow-add-result
-add-result c = omega (arith, second-byte c, first_byte c.before.before)
+add-result c = omega (arith, second_byte c, first_byte c.before.before)
 
 returns : tie.Need-returns
 unfolding word
-returns c = (rw (c.before.before.byte.ensures, c.byte2.ensures), omega (arith, second-byte c, first_byte c.before.before))
+returns c = (rw (c.before.before.byte.ensures, c.byte2.ensures), omega (arith, second_byte c, first_byte c.before.before))
 
-pub word-spec : {M : Type 1} → statement M
-word-spec =
+pub word_spec : {M : Type 1} → statement M
+word_spec =
     tie.close
     (tie.spec
     shared-slice-read-byte

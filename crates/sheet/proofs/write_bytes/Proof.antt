@@ -55,11 +55,11 @@ at-edges c = c.before.before.before.before.before.before.before.before.before.be
 abbrev at-triangles : tie.After-copy-arg7 → tie.Start
 at-triangles c = c.before.before.before.before.before.before.before.before.before.before.before.before.before.before.before.before.before.before.before
 
-edges-long : (c : tie.After-copy-arg4) → length (at-edges c).args.s.complex.edges ≡ 126
-edges-long c = search rules
+edges_long : (c : tie.After-copy-arg4) → length (at-edges c).args.s.complex.edges ≡ 126
+edges_long c = search rules
 
-triangles-long : (c : tie.After-copy-arg7) → length (at-triangles c).args.s.complex.triangles ≡ 768
-triangles-long c = search rules
+triangles_long : (c : tie.After-copy-arg7) → length (at-triangles c).args.s.complex.triangles ≡ 768
+triangles_long c = search rules
 
 -- src/lib.rt:166:1
 returns : tie.Need-returns
@@ -68,12 +68,12 @@ returns c =
     let second = c.before.before.before.before.before.before.before.before.before in
     let first = c.before.before.before.before.before.before.before.before.before.before.before.before.before.before.before.before in
     let a = at-triangles c.before.before.before in
-    let el = edges-long second.before in
-    let tl = triangles-long third.before in
+    let el = edges_long second.before in
+    let tl = triangles_long third.before in
     copied a.args.s el tl a.pre.edges a.pre.triangles _ _ _ _ _ first.before.before.before.header.ensures first.copy.ensures second.copy2.ensures third.copy3.ensures
 
-pub write-bytes-spec : {M : Type 1} → statement M
-write-bytes-spec =
+pub write_bytes_spec : {M : Type 1} → statement M
+write_bytes_spec =
     tie.close
     (tie.spec
     header-requires

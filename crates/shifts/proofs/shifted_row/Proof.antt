@@ -7,14 +7,14 @@ use Rattle.shifts.proofs.shifted_row.Tie as tie
 slice-aggregate-write-shifted : tie.Need-slice-aggregate-write-shifted
 slice-aggregate-write-shifted c = search rules
 
-write-shifted-requires : tie.Need-write-shifted-requires
-write-shifted-requires c κs = search rules
+write_shifted-requires : tie.Need-write_shifted-requires
+write_shifted-requires c κs = search rules
 
 returns : tie.Need-returns
 returns c =
     let start = c.before.before.before in
-    c.before.write-shifted.ensures ∙ rw (back32 start.args.value start.ranges.value.sfits)
+    c.before.write_shifted.ensures ∙ rw (back32 start.args.value start.ranges.value.sfits)
 
-pub shifted-row-spec : {M : Type 1} → statement M
-shifted-row-spec =
-    tie.close (tie.spec slice-aggregate-write-shifted write-shifted-requires returns)
+pub shifted_row_spec : {M : Type 1} → statement M
+shifted_row_spec =
+    tie.close (tie.spec slice-aggregate-write-shifted write_shifted-requires returns)

@@ -40,17 +40,17 @@ loop-less c = search rules
 
 loop-again : tie.Need-loop-preserved invariant-loop decreases-loop
 loop-again c =
-    let at-loop = c.before.before in
-    let s = at-loop.before in
+    let at_loop = c.before.before in
+    let s = at_loop.before in
     let config = s.args.configuration.now in
-    let e = at-loop.loop.e in
+    let e = at_loop.loop.e in
     let here : e < length config = omega arith in
     let room : e < length s.args.to.now = omega (arith, s.requires.1) in
     let long : length (take e config) ≡ e = length-take-le e config (omega arith) in (
       omega arith,
       refl,
-      simp length-set at-loop.loop.invariant.2,
-      rw (back32 (get_or config e (pos 0)) c.to.given, at-loop.loop.invariant.3, take_next config e (pos 0) here) (store (take e config) s.args.to.now e (get_or config e (pos 0)) (pos 0) long room),
+      simp length-set at_loop.loop.invariant.2,
+      rw (back32 (get_or config e (pos 0)) c.to.given, at_loop.loop.invariant.3, take_next config e (pos 0) here) (store (take e config) s.args.to.now e (get_or config e (pos 0)) (pos 0) long room),
     )
 
 mul-value : tie.Need-overflow-mul-value invariant-loop decreases-loop
@@ -70,8 +70,8 @@ returns c =
     let all : c.before.loop.to ≡ config ++ drop (length config) s.args.to.now = (rw past at c.before.loop.invariant.3) ∙ ap (λ l. l ++ drop (length config) s.args.to.now) (take-length config) in
     rw (all, back32 s.args.value s.ranges.value.sfits) (set-append_left config (drop (length config) s.args.to.now) s.args.edge s.args.value s.requires.0)
 
-pub write-shifted-spec : {M : Type 1} → statement M
-write-shifted-spec =
+pub write_shifted_spec : {M : Type 1} → statement M
+write_shifted_spec =
     tie.close
     (tie.spec
     invariant-loop

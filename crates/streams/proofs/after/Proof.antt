@@ -26,6 +26,6 @@ returns-3 c = stopped _ _ _ (λ h. omega arith)
 returns-4 : tie.Need-returns-4
 returns-4 c = stopped _ _ _ (λ h. omega arith)
 
-pub after-spec : {M : Type 1} → statement M
-after-spec =
+pub after_spec : {M : Type 1} → statement M
+after_spec =
     tie.close (tie.spec add-t5 returns errno-requires sub-t9 returns-2 returns-3 returns-4)

@@ -2,7 +2,7 @@ use Prim.Native.Nat.{◌+◌, ◌≤◌}
 use mathlib.Core.Path.{◌≡◌, refl, ◌∙◌}
 use native.Mathlib.Omega.{arith}
 use lib.ListN.{length}
-use Rattle.streams.proofs.Movings.{left, less-left}
+use Rattle.streams.proofs.Movings.{left, less_left}
 use Rattle.mathematics.proofs.Tests.{and_parts}
 use borrow.Author.Rules.{rules}
 use Rattle.streams.proofs.write_output.Statement.{statement}
@@ -46,9 +46,9 @@ after-requires c κs = search rules
 
 loop-less : tie.Need-loop-smaller invariant-loop decreases-loop
 loop-less c =
-    let at-loop = c.before.before.before.before.before.before.before.before in
+    let at_loop = c.before.before.before.before.before.before.before.before in
     let test = c.before.before.before.before.before.if1.true in
-    less-left _ _ _ at-loop.loop.m c.after.result (and_parts _ _ test).0 (omega (arith, c.before.smaller.ensures)) c.after.ensures
+    less_left _ _ _ at_loop.loop.m c.after.result (and_parts _ _ test).0 (omega (arith, c.before.smaller.ensures)) c.after.ensures
 
 loop-again : tie.Need-loop-preserved invariant-loop decreases-loop
 loop-again c = search rules
@@ -56,8 +56,8 @@ loop-again c = search rules
 returns : tie.Need-returns invariant-loop decreases-loop
 returns c = search rules
 
-pub write-output-spec : {M : Type 1} → statement M
-write-output-spec =
+pub write_output_spec : {M : Type 1} → statement M
+write_output_spec =
     tie.close
     (tie.spec
     invariant-loop

@@ -4,19 +4,19 @@ use mathlib.Core.Path.{◌≡◌, ◌∙◌}
 use native.Mathlib.Omega.{arith}
 use native.Mathlib.Numerals.{add-one}
 use lib.ListN.{get_or}
-use Rattle.complex.specs.Complex.{entries, simplices, complexOf}
+use Rattle.complex.specs.Complex.{entries, simplices, complex_of}
 use Rattle.complex.specs.Tree.{Searchable}
-use Rattle.complex.proofs.Simplices.{simplices-length, simplex-at}
-use Rattle.gauss_law.proofs.Spanned.{accepted-searchable}
-use Rattle.su2_even_sets.specs.Forest.{forestOf, Keeps}
+use Rattle.complex.proofs.Simplices.{simplices_length, simplex_at}
+use Rattle.gauss_law.proofs.Spanned.{accepted_searchable}
+use Rattle.su2_even_sets.specs.Forest.{forest_of, Keeps}
 use Rattle.su2_even_sets.specs.Loops.{separate, grown}
-use Rattle.su2_even_sets.proofs.Tables.{separate-kept, keeps-sized, grown-within}
+use Rattle.su2_even_sets.proofs.Tables.{separate_kept, keeps_sized, grown_within}
 use borrow.Author.Rules.{rules}
 use Rattle.su2_even_sets.proofs.closing_loops.Statement.{statement}
 use Rattle.su2_even_sets.proofs.closing_loops.Tie as tie
 
 abbrev invariant-loop : tie.invariant-loop
-invariant-loop c edges part₀ path₀ closing₀ loops₀ count₀ e₀ e-end part path closing loops count e = (e ≤ e-end) × (count ≤ e) × Keeps (grown (simplices 2 edges e-end) e) (forestOf part path closing loops count)
+invariant-loop c edges part₀ path₀ closing₀ loops₀ count₀ e₀ e-end part path closing loops count e = (e ≤ e-end) × (count ≤ e) × Keeps (grown (simplices 2 edges e-end) e) (forest_of part path closing loops count)
 
 abbrev decreases-loop : tie.decreases-loop
 decreases-loop c edges part₀ path₀ closing₀ loops₀ count₀ e₀ e-end part path closing loops count e = e-end - e
@@ -25,7 +25,7 @@ abbrev Turn : Type 0
 Turn = tie.In-loop invariant-loop decreases-loop
 
 searchable : (c : Turn) → Searchable c.before.before.before.before.args.c.edges c.before.before.before.before.args.c.n_vertices c.before.before.before.before.args.c.n_edges
-searchable c = accepted-searchable c.before.before.before.before.args.c c.before.before.before.before.requires
+searchable c = accepted_searchable c.before.before.before.before.args.c c.before.before.before.before.requires
 
 few : (c : Turn) → c.before.loop.e < 63
 few c = omega (arith, (searchable c).edges_fit)
@@ -35,13 +35,13 @@ separate-requires c κs = search rules
 
 loop-holds : tie.Need-loop-init invariant-loop decreases-loop
 unfolding grown separate
-loop-holds c = (omega arith, omega arith, separate-kept _ c.separate.ensures)
+loop-holds c = (omega arith, omega arith, separate_kept _ c.separate.ensures)
 
-edge-start-requires : tie.Need-edge-start-requires invariant-loop decreases-loop
-edge-start-requires c κs = few c.before
+edge_start-requires : tie.Need-edge_start-requires invariant-loop decreases-loop
+edge_start-requires c κs = few c.before
 
-edge-end-requires : tie.Need-edge-end-requires invariant-loop decreases-loop
-edge-end-requires c κs = few c.before.before.before
+edge_end-requires : tie.Need-edge_end-requires invariant-loop decreases-loop
+edge_end-requires c κs = few c.before.before.before
 
 grow-requires : tie.Need-grow-requires invariant-loop decreases-loop
 unfolding entries
@@ -51,13 +51,13 @@ grow-requires c κs =
     let turn = at_a.before.before in
     let e = turn.before.loop.e in
     let r = turn.before.before.before.before.args.c in
-    let ends = rw (simplex-at 2 r.edges r.n_edges e (omega arith)) at ((searchable turn).ends e (rw (simplices-length 2 r.edges r.n_edges) (omega arith))) in (
-      keeps-sized _ _ turn.before.loop.invariant.2,
+    let ends = rw (simplex_at 2 r.edges r.n_edges e (omega arith)) at ((searchable turn).ends e (rw (simplices_length 2 r.edges r.n_edges) (omega arith))) in (
+      keeps_sized _ _ turn.before.loop.invariant.2,
       turn.before.loop.invariant.1,
       few turn,
-      rw at_a.edge-start.ensures (omega (arith, ends.0, ends.1)),
-      rw at_b.edge-end.ensures ends.1,
-      (searchable turn).vertices-fit,
+      rw at_a.edge_start.ensures (omega (arith, ends.0, ends.1)),
+      rw at_b.edge_end.ensures ends.1,
+      (searchable turn).vertices_fit,
     )
 
 add-e : tie.Need-overflow-add-e invariant-loop decreases-loop
@@ -75,30 +75,30 @@ loop-again c =
     let e = turn.before.loop.e in
     let r = turn.before.before.before.before.args.c in
     let es = simplices 2 r.edges r.n_edges in
-    let one : get_or es e [] ≡ at_a.edge-start.result ∷ at_b.edge-end.result ∷ [] =
-    simplex-at 2 r.edges r.n_edges e (omega arith) ∙ rw (at_a.edge-start.ensures, at_b.edge-end.ensures) in
-    let within = grown-within r.n_vertices es (searchable turn).ends e (rw (simplices-length 2 r.edges r.n_edges) turn.before.loop.invariant.0) in (
+    let one : get_or es e [] ≡ at_a.edge_start.result ∷ at_b.edge_end.result ∷ [] =
+    simplex_at 2 r.edges r.n_edges e (omega arith) ∙ rw (at_a.edge_start.ensures, at_b.edge_end.ensures) in
+    let within = grown_within r.n_vertices es (searchable turn).ends e (rw (simplices_length 2 r.edges r.n_edges) turn.before.loop.invariant.0) in (
       omega arith,
       omega (arith, c.grow.ensures.few, turn.before.loop.invariant.1),
       rw (add-one e, one) (c.grow.ensures.keeps (grown es e) turn.before.loop.invariant.2 within),
     )
 
 returns : tie.Need-returns invariant-loop decreases-loop
-unfolding complexOf
+unfolding complex_of
 returns c =
     let past : c.before.loop.e ≡ c.before.before.before.before.args.c.n_edges = omega arith in
     rw past at c.before.loop.invariant.2
 
-pub closing-loops-spec : {M : Type 1} → statement M
-closing-loops-spec =
+pub closing_loops_spec : {M : Type 1} → statement M
+closing_loops_spec =
     tie.close
     (tie.spec
     invariant-loop
     decreases-loop
     separate-requires
     loop-holds
-    edge-start-requires
-    edge-end-requires
+    edge_start-requires
+    edge_end-requires
     grow-requires
     add-e
     loop-less

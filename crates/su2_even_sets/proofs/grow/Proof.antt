@@ -3,10 +3,10 @@ use mathlib.Core.Path.{◌≡◌}
 use native.Mathlib.Omega.{arith}
 use lib.Bits.{bit_xor}
 use lib.ListN.{get_or}
-use Rattle.mathematics.proofs.Bits.{power-shifted}
+use Rattle.mathematics.proofs.Bits.{power_shifted}
 use Rattle.su2_even_sets.specs.declared.Forest.{Forest}
-use Rattle.su2_even_sets.specs.Forest.{forestOf}
-use Rattle.su2_even_sets.proofs.Tables.{closed-kept, joined-kept}
+use Rattle.su2_even_sets.specs.Forest.{forest_of}
+use Rattle.su2_even_sets.proofs.Tables.{closed_kept, joined_kept}
 use borrow.Author.Rules.{rules}
 use Rattle.su2_even_sets.proofs.grow.Statement.{statement}
 use Rattle.su2_even_sets.proofs.grow.Tie as tie
@@ -49,20 +49,20 @@ add-result c = search rules
 
 -- the tables at first, and the loop as the code makes it
 abbrev tables : tie.Start → Forest
-tables s = forestOf s.args.part.now s.args.path.now s.args.closing.now s.args.loops.now s.args.count
+tables s = forest_of s.args.part.now s.args.path.now s.args.closing.now s.args.loops.now s.args.count
 
 abbrev paths : tie.Start → ℕ
 paths s = bit_xor (get_or s.args.path.now s.args.a 0) (get_or s.args.path.now s.args.b 0)
 
-made-is : (s : tie.Start) → bit_xor (paths s) (1 * 2 ^ s.args.e % 2 ^ 64) ≡ bit_xor (paths s) (2 ^ s.args.e)
-made-is s = rw (power-shifted s.args.e (omega (arith, s.requires.2)))
+made_is : (s : tie.Start) → bit_xor (paths s) (1 * 2 ^ s.args.e % 2 ^ 64) ≡ bit_xor (paths s) (2 ^ s.args.e)
+made_is s = rw (power_shifted s.args.e (omega (arith, s.requires.2)))
 
 returns : tie.Need-returns
 returns c =
     let start = c.before.before.before.before.before in
     record {
       keeps = λ g k w.
-          closed-kept g (tables start) k start.args.a start.args.b start.args.e (omega (arith, start.requires.3, start.requires.5)) (omega (arith, start.requires.4, start.requires.5)) _ (made-is start) c.if1.true (omega (arith, start.requires.1, start.requires.2));
+          closed_kept g (tables start) k start.args.a start.args.b start.args.e (omega (arith, start.requires.3, start.requires.5)) (omega (arith, start.requires.4, start.requires.5)) _ (made_is start) c.if1.true (omega (arith, start.requires.1, start.requires.2));
       few = omega arith;
     }
 
@@ -74,7 +74,7 @@ returns-2 c =
     let start = c.before.before.before.before.before.before.before.before in
     record {
       keeps = λ g k w.
-          joined-kept g (tables start) k start.args.a start.args.b start.args.e (omega (arith, start.requires.3, start.requires.5)) (omega (arith, start.requires.4, start.requires.5)) _ (made-is start) c.before.before.before.if1.false start.args.n-vertices start.requires.4 w _ _ c.join.ensures;
+          joined_kept g (tables start) k start.args.a start.args.b start.args.e (omega (arith, start.requires.3, start.requires.5)) (omega (arith, start.requires.4, start.requires.5)) _ (made_is start) c.before.before.before.if1.false start.args.n-vertices start.requires.4 w _ _ c.join.ensures;
       few = omega arith;
     }
 

@@ -2,7 +2,7 @@ use Prim.Native.Nat.{◌≤◌, ◌-◌}
 use mathlib.Core.Path.{◌≡◌}
 use native.Mathlib.Omega.{arith}
 use Rattle.su2_even_sets.specs.Forest.{Joined}
-use Rattle.su2_even_sets.proofs.Tables.{joined-none, joined-more}
+use Rattle.su2_even_sets.proofs.Tables.{joined_none, joined_more}
 use borrow.Author.Rules.{rules}
 use Rattle.su2_even_sets.proofs.join.Statement.{statement}
 use Rattle.su2_even_sets.proofs.join.Tie as tie
@@ -14,7 +14,7 @@ abbrev decreases-loop : tie.decreases-loop
 decreases-loop part₀ path₀ n-vertices from to cycle v₀ part path v = n-vertices - v
 
 loop-holds : tie.Need-loop-init invariant-loop decreases-loop
-loop-holds c = (omega arith, joined-none _ _ _ _ _ c.requires.0 c.requires.1)
+loop-holds c = (omega arith, joined_none _ _ _ _ _ c.requires.0 c.requires.1)
 
 element-copy-out-p : tie.Need-element-copy-out-p invariant-loop decreases-loop
 element-copy-out-p c = search rules
@@ -48,16 +48,16 @@ loop-less c = search rules
 
 loop-again : tie.Need-loop-preserved invariant-loop decreases-loop
 loop-again c =
-    let at-loop = c.before.before.before.before.before in
-    (omega arith, joined-more _ _ _ _ _ _ _ _ _ _ at-loop.loop.invariant.1 (omega (arith, at-loop.before.requires.2)) c.moved.ensures c.before.lengthened.ensures)
+    let at_loop = c.before.before.before.before.before in
+    (omega arith, joined_more _ _ _ _ _ _ _ _ _ _ at_loop.loop.invariant.1 (omega (arith, at_loop.before.requires.2)) c.moved.ensures c.before.lengthened.ensures)
 
 returns : tie.Need-returns invariant-loop decreases-loop
 returns c =
     let past : c.before.loop.v ≡ c.before.before.args.n-vertices = omega arith in
     rw past at c.before.loop.invariant.1
 
-pub join-spec : {M : Type 1} → statement M
-join-spec =
+pub join_spec : {M : Type 1} → statement M
+join_spec =
     tie.close
     (tie.spec
     invariant-loop

@@ -12,5 +12,5 @@ store-requires c κs = search rules
 returns : tie.Need-returns
 returns c = rw (back64 _ c.store.type-inv) (c.store.ensures _ _ c.before.before.su2.ensures)
 
-pub export-su2-params-spec : {M : Type 1} → statement M
-export-su2-params-spec = tie.close (tie.spec su2-requires store-requires returns)
+pub export_su2_params_spec : {M : Type 1} → statement M
+export_su2_params_spec = tie.close (tie.spec su2-requires store-requires returns)

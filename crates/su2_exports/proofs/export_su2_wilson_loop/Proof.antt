@@ -1,9 +1,9 @@
 use mathlib.Core.Path.{◌∙◌}
 use Rattle.mathematics.proofs.Signed.{back64}
-use Rattle.su2_loops.specs.Loop.{su2-loop-call}
+use Rattle.su2_loops.specs.Loop.{su2_loop_call}
 use Rattle.exports.specs.Exports.{value_lent}
-use Rattle.exports.proofs.Answers.{lent-answers}
-use Rattle.exports.proofs.OnSheets.{sheet-refuses, sheet-answers}
+use Rattle.exports.proofs.Answers.{lent_answers}
+use Rattle.exports.proofs.OnSheets.{sheet_refuses, sheet_answers}
 use borrow.Author.Rules.{rules}
 use Rattle.su2_exports.proofs.export_su2_wilson_loop.Statement.{statement}
 use Rattle.su2_exports.proofs.export_su2_wilson_loop.Tie as tie
@@ -15,14 +15,14 @@ refused-requires : tie.Need-refused-requires
 refused-requires c κs = search rules
 
 returns : tie.Need-returns
-unfolding su2-loop-call value_lent
-returns c = sheet-refuses c.before.before.open.ensures _ c.before.if1.true _ (back64 _ c.refused.type-inv ∙ c.refused.ensures)
+unfolding su2_loop_call value_lent
+returns c = sheet_refuses c.before.before.open.ensures _ c.before.if1.true _ (back64 _ c.refused.type-inv ∙ c.refused.ensures)
 
-su2-wilson-loop-requires : tie.Need-su2-wilson-loop-requires
-su2-wilson-loop-requires c κs = search rules
+su2_wilson_loop-requires : tie.Need-su2_wilson_loop-requires
+su2_wilson_loop-requires c κs = search rules
 
-store-expectation-requires : tie.Need-store-expectation-requires
-store-expectation-requires c κs = search rules
+store_expectation-requires : tie.Need-store_expectation-requires
+store_expectation-requires c κs = search rules
 
 same_length : tie.Need-same-length
 same_length c = search rules
@@ -31,16 +31,16 @@ returns-2 : tie.Need-returns-2
 returns-2 c =
     let t = c.before.before.before.before in
     let e = t.before.before.before in
-    sheet-answers e.before.open.ensures _ e.if1.false (lent-answers t.su2-wilson-loop.ensures _ c.store-expectation.ensures.1) (back64 _ c.store-expectation.type-inv ∙ c.store-expectation.ensures.0)
+    sheet_answers e.before.open.ensures _ e.if1.false (lent_answers t.su2_wilson_loop.ensures _ c.store_expectation.ensures.1) (back64 _ c.store_expectation.type-inv ∙ c.store_expectation.ensures.0)
 
-pub export-su2-wilson-loop-spec : {M : Type 1} → statement M
-export-su2-wilson-loop-spec =
+pub export_su2_wilson_loop_spec : {M : Type 1} → statement M
+export_su2_wilson_loop_spec =
     tie.close
     (tie.spec
     open-requires
     refused-requires
     returns
-    su2-wilson-loop-requires
-    store-expectation-requires
+    su2_wilson_loop-requires
+    store_expectation-requires
     same_length
     returns-2)

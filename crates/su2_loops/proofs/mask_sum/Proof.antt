@@ -4,21 +4,21 @@ use native.Mathlib.Omega.{arith}
 use lib.Ieee.{binary64, nan, add, mul}
 use lib.ListN.{get_or}
 use Rattle.matrices.proofs.Literals.{zero}
-use Rattle.su2_loops.specs.Loop.{mask-sum}
-use Rattle.su2_loops.proofs.Parity.{parity-sign-is}
+use Rattle.su2_loops.specs.Loop.{mask_sum}
+use Rattle.su2_loops.proofs.Parity.{parity_sign_is}
 use Rattle.su2_loops.proofs.Shared.{sum_more}
 use borrow.Author.Rules.{rules}
 use Rattle.su2_loops.proofs.mask_sum.Statement.{statement}
 use Rattle.su2_loops.proofs.mask_sum.Tie as tie
 
 abbrev invariant-loop : tie.invariant-loop
-invariant-loop n vector states mask sum₀ i₀ sum i = (i ≤ n) × (sum ≡ mask-sum vector states mask i)
+invariant-loop n vector states mask sum₀ i₀ sum i = (i ≤ n) × (sum ≡ mask_sum vector states mask i)
 
 abbrev decreases-loop : tie.decreases-loop
 decreases-loop n vector states mask sum₀ i₀ sum i = n - i
 
 loop-holds : tie.Need-loop-init invariant-loop decreases-loop
-unfolding mask-sum
+unfolding mask_sum
 loop-holds c = (omega arith, zero)
 
 mul-amplitude : tie.Need-overflow-mul-amplitude invariant-loop decreases-loop
@@ -33,8 +33,8 @@ mul-sign-of c = search rules
 shared-slice-read-sign-of : tie.Need-shared-slice-read-sign-of invariant-loop decreases-loop
 shared-slice-read-sign-of c = search rules
 
-sign-of-requires : tie.Need-sign-of-requires invariant-loop decreases-loop
-sign-of-requires c κs = search rules
+sign_of-requires : tie.Need-sign_of-requires invariant-loop decreases-loop
+sign_of-requires c κs = search rules
 
 add-i : tie.Need-overflow-add-i invariant-loop decreases-loop
 add-i c = search rules
@@ -44,11 +44,11 @@ loop-less c = search rules
 
 loop-again : tie.Need-loop-preserved invariant-loop decreases-loop
 loop-again c =
-    let at-loop = c.before.before.before.before in
-    let a = at-loop.before.before.before.args in
-    let i = at-loop.loop.i in (
+    let at_loop = c.before.before.before.before in
+    let a = at_loop.before.before.before.args in
+    let i = at_loop.loop.i in (
       omega arith,
-      ap₂ (λ x y. add binary64 x (mul binary64 (mul binary64 (get_or a.vector.now i nan) (get_or a.vector.now i nan)) y)) at-loop.loop.invariant.1 (c.sign_of.ensures.0 ∙ (parity-sign-is _).float)
+      ap₂ (λ x y. add binary64 x (mul binary64 (mul binary64 (get_or a.vector.now i nan) (get_or a.vector.now i nan)) y)) at_loop.loop.invariant.1 (c.sign_of.ensures.0 ∙ (parity_sign_is _).float)
           ∙ sym (sum_more a.vector.now a.states.now a.mask i),
     )
 
@@ -58,8 +58,8 @@ returns c =
     let past : c.before.loop.i ≡ a.n = omega arith in
     rw past at c.before.loop.invariant.1
 
-pub mask-sum-spec : {M : Type 1} → statement M
-mask-sum-spec =
+pub mask_sum_spec : {M : Type 1} → statement M
+mask_sum_spec =
     tie.close
     (tie.spec
     invariant-loop
@@ -69,7 +69,7 @@ mask-sum-spec =
     shared-slice-read-amplitude
     mul-sign-of
     shared-slice-read-sign-of
-    sign-of-requires
+    sign_of-requires
     add-i
     loop-less
     loop-again

@@ -3,21 +3,21 @@ use mathlib.Core.Path.{◌≡◌, refl, sym, ap, ap₂, ◌∙◌}
 use native.Mathlib.Omega.{arith}
 use lib.Bits.{bit_xor}
 use lib.ListN.{length, get_or}
-use Rattle.mathematics.proofs.Bits.{power-shifted}
-use Rattle.su2_loops.specs.Loop.{passes-mask}
-use Rattle.su2_loops.proofs.Paths.{passes-more}
+use Rattle.mathematics.proofs.Bits.{power_shifted}
+use Rattle.su2_loops.specs.Loop.{passes_mask}
+use Rattle.su2_loops.proofs.Paths.{passes_more}
 use borrow.Author.Rules.{rules}
 use Rattle.su2_loops.proofs.passes_mask.Statement.{statement}
 use Rattle.su2_loops.proofs.passes_mask.Tie as tie
 
 abbrev invariant-loop : tie.invariant-loop
-invariant-loop path mask₀ step₀ step_End mask step = (step ≤ length path) × (step_End ≡ length path) × (mask ≡ passes-mask path step)
+invariant-loop path mask₀ step₀ step_End mask step = (step ≤ length path) × (step_End ≡ length path) × (mask ≡ passes_mask path step)
 
 abbrev decreases-loop : tie.decreases-loop
 decreases-loop path mask₀ step₀ step_End mask step = length path - step
 
 loop-holds : tie.Need-loop-init invariant-loop decreases-loop
-unfolding passes-mask
+unfolding passes_mask
 loop-holds c = (omega arith, refl, refl)
 
 -- the edge that is under way is below 64
@@ -41,17 +41,17 @@ loop-less c = search rules
 
 loop-again : tie.Need-loop-preserved invariant-loop decreases-loop
 loop-again c =
-    let at-loop = c.before.before in
-    let path = at-loop.before.args.path.now in
-    (omega arith, refl, ap₂ bit_xor at-loop.loop.invariant.2 (power-shifted (get_or path at-loop.loop.step 0) (low c.before)) ∙ sym (passes-more path at-loop.loop.step))
+    let at_loop = c.before.before in
+    let path = at_loop.before.args.path.now in
+    (omega arith, refl, ap₂ bit_xor at_loop.loop.invariant.2 (power_shifted (get_or path at_loop.loop.step 0) (low c.before)) ∙ sym (passes_more path at_loop.loop.step))
 
 returns : tie.Need-returns invariant-loop decreases-loop
 returns c =
     let past : c.before.loop.step ≡ length c.before.before.args.path.now = omega arith in
-    c.before.loop.invariant.2 ∙ ap (passes-mask c.before.before.args.path.now) past
+    c.before.loop.invariant.2 ∙ ap (passes_mask c.before.before.args.path.now) past
 
-pub passes-mask-spec : {M : Type 1} → statement M
-passes-mask-spec =
+pub passes_mask_spec : {M : Type 1} → statement M
+passes_mask_spec =
     tie.close
     (tie.spec
     invariant-loop

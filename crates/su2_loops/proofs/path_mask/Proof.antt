@@ -3,21 +3,21 @@ use mathlib.Core.Path.{◌≡◌, refl, sym, ap, ap₂, ◌∙◌}
 use native.Mathlib.Omega.{arith}
 use lib.Bits.{bit_or}
 use lib.ListN.{length, get_or}
-use Rattle.mathematics.proofs.Bits.{power-shifted}
-use Rattle.su2_loops.specs.Loop.{path-mask}
-use Rattle.su2_loops.proofs.Paths.{mask-more}
+use Rattle.mathematics.proofs.Bits.{power_shifted}
+use Rattle.su2_loops.specs.Loop.{path_mask}
+use Rattle.su2_loops.proofs.Paths.{mask_more}
 use borrow.Author.Rules.{rules}
 use Rattle.su2_loops.proofs.path_mask.Statement.{statement}
 use Rattle.su2_loops.proofs.path_mask.Tie as tie
 
 abbrev invariant-loop : tie.invariant-loop
-invariant-loop path mask₀ k₀ k-end mask k = (k ≤ length path) × (k-end ≡ length path) × (mask ≡ path-mask path k)
+invariant-loop path mask₀ k₀ k-end mask k = (k ≤ length path) × (k-end ≡ length path) × (mask ≡ path_mask path k)
 
 abbrev decreases-loop : tie.decreases-loop
 decreases-loop path mask₀ k₀ k-end mask k = length path - k
 
 loop-holds : tie.Need-loop-init invariant-loop decreases-loop
-unfolding path-mask
+unfolding path_mask
 loop-holds c = (omega arith, refl, refl)
 
 -- the edge that is under way is below 64
@@ -41,17 +41,17 @@ loop-less c = search rules
 
 loop-again : tie.Need-loop-preserved invariant-loop decreases-loop
 loop-again c =
-    let at-loop = c.before.before in
-    let path = at-loop.before.args.path.now in
-    (omega arith, refl, ap₂ bit_or at-loop.loop.invariant.2 (power-shifted (get_or path at-loop.loop.k 0) (low c.before)) ∙ sym (mask-more path at-loop.loop.k))
+    let at_loop = c.before.before in
+    let path = at_loop.before.args.path.now in
+    (omega arith, refl, ap₂ bit_or at_loop.loop.invariant.2 (power_shifted (get_or path at_loop.loop.k 0) (low c.before)) ∙ sym (mask_more path at_loop.loop.k))
 
 returns : tie.Need-returns invariant-loop decreases-loop
 returns c =
     let past : c.before.loop.k ≡ length c.before.before.args.path.now = omega arith in
-    c.before.loop.invariant.2 ∙ ap (path-mask c.before.before.args.path.now) past
+    c.before.loop.invariant.2 ∙ ap (path_mask c.before.before.args.path.now) past
 
-pub path-mask-spec : {M : Type 1} → statement M
-path-mask-spec =
+pub path_mask_spec : {M : Type 1} → statement M
+path_mask_spec =
     tie.close
     (tie.spec
     invariant-loop

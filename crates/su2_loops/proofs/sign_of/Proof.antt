@@ -1,8 +1,8 @@
 use mathlib.Core.Logic.{⊎_elim}
 use mathlib.Core.Path.{refl}
 use mir.Facts.{sfits_lit}
-use Rattle.su2_loops.specs.Parity.{parity-sign}
-use Rattle.su2_loops.proofs.Parity.{remainder_is, sign-told}
+use Rattle.su2_loops.specs.Parity.{parity_sign}
+use Rattle.su2_loops.proofs.Parity.{remainder_is, sign_told}
 use borrow.Author.Rules.{rules}
 use Rattle.su2_loops.proofs.sign_of.Statement.{statement}
 use Rattle.su2_loops.proofs.sign_of.Tie as tie
@@ -21,10 +21,10 @@ int-to-float-result : tie.Need-int-to-float-result
 int-to-float-result c = search rules
 
 returns : tie.Need-returns
-unfolding parity-sign
+unfolding parity_sign
 returns c =
     let n = c.before.args.count in
-    sign-told n _ (⊎_elim (λ h. rw h refl) (λ h. rw h refl) (remainder_is n))
+    sign_told n _ (⊎_elim (λ h. rw h refl) (λ h. rw h refl) (remainder_is n))
 
-pub sign-of-spec : {M : Type 1} → statement M
-sign-of-spec = tie.close (tie.spec cast-remainder mul-result sub-result int-to-float-result returns)
+pub sign_of_spec : {M : Type 1} → statement M
+sign_of_spec = tie.close (tie.spec cast-remainder mul-result sub-result int-to-float-result returns)

@@ -5,7 +5,7 @@ use native.Mathlib.Omega.{arith}
 use lib.Bits.{bit_xor}
 use lib.ListN.{length, take, length-set}
 use lib.Seq.{paste, paste-zero}
-use Rattle.su2_masks.proofs.Doubling.{turned_more, turned-all}
+use Rattle.su2_masks.proofs.Doubling.{turned_more, turned_all}
 use borrow.Author.Rules.{rules}
 use Rattle.su2_masks.proofs.double.Statement.{statement}
 use Rattle.su2_masks.proofs.double.Tie as tie
@@ -42,9 +42,9 @@ loop-less c = search rules
 
 loop-again : tie.Need-loop-preserved invariant-loop decreases-loop
 loop-again c =
-    let at-loop = c.before.before in
-    let s = at-loop.before in
-    (omega arith, simp length-set at-loop.loop.invariant.1, rw at-loop.loop.invariant.2 (turned_more s.args.states.now s.args.count s.args.cycle s.requires.1 at-loop.loop.i (omega arith)))
+    let at_loop = c.before.before in
+    let s = at_loop.before in
+    (omega arith, simp length-set at_loop.loop.invariant.1, rw at_loop.loop.invariant.2 (turned_more s.args.states.now s.args.count s.args.cycle s.requires.1 at_loop.loop.i (omega arith)))
 
 same_length : tie.Need-same-length invariant-loop decreases-loop
 same_length c = search rules
@@ -53,10 +53,10 @@ returns : tie.Need-returns invariant-loop decreases-loop
 returns c =
     let s = c.before.before in
     let past : c.before.loop.i ≡ s.args.count = omega arith in
-    (rw past at c.before.loop.invariant.2) ∙ turned-all s.args.states.now s.args.count s.args.cycle s.requires.1
+    (rw past at c.before.loop.invariant.2) ∙ turned_all s.args.states.now s.args.count s.args.cycle s.requires.1
 
-pub double-spec : {M : Type 1} → statement M
-double-spec =
+pub double_spec : {M : Type 1} → statement M
+double_spec =
     tie.close
     (tie.spec
     invariant-loop

@@ -7,14 +7,14 @@ use native.Mathlib.Omega.{arith}
 use lib.ListN.{length, drop, set, length-set}
 use lib.Pow.{pow_pos, pow_mono}
 use lib.Seq.{drop-set-lt}
-use Rattle.su2_even_sets.specs.Loops.{loop-sums}
-use Rattle.su2_masks.proofs.Doubling.{masks-none, masks-more}
+use Rattle.su2_even_sets.specs.Loops.{loop_sums}
+use Rattle.su2_masks.proofs.Doubling.{masks_none, masks_more}
 use borrow.Author.Rules.{rules}
 use Rattle.su2_masks.proofs.write_masks.Statement.{statement}
 use Rattle.su2_masks.proofs.write_masks.Tie as tie
 
 abbrev invariant-loop : tie.invariant-loop
-invariant-loop states₀ loops n count₀ j₀ states count j = (j ≤ n) × (count ≡ 2 ^ j) × (length states ≡ length states₀) × (states ≡ loop-sums loops j ++ drop (2 ^ j) states₀)
+invariant-loop states₀ loops n count₀ j₀ states count j = (j ≤ n) × (count ≡ 2 ^ j) × (length states ≡ length states₀) × (states ≡ loop_sums loops j ++ drop (2 ^ j) states₀)
 
 abbrev decreases-loop : tie.decreases-loop
 decreases-loop states₀ loops n count₀ j₀ states count j = n - j
@@ -23,7 +23,7 @@ slice-write-states : tie.Need-slice-write-states invariant-loop decreases-loop
 slice-write-states c = omega (arith, c.before.requires.2, pow_pos c.before.args.n)
 
 loop-holds : tie.Need-loop-init invariant-loop decreases-loop
-loop-holds c = (omega arith, refl, refl, masks-none c.before.args.loops.now c.before.args.states.now (omega (arith, c.before.requires.2, pow_pos c.before.args.n)))
+loop-holds c = (omega arith, refl, refl, masks_none c.before.args.loops.now c.before.args.states.now (omega (arith, c.before.requires.2, pow_pos c.before.args.n)))
 
 abbrev Turn : Type 0
 Turn = tie.In-loop invariant-loop decreases-loop
@@ -66,7 +66,7 @@ loop-again c =
     let old = set start.args.states.now 0 0 in
     let j = turn.before.loop.j in
     let made = rw (turn.before.loop.invariant.1, turn.before.loop.invariant.3) at c.before.before.double.ensures in
-    (omega arith, twice turn, c.before.before.double.auto.0 ∙ turn.before.loop.invariant.2, made ∙ masks-more start.args.loops.now old j (rw length-set (room turn).0))
+    (omega arith, twice turn, c.before.before.double.auto.0 ∙ turn.before.loop.invariant.2, made ∙ masks_more start.args.loops.now old j (rw length-set (room turn).0))
 
 same_length : tie.Need-same-length invariant-loop decreases-loop
 same_length c = c.before.loop.invariant.2 ∙ length-set c.before.before.before.args.states.now 0 0
@@ -75,10 +75,10 @@ returns : tie.Need-returns invariant-loop decreases-loop
 returns c =
     let start = c.before.before.before in
     let past : c.before.loop.j ≡ start.args.n = omega arith in
-    (rw past at c.before.loop.invariant.3) ∙ ap (λ l. loop-sums start.args.loops.now start.args.n ++ l) (drop-set-lt (2 ^ start.args.n) start.args.states.now 0 0 (pow_pos start.args.n))
+    (rw past at c.before.loop.invariant.3) ∙ ap (λ l. loop_sums start.args.loops.now start.args.n ++ l) (drop-set-lt (2 ^ start.args.n) start.args.states.now 0 0 (pow_pos start.args.n))
 
-pub write-masks-spec : {M : Type 1} → statement M
-write-masks-spec =
+pub write_masks_spec : {M : Type 1} → statement M
+write_masks_spec =
     tie.close
     (tie.spec
     invariant-loop

@@ -4,14 +4,14 @@ use native.Mathlib.Omega.{arith}
 use lib.Bits.{bit_xor}
 use lib.Ieee.{binary64, nan, add}
 use lib.ListN.{length, get_or, length-set}
-use Rattle.su2_products.specs.Product.{flip-part}
-use Rattle.su2_products.proofs.Blocks.{part_filled, none_filled, not-filled, one-filled, all-filled}
+use Rattle.su2_products.specs.Product.{flip_part}
+use Rattle.su2_products.proofs.Blocks.{part_filled, none_filled, not_filled, one_filled, all_filled}
 use borrow.Author.Rules.{rules}
 use Rattle.su2_products.proofs.add_flips.Statement.{statement}
 use Rattle.su2_products.proofs.add_flips.Tie as tie
 
 abbrev invariant-loop : tie.invariant-loop
-invariant-loop block₀ from k term vector i₀ i-end block i = (i ≤ length block₀) × (i-end ≡ length block₀) × (length block ≡ length block₀) × (block ≡ part_filled (λ j. add binary64 (get_or block₀ j nan) (flip-part term vector k (from + j))) block₀ i)
+invariant-loop block₀ from k term vector i₀ i-end block i = (i ≤ length block₀) × (i-end ≡ length block₀) × (length block ≡ length block₀) × (block ≡ part_filled (λ j. add binary64 (get_or block₀ j nan) (flip_part term vector k (from + j))) block₀ i)
 
 abbrev decreases-loop : tie.decreases-loop
 decreases-loop block₀ from k term vector i₀ i-end block i = length block₀ - i
@@ -52,15 +52,15 @@ loop-less c = search rules
 
 loop-again : tie.Need-loop-preserved invariant-loop decreases-loop
 loop-again c =
-    let at-loop = c.before.before.before in
-    let a = at-loop.before.args in
-    let inv = at-loop.loop.invariant in
-    let i = at-loop.loop.i in
+    let at_loop = c.before.before.before in
+    let a = at_loop.before.args in
+    let inv = at_loop.loop.invariant in
+    let i = at_loop.loop.i in
     let room : i < length a.block.now = omega arith in (
       omega arith,
       refl,
       rw length-set inv.2,
-      one-filled _ _ _ i _ room inv.3 (ap (λ x. add binary64 x (flip-part a.term a.vector.now a.k (a.from + i))) (not-filled _ _ _ i room inv.3)),
+      one_filled _ _ _ i _ room inv.3 (ap (λ x. add binary64 x (flip_part a.term a.vector.now a.k (a.from + i))) (not_filled _ _ _ i room inv.3)),
     )
 
 same_length : tie.Need-same-length invariant-loop decreases-loop
@@ -68,13 +68,13 @@ same_length c = search rules
 
 returns : tie.Need-returns invariant-loop decreases-loop
 returns c =
-    let at-loop = c.before in
-    let inv = at-loop.loop.invariant in
-    let past : length at-loop.before.args.block.now ≤ at-loop.loop.i = omega arith in
-    all-filled _ _ _ _ past inv.3
+    let at_loop = c.before in
+    let inv = at_loop.loop.invariant in
+    let past : length at_loop.before.args.block.now ≤ at_loop.loop.i = omega arith in
+    all_filled _ _ _ _ past inv.3
 
-pub add-flips-spec : {M : Type 1} → statement M
-add-flips-spec =
+pub add_flips_spec : {M : Type 1} → statement M
+add_flips_spec =
     tie.close
     (tie.spec
     invariant-loop

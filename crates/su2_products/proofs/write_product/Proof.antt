@@ -1,7 +1,7 @@
 use mathlib.Core.Path.{refl}
 use native.Mathlib.Omega.{arith}
-use Rattle.triangles.proofs.SidesFound.{triangles-long}
-use Rattle.su2_products.proofs.Sums.{few-states, block-fits, product-written}
+use Rattle.triangles.proofs.SidesFound.{triangles_long}
+use Rattle.su2_products.proofs.Sums.{few_states, block_fits, product_written}
 use borrow.Author.Rules.{rules}
 use Rattle.su2_products.proofs.write_product.Statement.{statement}
 use Rattle.su2_products.proofs.write_product.Tie as tie
@@ -12,8 +12,8 @@ slice-aggregate-write-tables c = search rules
 slice-aggregate-write-tables-2 : tie.Need-slice-aggregate-write-tables-2
 slice-aggregate-write-tables-2 c = search rules
 
-write-tables-requires : tie.Need-write-tables-requires
-write-tables-requires c κs = search rules
+write_tables-requires : tie.Need-write_tables-requires
+write_tables-requires c κs = search rules
 
 slice-aggregate-write-blocks : tie.Need-slice-aggregate-write-blocks
 slice-aggregate-write-blocks c = search rules
@@ -21,13 +21,13 @@ slice-aggregate-write-blocks c = search rules
 slice-aggregate-write-blocks-2 : tie.Need-slice-aggregate-write-blocks-2
 slice-aggregate-write-blocks-2 c = search rules
 
-write-blocks-requires : tie.Need-write-blocks-requires
-write-blocks-requires c κs =
+write_blocks-requires : tie.Need-write_blocks-requires
+write_blocks-requires c κs =
     let made = c.before.before.before.before.before in
     let start = made.before.before.before.before.before.before.before in
-    let tables = made.write-tables in (
-      few-states start.requires.0,
-      rw (← (triangles-long start.args.c)) (block-fits start.requires.0 tables.ensures _ start.requires.2.0 start.requires.2.1 (omega (arith, tables.auto.0)) (omega (arith, tables.auto.1.0)) start.args.vector.now refl),
+    let tables = made.write_tables in (
+      few_states start.requires.0,
+      rw (← (triangles_long start.args.c)) (block_fits start.requires.0 tables.ensures _ start.requires.2.0 start.requires.2.1 (omega (arith, tables.auto.0)) (omega (arith, tables.auto.1.0)) start.args.vector.now refl),
       start.requires.0.long,
     )
 
@@ -39,17 +39,17 @@ returns c =
     let written = c.before.before in
     let made = written.before.before.before.before.before.before in
     let start = made.before.before.before.before.before.before.before in
-    product-written start.requires.0 made.write-tables.ensures _ start.requires.2.0 start.requires.2.1 start.args.vector.now _ _ (rw (← (triangles-long start.args.c)) at written.write-blocks.ensures)
+    product_written start.requires.0 made.write_tables.ensures _ start.requires.2.0 start.requires.2.1 start.args.vector.now _ _ (rw (← (triangles_long start.args.c)) at written.write_blocks.ensures)
 
-pub write-product-spec : {M : Type 1} → statement M
-write-product-spec =
+pub write_product_spec : {M : Type 1} → statement M
+write_product_spec =
     tie.close
     (tie.spec
     slice-aggregate-write-tables
     slice-aggregate-write-tables-2
-    write-tables-requires
+    write_tables-requires
     slice-aggregate-write-blocks
     slice-aggregate-write-blocks-2
-    write-blocks-requires
+    write_blocks-requires
     same_length
     returns)

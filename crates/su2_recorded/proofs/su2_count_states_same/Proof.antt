@@ -1,22 +1,22 @@
-use Rattle.recorded.proofs.Agreeing.{told-as}
-use Rattle.su2_recorded.specs.Agreement.{su2-counted-agrees}
+use Rattle.recorded.proofs.Agreeing.{told_as}
+use Rattle.su2_recorded.specs.Agreement.{su2_counted_agrees}
 use borrow.Author.Rules.{rules}
 use Rattle.su2_recorded.proofs.su2_count_states_same.Statement.{statement}
 use Rattle.su2_recorded.proofs.su2_count_states_same.Tie as tie
 
-export-su2-count-states-requires : tie.Need-export-su2-count-states-requires
-export-su2-count-states-requires c κs = search rules
+export_su2_count_states-requires : tie.Need-export_su2_count_states-requires
+export_su2_count_states-requires c κs = search rules
 
-same-number-requires : tie.Need-same-number-requires
-same-number-requires c κs = search rules
+same_number-requires : tie.Need-same_number-requires
+same_number-requires c κs = search rules
 
 returns : tie.Need-returns
-unfolding su2-counted-agrees
+unfolding su2_counted_agrees
 returns c =
     let answered = c.before in
     let start = answered.before.before in
-    told-as answered.export-su2-count-states.ensures answered.export-su2-count-states.type-inv start.ranges.told c.same_number.ensures
+    told_as answered.export_su2_count_states.ensures answered.export_su2_count_states.type-inv start.ranges.told c.same_number.ensures
 
-pub su2-count-states-same-spec : {M : Type 1} → statement M
-su2-count-states-same-spec =
-    tie.close (tie.spec export-su2-count-states-requires same-number-requires returns)
+pub su2_count_states_same_spec : {M : Type 1} → statement M
+su2_count_states_same_spec =
+    tie.close (tie.spec export_su2_count_states-requires same_number-requires returns)

@@ -1,5 +1,5 @@
-use Rattle.recorded.proofs.Agreeing.{agrees-as}
-use Rattle.su2_recorded.specs.Agreement.{su2-loop-agrees}
+use Rattle.recorded.proofs.Agreeing.{agrees_as}
+use Rattle.su2_recorded.specs.Agreement.{su2_loop_agrees}
 use borrow.Author.Rules.{rules}
 use Rattle.su2_recorded.proofs.su2_wilson_loop_same.Statement.{statement}
 use Rattle.su2_recorded.proofs.su2_wilson_loop_same.Tie as tie
@@ -7,39 +7,39 @@ use Rattle.su2_recorded.proofs.su2_wilson_loop_same.Tie as tie
 slice-aggregate-export-su2-wilson-loop : tie.Need-slice-aggregate-export-su2-wilson-loop
 slice-aggregate-export-su2-wilson-loop c = search rules
 
-export-su2-wilson-loop-requires : tie.Need-export-su2-wilson-loop-requires
-export-su2-wilson-loop-requires c κs = search rules
+export_su2_wilson_loop-requires : tie.Need-export_su2_wilson_loop-requires
+export_su2_wilson_loop-requires c κs = search rules
 
-same-number-requires : tie.Need-same-number-requires
-same-number-requires c κs = search rules
+same_number-requires : tie.Need-same_number-requires
+same_number-requires c κs = search rules
 
 slice-aggregate-same-u64s : tie.Need-slice-aggregate-same-u64s
 slice-aggregate-same-u64s c = search rules
 
-same-u64s-requires : tie.Need-same-u64s-requires
-same-u64s-requires c κs = search rules
+same_u64s-requires : tie.Need-same_u64s-requires
+same_u64s-requires c κs = search rules
 
-same-float-requires : tie.Need-same-float-requires
-same-float-requires c κs = search rules
+same_float-requires : tie.Need-same_float-requires
+same_float-requires c κs = search rules
 
 returns : tie.Need-returns
-unfolding su2-loop-agrees
+unfolding su2_loop_agrees
 returns c =
     let masked = c.before in
     let numbered = masked.before.before in
     let answered = numbered.before.before in
     let start = answered.before.before.before.before.before.before.before.before in
-    agrees-as answered.export-su2-wilson-loop.ensures answered.export-su2-wilson-loop.type-inv start.ranges.told _ numbered.same_number.ensures
-    (rw (masked.same-u64s.ensures, c.same_float.ensures))
+    agrees_as answered.export_su2_wilson_loop.ensures answered.export_su2_wilson_loop.type-inv start.ranges.told _ numbered.same_number.ensures
+    (rw (masked.same_u64s.ensures, c.same_float.ensures))
 
-pub su2-wilson-loop-same-spec : {M : Type 1} → statement M
-su2-wilson-loop-same-spec =
+pub su2_wilson_loop_same_spec : {M : Type 1} → statement M
+su2_wilson_loop_same_spec =
     tie.close
     (tie.spec
     slice-aggregate-export-su2-wilson-loop
-    export-su2-wilson-loop-requires
-    same-number-requires
+    export_su2_wilson_loop-requires
+    same_number-requires
     slice-aggregate-same-u64s
-    same-u64s-requires
-    same-float-requires
+    same_u64s-requires
+    same_float-requires
     returns)

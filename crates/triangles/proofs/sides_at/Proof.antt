@@ -39,8 +39,8 @@ byte-requires-3 c κs = search rules
 returns : tie.Need-returns
 returns c = three _ _ _ _ _ c.before.before.before.before.byte.ensures c.before.before.byte2.ensures c.byte3.ensures
 
-pub sides-at-spec : {M : Type 1} → statement M
-sides-at-spec =
+pub sides_at_spec : {M : Type 1} → statement M
+sides_at_spec =
     tie.close
     (tie.spec
     mul-byte

@@ -2,7 +2,7 @@ use Prim.Native.Nat.{◌*◌}
 use mathlib.Core.List.{[], ◌∷◌}
 use mathlib.Core.Path.{◌≡◌}
 use Rattle.complex.specs.Complex.{entries}
-use Rattle.triangles.specs.Indices.{Sided, sidesIn}
+use Rattle.triangles.specs.Indices.{Sided, sides_in}
 use Rattle.complex.proofs.Triangles.{three}
 use borrow.Author.Rules.{rules}
 use Rattle.triangles.proofs.sides_of.Statement.{statement}
@@ -59,31 +59,31 @@ byte-requires-3 c κs = search rules
 abbrev to_start : tie.After-byte3 → tie.Start
 to_start c = c.before.before.before.before.before.before
 
-is-three : (c : tie.After-byte3) → entries (to_start c).args.triangles.now (3 * (to_start c).args.t) 3 ≡ c.before.before.before.before.byte.result ∷ c.before.before.byte2.result ∷ c.byte3.result ∷ []
-is-three c = three _ _ _ _ _ c.before.before.before.before.byte.ensures c.before.before.byte2.ensures c.byte3.ensures
+is_three : (c : tie.After-byte3) → entries (to_start c).args.triangles.now (3 * (to_start c).args.t) 3 ≡ c.before.before.before.before.byte.result ∷ c.before.before.byte2.result ∷ c.byte3.result ∷ []
+is_three c = three _ _ _ _ _ c.before.before.before.before.byte.ensures c.before.before.byte2.ensures c.byte3.ensures
 
 sided : (c : tie.After-byte3) → Sided (to_start c).args.table.now (c.before.before.before.before.byte.result ∷ c.before.before.byte2.result ∷ c.byte3.result ∷ [])
-sided c = rw (is-three c) at (to_start c).requires.1
+sided c = rw (is_three c) at (to_start c).requires.1
 
 -- src/triangle.rt:27:16
-edge-number-requires : tie.Need-edge-number-requires
-edge-number-requires c κs = ((sided c).a_small, (sided c).b-small)
+edge_number-requires : tie.Need-edge_number-requires
+edge_number-requires c κs = ((sided c).a_small, (sided c).b_small)
 
 -- src/triangle.rt:27:16
 sub-t11 : tie.Need-overflow-sub-t11
-sub-t11 c = rw c.edge-number.ensures (sided c.before).ab
+sub-t11 c = rw c.edge_number.ensures (sided c.before).ab
 
 -- src/triangle.rt:28:17
-edge-number-requires-2 : tie.Need-edge-number-requires-2
-edge-number-requires-2 c κs = ((sided c.before).a_small, (sided c.before).c-small)
+edge_number-requires-2 : tie.Need-edge_number-requires-2
+edge_number-requires-2 c κs = ((sided c.before).a_small, (sided c.before).c_small)
 
 -- src/triangle.rt:28:17
 sub-t17 : tie.Need-overflow-sub-t17
 sub-t17 c = rw c.edge-number2.ensures (sided c.before.before).ac
 
 -- src/triangle.rt:29:16
-edge-number-requires-3 : tie.Need-edge-number-requires-3
-edge-number-requires-3 c κs = ((sided c.before.before).b-small, (sided c.before.before).c-small)
+edge_number-requires-3 : tie.Need-edge_number-requires-3
+edge_number-requires-3 c κs = ((sided c.before.before).b_small, (sided c.before.before).c_small)
 
 -- src/triangle.rt:29:16
 sub-t19 : tie.Need-overflow-sub-t19
@@ -91,11 +91,11 @@ sub-t19 c = rw c.edge-number3.ensures (sided c.before.before.before).bc
 
 -- src/triangle.rt:19:1
 returns : tie.Need-returns
-unfolding sidesIn
-returns c = rw (c.before.before.edge-number.ensures, c.before.edge-number2.ensures, c.edge-number3.ensures, is-three c.before.before.before)
+unfolding sides_in
+returns c = rw (c.before.before.edge_number.ensures, c.before.edge-number2.ensures, c.edge-number3.ensures, is_three c.before.before.before)
 
-pub sides-of-spec : {M : Type 1} → statement M
-sides-of-spec =
+pub sides_of_spec : {M : Type 1} → statement M
+sides_of_spec =
     tie.close
     (tie.spec
     mul-byte
@@ -109,10 +109,10 @@ sides-of-spec =
     add-byte-2
     element-copy-out-byte-3
     byte-requires-3
-    edge-number-requires
+    edge_number-requires
     sub-t11
-    edge-number-requires-2
+    edge_number-requires-2
     sub-t17
-    edge-number-requires-3
+    edge_number-requires-3
     sub-t19
     returns)

@@ -1,9 +1,9 @@
 use mathlib.Core.Path.{◌∙◌}
 use Rattle.mathematics.proofs.Signed.{back32, back64}
-use Rattle.shifts.specs.Shift.{shift-call}
-use Rattle.exports.proofs.Signs.{signed-told}
-use Rattle.exports.proofs.OnSheets.{sheet-refuses, sheet-answers, small-answer}
-use Rattle.u1_exports.proofs.Places.{place-small}
+use Rattle.shifts.specs.Shift.{shift_call}
+use Rattle.exports.proofs.Signs.{signed_told}
+use Rattle.exports.proofs.OnSheets.{sheet_refuses, sheet_answers, small_answer}
+use Rattle.u1_exports.proofs.Places.{place_small}
 use borrow.Author.Rules.{rules}
 use Rattle.u1_exports.proofs.export_apply_shift.Statement.{statement}
 use Rattle.u1_exports.proofs.export_apply_shift.Tie as tie
@@ -15,18 +15,18 @@ refused-requires : tie.Need-refused-requires
 refused-requires c κs = search rules
 
 returns : tie.Need-returns
-unfolding shift-call
-returns c = sheet-refuses c.before.before.open.ensures _ c.before.if1.true _ (back64 _ c.refused.type-inv ∙ c.refused.ensures)
+unfolding shift_call
+returns c = sheet_refuses c.before.before.open.ensures _ c.before.if1.true _ (back64 _ c.refused.type-inv ∙ c.refused.ensures)
 
-apply-shift-requires : tie.Need-apply-shift-requires
-apply-shift-requires c κs = search rules
+apply_shift-requires : tie.Need-apply_shift-requires
+apply_shift-requires c κs = search rules
 
-told-index-requires : tie.Need-told-index-requires
-told-index-requires c κs = search rules
+told_index-requires : tie.Need-told_index-requires
+told_index-requires c κs = search rules
 
 signed-requires : tie.Need-signed-requires
-unfolding shift-call
-signed-requires c κs = small-answer c.before.before.before.apply-shift.ensures.told place-small c.told-index.ensures
+unfolding shift_call
+signed-requires c κs = small_answer c.before.before.before.apply_shift.ensures.told place_small c.told_index.ensures
 
 same_length : tie.Need-same-length
 same_length c = search rules
@@ -39,18 +39,18 @@ returns-2 c =
     let t = c.before.before.before.before in
     let e = t.before.before.before.before in
     let start = e.before.before.before in
-    let told = rw (back32 start.args.delta start.ranges.delta.sfits) at t.apply-shift.ensures.told in
-    sheet-answers e.before.open.ensures _ e.if1.false told (back64 _ c.signed.type-inv ∙ c.signed.ensures ∙ signed-told _ c.before.told-index.ensures)
+    let told = rw (back32 start.args.delta start.ranges.delta.sfits) at t.apply_shift.ensures.told in
+    sheet_answers e.before.open.ensures _ e.if1.false told (back64 _ c.signed.type-inv ∙ c.signed.ensures ∙ signed_told _ c.before.told_index.ensures)
 
-pub export-apply-shift-spec : {M : Type 1} → statement M
-export-apply-shift-spec =
+pub export_apply_shift_spec : {M : Type 1} → statement M
+export_apply_shift_spec =
     tie.close
     (tie.spec
     open-requires
     refused-requires
     returns
-    apply-shift-requires
-    told-index-requires
+    apply_shift-requires
+    told_index-requires
     signed-requires
     same_length
     same-length-2

@@ -1,9 +1,9 @@
 use mathlib.Core.Path.{◌∙◌}
 use Rattle.mathematics.proofs.Signed.{back64}
-use Rattle.csr.specs.Csr.{csr-call}
-use Rattle.exports.proofs.Signs.{signed-told}
-use Rattle.exports.proofs.OnSheets.{sheet-refuses, sheet-answers, small-answer, read-accepted}
-use Rattle.u1_exports.proofs.Entries.{rows-small}
+use Rattle.csr.specs.Csr.{csr_call}
+use Rattle.exports.proofs.Signs.{signed_told}
+use Rattle.exports.proofs.OnSheets.{sheet_refuses, sheet_answers, small_answer, read_accepted}
+use Rattle.u1_exports.proofs.Entries.{rows_small}
 use borrow.Author.Rules.{rules}
 use Rattle.u1_exports.proofs.export_build_csr.Statement.{statement}
 use Rattle.u1_exports.proofs.export_build_csr.Tie as tie
@@ -15,21 +15,21 @@ refused-requires : tie.Need-refused-requires
 refused-requires c κs = search rules
 
 returns : tie.Need-returns
-unfolding csr-call
-returns c = sheet-refuses c.before.before.open.ensures _ c.before.if1.true _ (back64 _ c.refused.type-inv ∙ c.refused.ensures)
+unfolding csr_call
+returns c = sheet_refuses c.before.before.open.ensures _ c.before.if1.true _ (back64 _ c.refused.type-inv ∙ c.refused.ensures)
 
-build-csr-requires : tie.Need-build-csr-requires
-build-csr-requires c κs = search rules
+build_csr-requires : tie.Need-build_csr-requires
+build_csr-requires c κs = search rules
 
-told-number-requires : tie.Need-told-number-requires
-told-number-requires c κs = search rules
+told_number-requires : tie.Need-told_number-requires
+told_number-requires c κs = search rules
 
 signed-requires : tie.Need-signed-requires
-unfolding csr-call
+unfolding csr_call
 signed-requires c κs =
     let t = c.before.before.before.before.before.before.before.before in
     let e = t.before.before.before.before.before.before in
-    small-answer t.build-csr.ensures (rows-small _ (read-accepted e.before.open.ensures e.if1.false) _ _ _) c.told-number.ensures
+    small_answer t.build_csr.ensures (rows_small _ (read_accepted e.before.open.ensures e.if1.false) _ _ _) c.told_number.ensures
 
 same_length : tie.Need-same-length
 same_length c = search rules
@@ -47,17 +47,17 @@ returns-2 : tie.Need-returns-2
 returns-2 c =
     let t = c.before.before.before.before.before.before.before.before.before in
     let e = t.before.before.before.before.before.before in
-    sheet-answers e.before.open.ensures _ e.if1.false t.build-csr.ensures (back64 _ c.signed.type-inv ∙ c.signed.ensures ∙ signed-told _ c.before.told-number.ensures)
+    sheet_answers e.before.open.ensures _ e.if1.false t.build_csr.ensures (back64 _ c.signed.type-inv ∙ c.signed.ensures ∙ signed_told _ c.before.told_number.ensures)
 
-pub export-build-csr-spec : {M : Type 1} → statement M
-export-build-csr-spec =
+pub export_build_csr_spec : {M : Type 1} → statement M
+export_build_csr_spec =
     tie.close
     (tie.spec
     open-requires
     refused-requires
     returns
-    build-csr-requires
-    told-number-requires
+    build_csr-requires
+    told_number-requires
     signed-requires
     same_length
     same-length-2

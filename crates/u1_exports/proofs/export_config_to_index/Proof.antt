@@ -1,9 +1,9 @@
 use mathlib.Core.Path.{◌∙◌}
 use Rattle.mathematics.proofs.Signed.{back64}
-use Rattle.hilbert.specs.Index.{index-call}
-use Rattle.exports.proofs.Signs.{signed-told}
-use Rattle.exports.proofs.OnSheets.{sheet-refuses, sheet-answers, small-answer}
-use Rattle.u1_exports.proofs.Places.{place-small}
+use Rattle.hilbert.specs.Index.{index_call}
+use Rattle.exports.proofs.Signs.{signed_told}
+use Rattle.exports.proofs.OnSheets.{sheet_refuses, sheet_answers, small_answer}
+use Rattle.u1_exports.proofs.Places.{place_small}
 use borrow.Author.Rules.{rules}
 use Rattle.u1_exports.proofs.export_config_to_index.Statement.{statement}
 use Rattle.u1_exports.proofs.export_config_to_index.Tie as tie
@@ -15,18 +15,18 @@ refused-requires : tie.Need-refused-requires
 refused-requires c κs = search rules
 
 returns : tie.Need-returns
-unfolding index-call
-returns c = sheet-refuses c.before.before.open.ensures _ c.before.if1.true _ (back64 _ c.refused.type-inv ∙ c.refused.ensures)
+unfolding index_call
+returns c = sheet_refuses c.before.before.open.ensures _ c.before.if1.true _ (back64 _ c.refused.type-inv ∙ c.refused.ensures)
 
-config-to-index-requires : tie.Need-config-to-index-requires
-config-to-index-requires c κs = search rules
+config_to_index-requires : tie.Need-config_to_index-requires
+config_to_index-requires c κs = search rules
 
-told-index-requires : tie.Need-told-index-requires
-told-index-requires c κs = search rules
+told_index-requires : tie.Need-told_index-requires
+told_index-requires c κs = search rules
 
 signed-requires : tie.Need-signed-requires
-unfolding index-call
-signed-requires c κs = small-answer c.before.before.config-to-index.ensures.told place-small c.told-index.ensures
+unfolding index_call
+signed-requires c κs = small_answer c.before.before.config_to_index.ensures.told place_small c.told_index.ensures
 
 same_length : tie.Need-same-length
 same_length c = search rules
@@ -35,17 +35,17 @@ returns-2 : tie.Need-returns-2
 returns-2 c =
     let t = c.before.before.before in
     let e = t.before.before.before in
-    sheet-answers e.before.open.ensures _ e.if1.false t.config-to-index.ensures.told (back64 _ c.signed.type-inv ∙ c.signed.ensures ∙ signed-told _ c.before.told-index.ensures)
+    sheet_answers e.before.open.ensures _ e.if1.false t.config_to_index.ensures.told (back64 _ c.signed.type-inv ∙ c.signed.ensures ∙ signed_told _ c.before.told_index.ensures)
 
-pub export-config-to-index-spec : {M : Type 1} → statement M
-export-config-to-index-spec =
+pub export_config_to_index_spec : {M : Type 1} → statement M
+export_config_to_index_spec =
     tie.close
     (tie.spec
     open-requires
     refused-requires
     returns
-    config-to-index-requires
-    told-index-requires
+    config_to_index-requires
+    told_index-requires
     signed-requires
     same_length
     returns-2)

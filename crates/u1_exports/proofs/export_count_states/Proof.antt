@@ -1,8 +1,8 @@
 use mathlib.Core.Path.{refl, ◌∙◌}
 use Rattle.mathematics.proofs.Signed.{back64}
-use Rattle.enumeration.specs.Enumeration.{counted-call}
-use Rattle.exports.proofs.Signs.{signed-told}
-use Rattle.exports.proofs.OnSheets.{sheet-refuses, sheet-answers, small-answer, few-small}
+use Rattle.enumeration.specs.Enumeration.{counted_call}
+use Rattle.exports.proofs.Signs.{signed_told}
+use Rattle.exports.proofs.OnSheets.{sheet_refuses, sheet_answers, small_answer, few_small}
 use borrow.Author.Rules.{rules}
 use Rattle.u1_exports.proofs.export_count_states.Statement.{statement}
 use Rattle.u1_exports.proofs.export_count_states.Tie as tie
@@ -14,33 +14,33 @@ refused-requires : tie.Need-refused-requires
 refused-requires c κs = search rules
 
 returns : tie.Need-returns
-unfolding counted-call
-returns c = sheet-refuses c.before.before.open.ensures _ c.before.if1.true _ (back64 _ c.refused.type-inv ∙ c.refused.ensures)
+unfolding counted_call
+returns c = sheet_refuses c.before.before.open.ensures _ c.before.if1.true _ (back64 _ c.refused.type-inv ∙ c.refused.ensures)
 
-count-states-requires : tie.Need-count-states-requires
-count-states-requires c κs = search rules
+count_states-requires : tie.Need-count_states-requires
+count_states-requires c κs = search rules
 
-told-number-requires : tie.Need-told-number-requires
-told-number-requires c κs = search rules
+told_number-requires : tie.Need-told_number-requires
+told_number-requires c κs = search rules
 
 signed-requires : tie.Need-signed-requires
-unfolding counted-call
-signed-requires c κs = small-answer c.before.count-states.ensures (λ k. few-small k.few refl) c.told-number.ensures
+unfolding counted_call
+signed-requires c κs = small_answer c.before.count_states.ensures (λ k. few_small k.few refl) c.told_number.ensures
 
 returns-2 : tie.Need-returns-2
 returns-2 c =
     let t = c.before.before in
     let e = t.before.before in
-    sheet-answers e.before.open.ensures _ e.if1.false t.count-states.ensures (back64 _ c.signed.type-inv ∙ c.signed.ensures ∙ signed-told _ c.before.told-number.ensures)
+    sheet_answers e.before.open.ensures _ e.if1.false t.count_states.ensures (back64 _ c.signed.type-inv ∙ c.signed.ensures ∙ signed_told _ c.before.told_number.ensures)
 
-pub export-count-states-spec : {M : Type 1} → statement M
-export-count-states-spec =
+pub export_count_states_spec : {M : Type 1} → statement M
+export_count_states_spec =
     tie.close
     (tie.spec
     open-requires
     refused-requires
     returns
-    count-states-requires
-    told-number-requires
+    count_states-requires
+    told_number-requires
     signed-requires
     returns-2)

@@ -1,8 +1,8 @@
 use mathlib.Core.Path.{refl, ◌∙◌}
 use Rattle.mathematics.proofs.Signed.{back64}
-use Rattle.electric.specs.Electric.{electric-call}
-use Rattle.exports.proofs.Signs.{signed-told}
-use Rattle.exports.proofs.OnSheets.{sheet-refuses, sheet-answers, small-answer, few-small}
+use Rattle.electric.specs.Electric.{electric_call}
+use Rattle.exports.proofs.Signs.{signed_told}
+use Rattle.exports.proofs.OnSheets.{sheet_refuses, sheet_answers, small_answer, few_small}
 use borrow.Author.Rules.{rules}
 use Rattle.u1_exports.proofs.export_electric_field_sq.Statement.{statement}
 use Rattle.u1_exports.proofs.export_electric_field_sq.Tie as tie
@@ -14,18 +14,18 @@ refused-requires : tie.Need-refused-requires
 refused-requires c κs = search rules
 
 returns : tie.Need-returns
-unfolding electric-call
-returns c = sheet-refuses c.before.before.open.ensures _ c.before.if1.true _ (back64 _ c.refused.type-inv ∙ c.refused.ensures)
+unfolding electric_call
+returns c = sheet_refuses c.before.before.open.ensures _ c.before.if1.true _ (back64 _ c.refused.type-inv ∙ c.refused.ensures)
 
-electric-field-sq-requires : tie.Need-electric-field-sq-requires
-electric-field-sq-requires c κs = search rules
+electric_field_sq-requires : tie.Need-electric_field_sq-requires
+electric_field_sq-requires c κs = search rules
 
-told-number-requires : tie.Need-told-number-requires
-told-number-requires c κs = search rules
+told_number-requires : tie.Need-told_number-requires
+told_number-requires c κs = search rules
 
 signed-requires : tie.Need-signed-requires
-unfolding electric-call
-signed-requires c κs = small-answer c.before.before.before.before.electric-field-sq.ensures (λ k. few-small k refl) c.told-number.ensures
+unfolding electric_call
+signed-requires c κs = small_answer c.before.before.before.before.electric_field_sq.ensures (λ k. few_small k refl) c.told_number.ensures
 
 same_length : tie.Need-same-length
 same_length c = search rules
@@ -37,17 +37,17 @@ returns-2 : tie.Need-returns-2
 returns-2 c =
     let t = c.before.before.before.before.before in
     let e = t.before.before.before.before in
-    sheet-answers e.before.open.ensures _ e.if1.false t.electric-field-sq.ensures (back64 _ c.signed.type-inv ∙ c.signed.ensures ∙ signed-told _ c.before.told-number.ensures)
+    sheet_answers e.before.open.ensures _ e.if1.false t.electric_field_sq.ensures (back64 _ c.signed.type-inv ∙ c.signed.ensures ∙ signed_told _ c.before.told_number.ensures)
 
-pub export-electric-field-sq-spec : {M : Type 1} → statement M
-export-electric-field-sq-spec =
+pub export_electric_field_sq_spec : {M : Type 1} → statement M
+export_electric_field_sq_spec =
     tie.close
     (tie.spec
     open-requires
     refused-requires
     returns
-    electric-field-sq-requires
-    told-number-requires
+    electric_field_sq-requires
+    told_number-requires
     signed-requires
     same_length
     same-length-2

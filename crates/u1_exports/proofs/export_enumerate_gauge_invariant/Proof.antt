@@ -1,8 +1,8 @@
 use mathlib.Core.Path.{refl, ◌∙◌}
 use Rattle.mathematics.proofs.Signed.{back64}
-use Rattle.enumeration.specs.Enumeration.{enumerated-call}
-use Rattle.exports.proofs.Signs.{signed-told}
-use Rattle.exports.proofs.OnSheets.{sheet-refuses, sheet-answers, small-answer, few-small}
+use Rattle.enumeration.specs.Enumeration.{enumerated_call}
+use Rattle.exports.proofs.Signs.{signed_told}
+use Rattle.exports.proofs.OnSheets.{sheet_refuses, sheet_answers, small_answer, few_small}
 use borrow.Author.Rules.{rules}
 use Rattle.u1_exports.proofs.export_enumerate_gauge_invariant.Statement.{statement}
 use Rattle.u1_exports.proofs.export_enumerate_gauge_invariant.Tie as tie
@@ -14,18 +14,18 @@ refused-requires : tie.Need-refused-requires
 refused-requires c κs = search rules
 
 returns : tie.Need-returns
-unfolding enumerated-call
-returns c = sheet-refuses c.before.before.open.ensures _ c.before.if1.true _ (back64 _ c.refused.type-inv ∙ c.refused.ensures)
+unfolding enumerated_call
+returns c = sheet_refuses c.before.before.open.ensures _ c.before.if1.true _ (back64 _ c.refused.type-inv ∙ c.refused.ensures)
 
-enumerate-gauge-invariant-requires : tie.Need-enumerate-gauge-invariant-requires
-enumerate-gauge-invariant-requires c κs = search rules
+enumerate_gauge_invariant-requires : tie.Need-enumerate_gauge_invariant-requires
+enumerate_gauge_invariant-requires c κs = search rules
 
-told-number-requires : tie.Need-told-number-requires
-told-number-requires c κs = search rules
+told_number-requires : tie.Need-told_number-requires
+told_number-requires c κs = search rules
 
 signed-requires : tie.Need-signed-requires
-unfolding enumerated-call
-signed-requires c κs = small-answer c.before.before.enumerate-gauge-invariant.ensures.0 (λ k. few-small k.few refl) c.told-number.ensures
+unfolding enumerated_call
+signed-requires c κs = small_answer c.before.before.enumerate_gauge_invariant.ensures.0 (λ k. few_small k.few refl) c.told_number.ensures
 
 same_length : tie.Need-same-length
 same_length c = search rules
@@ -34,17 +34,17 @@ returns-2 : tie.Need-returns-2
 returns-2 c =
     let t = c.before.before.before in
     let e = t.before.before.before in
-    sheet-answers e.before.open.ensures _ e.if1.false t.enumerate-gauge-invariant.ensures.0 (back64 _ c.signed.type-inv ∙ c.signed.ensures ∙ signed-told _ c.before.told-number.ensures)
+    sheet_answers e.before.open.ensures _ e.if1.false t.enumerate_gauge_invariant.ensures.0 (back64 _ c.signed.type-inv ∙ c.signed.ensures ∙ signed_told _ c.before.told_number.ensures)
 
-pub export-enumerate-gauge-invariant-spec : {M : Type 1} → statement M
-export-enumerate-gauge-invariant-spec =
+pub export_enumerate_gauge_invariant_spec : {M : Type 1} → statement M
+export_enumerate_gauge_invariant_spec =
     tie.close
     (tie.spec
     open-requires
     refused-requires
     returns
-    enumerate-gauge-invariant-requires
-    told-number-requires
+    enumerate_gauge_invariant-requires
+    told_number-requires
     signed-requires
     same_length
     returns-2)

@@ -12,5 +12,5 @@ store-requires c κs = search rules
 returns : tie.Need-returns
 returns c = rw (back64 _ c.store.type-inv) (c.store.ensures _ _ c.before.before.u1.ensures)
 
-pub export-u1-params-spec : {M : Type 1} → statement M
-export-u1-params-spec = tie.close (tie.spec u1-requires store-requires returns)
+pub export_u1_params_spec : {M : Type 1} → statement M
+export_u1_params_spec = tie.close (tie.spec u1-requires store-requires returns)

@@ -1,9 +1,9 @@
 use mathlib.Core.Path.{refl, ◌∙◌}
 use Rattle.mathematics.proofs.Signed.{back64}
-use Rattle.wilson.specs.Wilson.{wilson-call}
+use Rattle.wilson.specs.Wilson.{wilson_call}
 use Rattle.exports.specs.Exports.{value_lent}
-use Rattle.exports.proofs.OnSheets.{sheet-refuses, sheet-answers}
-use Rattle.exports.proofs.Answers.{lent-answers}
+use Rattle.exports.proofs.OnSheets.{sheet_refuses, sheet_answers}
+use Rattle.exports.proofs.Answers.{lent_answers}
 use borrow.Author.Rules.{rules}
 use Rattle.u1_exports.proofs.export_wilson_loop.Statement.{statement}
 use Rattle.u1_exports.proofs.export_wilson_loop.Tie as tie
@@ -15,14 +15,14 @@ refused-requires : tie.Need-refused-requires
 refused-requires c κs = search rules
 
 returns : tie.Need-returns
-unfolding wilson-call value_lent
-returns c = sheet-refuses c.before.before.open.ensures _ c.before.if1.true _ (back64 _ c.refused.type-inv ∙ c.refused.ensures)
+unfolding wilson_call value_lent
+returns c = sheet_refuses c.before.before.open.ensures _ c.before.if1.true _ (back64 _ c.refused.type-inv ∙ c.refused.ensures)
 
-wilson-loop-requires : tie.Need-wilson-loop-requires
-wilson-loop-requires c κs = search rules
+wilson_loop-requires : tie.Need-wilson_loop-requires
+wilson_loop-requires c κs = search rules
 
-store-expectation-requires : tie.Need-store-expectation-requires
-store-expectation-requires c κs = search rules
+store_expectation-requires : tie.Need-store_expectation-requires
+store_expectation-requires c κs = search rules
 
 same_length : tie.Need-same-length
 same_length c = search rules
@@ -31,17 +31,17 @@ returns-2 : tie.Need-returns-2
 returns-2 c =
     let t = c.before.before.before in
     let e = t.before.before.before in
-    sheet-answers e.before.open.ensures _ e.if1.false (lent-answers t.wilson-loop.ensures _ c.store-expectation.ensures.1)
-    (back64 _ c.store-expectation.type-inv ∙ c.store-expectation.ensures.0)
+    sheet_answers e.before.open.ensures _ e.if1.false (lent_answers t.wilson_loop.ensures _ c.store_expectation.ensures.1)
+    (back64 _ c.store_expectation.type-inv ∙ c.store_expectation.ensures.0)
 
-pub export-wilson-loop-spec : {M : Type 1} → statement M
-export-wilson-loop-spec =
+pub export_wilson_loop_spec : {M : Type 1} → statement M
+export_wilson_loop_spec =
     tie.close
     (tie.spec
     open-requires
     refused-requires
     returns
-    wilson-loop-requires
-    store-expectation-requires
+    wilson_loop-requires
+    store_expectation-requires
     same_length
     returns-2)

@@ -1,6 +1,6 @@
 use mathlib.Core.Path.{sym, ap}
-use Rattle.hilbert.specs.Index.{indexAnswer}
-use Rattle.exports.specs.Exports.{toldOf}
+use Rattle.hilbert.specs.Index.{index_answer}
+use Rattle.exports.specs.Exports.{outcome_told}
 use borrow.Author.Rules.{rules}
 use Rattle.u1_exports.proofs.told_index.Statement.{statement}
 use Rattle.u1_exports.proofs.told_index.Tie as tie
@@ -15,18 +15,18 @@ enum-known-answer-2 : tie.Need-enum-known-answer-2
 enum-known-answer-2 c = search rules
 
 returns : tie.Need-returns
-unfolding toldOf indexAnswer
-returns c = sym (ap (λ w. toldOf (indexAnswer w)) c.before.answer.given.1)
+unfolding outcome_told index_answer
+returns c = sym (ap (λ w. outcome_told (index_answer w)) c.before.answer.given.1)
 
 returns-2 : tie.Need-returns-2
-unfolding toldOf indexAnswer
-returns-2 c = sym (ap (λ w. toldOf (indexAnswer w)) c.enum_told.given.1)
+unfolding outcome_told index_answer
+returns-2 c = sym (ap (λ w. outcome_told (index_answer w)) c.enum_told.given.1)
 
 returns-3 : tie.Need-returns-3
-unfolding toldOf indexAnswer
-returns-3 c = sym (ap (λ w. toldOf (indexAnswer w)) c.before.answer2.given.1)
+unfolding outcome_told index_answer
+returns-3 c = sym (ap (λ w. outcome_told (index_answer w)) c.before.answer2.given.1)
 
-pub told-index-spec : {M : Type 1} → statement M
-told-index-spec =
+pub told_index_spec : {M : Type 1} → statement M
+told_index_spec =
     tie.close
     (tie.spec enum-known-answer enum_told enum-known-answer-2 returns returns-2 returns-3)

@@ -5,8 +5,8 @@ use native.Mathlib.Omega.{arith}
 use borrow.Author.Tests.{lt-ltb, le-ltb}
 use lib.ListN.{length}
 use Rattle.hilbert.specs.Search.{row}
-use Rattle.hilbert.proofs.Searching.{row-part}
-use Rattle.wilson.specs.Walking.{same-values}
+use Rattle.hilbert.proofs.Searching.{row_part}
+use Rattle.wilson.specs.Walking.{same_values}
 use borrow.Author.Rules.{rules}
 use Rattle.wilson.proofs.add_reached.Statement.{statement}
 use Rattle.wilson.proofs.add_reached.Tie as tie
@@ -42,8 +42,8 @@ part-same-values-start c = search rules
 part-same-values-end : tie.Need-slice-bounds-same-values-end
 part-same-values-end c = let h = room c in search rules
 
-same-values-requires : tie.Need-same-values-requires
-same-values-requires c κs = search rules
+same_values-requires : tie.Need-same_values-requires
+same_values-requires c κs = search rules
 
 mul-result : tie.Need-overflow-mul-result
 mul-result c = search rules
@@ -58,10 +58,10 @@ shared-slice-read-result-2 : tie.Need-shared-slice-read-result-2
 shared-slice-read-result-2 c = search rules
 
 -- the row was compared
-told : (c : tie.After-same-values) → same-values (row (length c.before.before.before.before.args.configuration.now) c.before.before.before.before.args.list.now c.before.before.before.before.args.j) c.before.before.before.before.args.configuration.now ≡ c.same-values.result
+told : (c : tie.After-same_values) → same_values (row (length c.before.before.before.before.args.configuration.now) c.before.before.before.before.args.list.now c.before.before.before.before.args.j) c.before.before.before.before.args.configuration.now ≡ c.same_values.result
 told c =
     let a = c.before.before.before.before.args in
-    sym (rw (row-part a.list.now (length a.configuration.now) a.j) at c.same-values.ensures)
+    sym (rw (row_part a.list.now (length a.configuration.now) a.j) at c.same_values.ensures)
 
 returns-2 : tie.Need-returns-2
 returns-2 c =
@@ -71,8 +71,8 @@ returns-2 c =
 returns-3 : tie.Need-returns-3
 returns-3 c = rw (lt-ltb _ _ c.before.before.before.if1.false, told c.before ∙ c.if2.false)
 
-pub add-reached-spec : {M : Type 1} → statement M
-add-reached-spec =
+pub add_reached_spec : {M : Type 1} → statement M
+add_reached_spec =
     tie.close
     (tie.spec
     returns
@@ -82,7 +82,7 @@ add-reached-spec =
     sub-same-values
     part-same-values-start
     part-same-values-end
-    same-values-requires
+    same_values-requires
     mul-result
     shared-slice-read-result
     mul-result-2

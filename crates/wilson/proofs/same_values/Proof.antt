@@ -7,8 +7,8 @@ use lib.ListN.{get_or, length}
 use mir.Syntax.{w32}
 use Rattle.mathematics.specs.Integers.{equal}
 use Rattle.mathematics.specs.Tests.{every}
-use Rattle.wilson.specs.Walking.{same-values}
-use Rattle.wilson.proofs.Judging.{equal-bits}
+use Rattle.wilson.specs.Walking.{same_values}
+use Rattle.wilson.proofs.Judging.{equal_bits}
 use borrow.Author.Rules.{rules}
 use Rattle.wilson.proofs.same_values.Statement.{statement}
 use Rattle.wilson.proofs.same_values.Tie as tie
@@ -44,21 +44,21 @@ loop-less c = search rules
 loop-again : tie.Need-loop-preserved invariant-loop decreases-loop
 unfolding every
 loop-again c =
-    let at-loop = c.before.before.before in
-    let a = at-loop.before.args in
-    let e = at-loop.loop.e in
-    let told = equal-bits w32 (get_or a.s.now e (pos 0)) (get_or a.t.now e (pos 0)) (record { sfits = c.before.so_far.given }) (record { sfits = c.so-far2.given }) in
-    (omega arith, refl, rw (add-one e, at-loop.loop.invariant.2, told))
+    let at_loop = c.before.before.before in
+    let a = at_loop.before.args in
+    let e = at_loop.loop.e in
+    let told = equal_bits w32 (get_or a.s.now e (pos 0)) (get_or a.t.now e (pos 0)) (record { sfits = c.before.so_far.given }) (record { sfits = c.so-far2.given }) in
+    (omega arith, refl, rw (add-one e, at_loop.loop.invariant.2, told))
 
 returns : tie.Need-returns invariant-loop decreases-loop
-unfolding same-values
+unfolding same_values
 returns c =
     let a = c.before.before.args in
     let past : c.before.loop.e ≡ length a.s.now = omega arith in
     rw past at c.before.loop.invariant.2
 
-pub same-values-spec : {M : Type 1} → statement M
-same-values-spec =
+pub same_values_spec : {M : Type 1} → statement M
+same_values_spec =
     tie.close
     (tie.spec
     invariant-loop

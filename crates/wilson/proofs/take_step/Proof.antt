@@ -19,18 +19,18 @@ mul-sum c = search rules
 element-copy-out-sum : tie.Need-element-copy-out-sum
 element-copy-out-sum c = search rules
 
-i8-to-i32-requires : tie.Need-i8-to-i32-requires
-i8-to-i32-requires c κs = search rules
+i8_to_i32-requires : tie.Need-i8_to_i32-requires
+i8_to_i32-requires c κs = search rules
 
 -- the two numbers that are added
-terms : (c : tie.After-i8-to-i32)
-    → to_z w32 (of_z w32 (get_or c.before.before.before.args.row.now c.before.before.byte.result (pos 0))) +ℤ to_z w32 (of_z w32 c.i8-to-i32.result)
+terms : (c : tie.After-i8_to_i32)
+    → to_z w32 (of_z w32 (get_or c.before.before.before.args.row.now c.before.before.byte.result (pos 0))) +ℤ to_z w32 (of_z w32 c.i8_to_i32.result)
     ≡ raised c.before.before.before.args.row.now c.before.before.before.args.edge c.before.before.before.args.direction
 unfolding raised
 terms c =
     let s = c.before.before.before in
     let e = c.before.before.byte.result in
-    rw (back32 (get_or s.args.row.now e (pos 0)) c.before.sum-arg.given, back32 c.i8-to-i32.result c.i8-to-i32.type-inv, c.i8-to-i32.ensures, back8 s.args.direction s.ranges.direction.sfits, c.before.before.byte.ensures)
+    rw (back32 (get_or s.args.row.now e (pos 0)) c.before.sum-arg.given, back32 c.i8_to_i32.result c.i8_to_i32.type-inv, c.i8_to_i32.ensures, back8 s.args.direction s.ranges.direction.sfits, c.before.before.byte.ensures)
 
 sum-requires : tie.Need-sum-requires
 sum-requires c κs = rw (terms c) c.before.before.before.requires.3
@@ -52,14 +52,14 @@ returns : tie.Need-returns
 unfolding shifted within
 returns c = record { row_is = rw (value c.before, c.before.before.before.before.byte.ensures); stays = c.within.ensures ∙ rw (value c.before) }
 
-pub take-step-spec : {M : Type 1} → statement M
-take-step-spec =
+pub take_step_spec : {M : Type 1} → statement M
+take_step_spec =
     tie.close
     (tie.spec
     byte-requires
     mul-sum
     element-copy-out-sum
-    i8-to-i32-requires
+    i8_to_i32-requires
     sum-requires
     mul-x
     element-set-from-x

@@ -11,25 +11,25 @@ use lib.Seq.{length-take-le}
 use Rattle.mathematics.proofs.Signed.{back8}
 use Rattle.complex.specs.Complex.{Complex}
 use Rattle.gauss_law.specs.Listing.{states}
-use Rattle.gauss_law.proofs.Shifts.{shifted-length}
+use Rattle.gauss_law.proofs.Shifts.{shifted_length}
 use Rattle.matrices.proofs.Literals.{zero}
 use Rattle.hilbert.specs.Basis.{place}
 use Rattle.hilbert.specs.Search.{row}
-use Rattle.hilbert.proofs.Searching.{row-part}
+use Rattle.hilbert.proofs.Searching.{row_part}
 use Rattle.plaquettes.specs.Targets.{BasisList}
-use Rattle.plaquettes.proofs.Targets.{edges_few, row_within, row_is, row-long, list-long, list-rows}
-use Rattle.wilson.specs.Wilson.{Step, path-of, stays, walked, wilson-sum}
-use Rattle.wilson.specs.Walking.{with-product, Stepped, Underway, Summed}
-use Rattle.wilson.proofs.Walks.{step-ready, step-leaves, step_stays, walk_begins, walk-stays, walk-leads}
-use Rattle.wilson.proofs.Places.{place-within}
-use Rattle.wilson.proofs.Reached.{row_small, place-ranked, sought, summed-none, summed-left, summed-more, summed-all}
+use Rattle.plaquettes.proofs.Targets.{edges_few, row_within, row_is, row_long, list_long, list_rows}
+use Rattle.wilson.specs.Wilson.{Step, path_of, stays, walked, wilson_sum}
+use Rattle.wilson.specs.Walking.{with_product, Stepped, Underway, Summed}
+use Rattle.wilson.proofs.Walks.{step_ready, step_leaves, step_stays, walk_begins, walk_stays, walk_leads}
+use Rattle.wilson.proofs.Places.{place_within}
+use Rattle.wilson.proofs.Reached.{row_small, place_ranked, sought, summed_none, summed_left, summed_more, summed_all}
 use borrow.Author.Rules.{rules}
 use Rattle.wilson.proofs.wilson_sum.Statement.{statement}
 use Rattle.wilson.proofs.wilson_sum.Tie as tie
 
 abbrev invariant-loop : tie.invariant-loop
 invariant-loop list s free amplitudes edges directions n m lambda reached₀ from total i₀ at k₀ k-end reached i k =
-    (i ≡ i₀) × (k-end ≡ length edges) × (k ≤ length edges) × Underway s.lambda s.edges (row s.edges list i₀) (path-of edges directions) k reached
+    (i ≡ i₀) × (k-end ≡ length edges) × (k ≤ length edges) × Underway s.lambda s.edges (row s.edges list i₀) (path_of edges directions) k reached
 
 abbrev decreases-loop : tie.decreases-loop
 decreases-loop list s free amplitudes edges directions n m lambda reached₀ from total i₀ at k₀ k-end reached i k =
@@ -38,7 +38,7 @@ decreases-loop list s free amplitudes edges directions n m lambda reached₀ fro
 abbrev invariant-states : tie.invariant-states
 invariant-states list s free amplitudes edges directions n m lambda reached₀ from₀ total₀ i₀ reached from total i =
     (i ≤ s.states) × (from ≤ s.states) × (length reached ≡ 63)
-    × ((c : Complex) → BasisList c list s free → Summed c s.lambda amplitudes (path-of edges directions) i from total)
+    × ((c : Complex) → BasisList c list s free → Summed c s.lambda amplitudes (path_of edges directions) i from total)
 
 abbrev decreases-states : tie.decreases-states
 decreases-states list s free amplitudes edges directions n m lambda reached₀ from₀ total₀ i₀ reached from total i =
@@ -57,8 +57,8 @@ abbrev outer : Loop → States
 outer c = c.before.before.before.before.before
 
 states-holds : tie.Need-states-init invariant-loop decreases-loop invariant-states decreases-states
-unfolding wilson-sum
-states-holds c = (omega arith, omega arith, refl, λ complex basis. rw zero (summed-none complex _ _ _ basis _ _ _ c.before.before.requires.1))
+unfolding wilson_sum
+states-holds c = (omega arith, omega arith, refl, λ complex basis. rw zero (summed_none complex _ _ _ basis _ _ _ c.before.before.requires.1))
 
 -- the row lies in the list
 room : (c : tie.In-states invariant-loop decreases-loop invariant-states decreases-states)
@@ -88,47 +88,47 @@ part-copy-state-start c = search rules
 part-copy-state-end : tie.Need-slice-bounds-copy-state-end invariant-loop decreases-loop invariant-states decreases-states
 part-copy-state-end c = let h = room c.before in search rules
 
-copy-state-requires : tie.Need-copy-state-requires invariant-loop decreases-loop invariant-states decreases-states
-copy-state-requires c κs =
-    let at-states = c.before.before.before in
-    let begun = start at-states in
+copy_state-requires : tie.Need-copy_state-requires invariant-loop decreases-loop invariant-states decreases-states
+copy_state-requires c κs =
+    let at_states = c.before.before.before in
+    let begun = start at_states in
     let basis = begun.pre.0.basis in
-    (at-states.states.invariant.2, rw (row-part begun.args.list.now begun.args.s.edges at-states.states.i, row-long _ _ _ _ basis at-states.states.i (omega arith)) (edges_few _ _ _ _ basis))
+    (at_states.states.invariant.2, rw (row_part begun.args.list.now begun.args.s.edges at_states.states.i, row_long _ _ _ _ basis at_states.states.i (omega arith)) (edges_few _ _ _ _ basis))
 
 loop-holds : tie.Need-loop-init invariant-loop decreases-loop invariant-states decreases-states
 loop-holds c =
-    let at-states = c.before.before.before.before in
-    let begun = start at-states in
-    let i = at-states.states.i in
+    let at_states = c.before.before.before.before in
+    let begun = start at_states in
+    let i = at_states.states.i in
     let m = begun.args.s.edges in
     let basis = begun.pre.0.basis in
     let inside : i < begun.args.s.states = omega arith in
-    let front = ap (λ (n : ℕ). take n c.copy-state.new.0) (sym (row-long _ _ _ _ basis i inside)) ∙ (rw (row-part begun.args.list.now m i) at c.copy-state.ensures.1) in
-    (refl, refl, omega arith, walk_begins _ _ _ _ c.copy-state.new.0 c.copy-state.ensures.0 front (row_small _ _ _ _ basis i inside))
+    let front = ap (λ (n : ℕ). take n c.copy_state.new.0) (sym (row_long _ _ _ _ basis i inside)) ∙ (rw (row_part begun.args.list.now m i) at c.copy_state.ensures.1) in
+    (refl, refl, omega arith, walk_begins _ _ _ _ c.copy_state.new.0 c.copy_state.ensures.0 front (row_small _ _ _ _ basis i inside))
 
-shared-slice-read-take-step :
+shared_slice_read_take_step :
     tie.Need-shared-slice-read-take-step invariant-loop decreases-loop invariant-states decreases-states
-shared-slice-read-take-step c = search rules
+shared_slice_read_take_step c = search rules
 
-shared-slice-copy-out-take-step :
+shared_slice_copy_out_take_step :
     tie.Need-shared-slice-copy-out-take-step invariant-loop decreases-loop invariant-states decreases-states
-shared-slice-copy-out-take-step c = search rules
+shared_slice_copy_out_take_step c = search rules
 
-take-step-requires : tie.Need-take-step-requires invariant-loop decreases-loop invariant-states decreases-states
-take-step-requires c κs =
-    let at-loop = c.before.before.before.before in
-    let begun = start (outer at-loop) in
-    let k = at-loop.loop.k in
+take_step-requires : tie.Need-take_step-requires invariant-loop decreases-loop invariant-states decreases-states
+take_step-requires c κs =
+    let at_loop = c.before.before.before.before in
+    let begun = start (outer at_loop) in
+    let k = at_loop.loop.k in
     let basis = begun.pre.0.basis in
     rw (back8 (get_or begun.args.directions.now k (pos 0)) c.take-step-arg.given)
-    (step-ready _ _ _ _ _ begun.pre.1 (edges_few _ _ _ _ basis) k _ at-loop.loop.invariant.3 (omega arith) basis.truncation)
+    (step_ready _ _ _ _ _ begun.pre.1 (edges_few _ _ _ _ basis) k _ at_loop.loop.invariant.3 (omega arith) basis.truncation)
 
 -- what the step did
-stepped : (c : tie.After-take-step invariant-loop decreases-loop invariant-states decreases-states)
+stepped : (c : tie.After-take_step invariant-loop decreases-loop invariant-states decreases-states)
     → Stepped (start (outer c.before.before.before.before.before)).args.s.lambda c.before.before.before.before.before.loop.reached (get_or (start (outer c.before.before.before.before.before)).args.edges.now c.before.before.before.before.before.loop.k 0) (get_or (start (outer c.before.before.before.before.before)).args.directions.now c.before.before.before.before.before.loop.k (pos 0)) c.take_step.result c.take_step.new.0
 stepped c =
-    let at-loop = c.before.before.before.before.before in
-    rw (back8 (get_or (start (outer at-loop)).args.directions.now at-loop.loop.k (pos 0)) c.before.take-step-arg.given) at c.take_step.ensures
+    let at_loop = c.before.before.before.before.before in
+    rw (back8 (get_or (start (outer at_loop)).args.directions.now at_loop.loop.k (pos 0)) c.before.take-step-arg.given) at c.take_step.ensures
 
 add-i : tie.Need-overflow-add-i invariant-loop decreases-loop invariant-states decreases-states
 add-i c = search rules
@@ -138,20 +138,20 @@ states-less c = search rules
 
 states-again : tie.Need-states-preserved invariant-loop decreases-loop invariant-states decreases-states
 states-again c =
-    let at-loop = c.before.before.before.before.before.before in
-    let at-states = outer at-loop in
-    let begun = start at-states in
-    let i = at-states.states.i in
-    let u = at-loop.loop.invariant.3 in
-    let same : at-loop.loop.i ≡ i = at-loop.loop.invariant.0 in
-    let more : at-loop.loop.k < length begun.args.edges.now = omega arith in
+    let at_loop = c.before.before.before.before.before.before in
+    let at_states = outer at_loop in
+    let begun = start at_states in
+    let i = at_states.states.i in
+    let u = at_loop.loop.invariant.3 in
+    let same : at_loop.loop.i ≡ i = at_loop.loop.invariant.0 in
+    let more : at_loop.loop.k < length begun.args.edges.now = omega arith in
     let step = stepped c.before in
-    let out = step-leaves _ _ _ _ _ begun.pre.1 (edges_few _ _ _ _ begun.pre.0.basis) at-loop.loop.k _ u more (sym step.stays ∙ not-true _ c.if1.true) in
+    let out = step_leaves _ _ _ _ _ begun.pre.1 (edges_few _ _ _ _ begun.pre.0.basis) at_loop.loop.k _ u more (sym step.stays ∙ not-true _ c.if1.true) in
     rw same (
       omega arith,
-      at-states.states.inv.1,
-      ap length step.row_is ∙ shifted-length _ _ _ ∙ u.long,
-      λ complex basis. summed-left complex _ _ _ basis _ _ _ begun.pre.1 i _ _ (at-states.states.inv.3 complex basis) (rw (row_is complex _ _ _ basis i (omega arith)) at out),
+      at_states.states.inv.1,
+      ap length step.row_is ∙ shifted_length _ _ _ ∙ u.long,
+      λ complex basis. summed_left complex _ _ _ basis _ _ _ begun.pre.1 i _ _ (at_states.states.inv.3 complex basis) (rw (row_is complex _ _ _ basis i (omega arith)) at out),
     )
 
 add-k : tie.Need-overflow-add-k invariant-loop decreases-loop invariant-states decreases-states
@@ -162,14 +162,14 @@ loop-less c = search rules
 
 loop-again : tie.Need-loop-preserved invariant-loop decreases-loop invariant-states decreases-states
 loop-again c =
-    let at-loop = c.before.before.before.before.before.before in
-    let begun = start (outer at-loop) in
-    let more : at-loop.loop.k < length begun.args.edges.now = omega arith in
+    let at_loop = c.before.before.before.before.before.before in
+    let begun = start (outer at_loop) in
+    let more : at_loop.loop.k < length begun.args.edges.now = omega arith in
     let step = stepped c.before in (
-      at-loop.loop.invariant.0,
+      at_loop.loop.invariant.0,
       refl,
       omega arith,
-      rw step.row_is (step_stays _ _ _ _ _ begun.pre.1 (edges_few _ _ _ _ begun.pre.0.basis) at-loop.loop.k _ at-loop.loop.invariant.3 more (sym step.stays ∙ not-false _ c.if1.false)),
+      rw step.row_is (step_stays _ _ _ _ _ begun.pre.1 (edges_few _ _ _ _ begun.pre.0.basis) at_loop.loop.k _ at_loop.loop.invariant.3 more (sym step.stays ∙ not-false _ c.if1.false)),
     )
 
 -- ---- the walk is over
@@ -179,8 +179,8 @@ Arrived = tie.After-loop invariant-loop decreases-loop invariant-states decrease
 abbrev config : Arrived → List ℤ
 config c = take (start (outer c.before)).args.s.edges c.before.loop.reached
 
-config-long : (c : Arrived) → length (config c) ≡ (start (outer c.before)).args.s.edges
-config-long c =
+config_long : (c : Arrived) → length (config c) ≡ (start (outer c.before)).args.s.edges
+config_long c =
     let few = edges_few _ _ _ _ (start (outer c.before)).pre.0.basis in
     let long = c.before.loop.invariant.3.long in
     length-take-le (start (outer c.before)).args.s.edges c.before.loop.reached (omega arith)
@@ -189,7 +189,7 @@ abbrev state : Arrived → Complex → List ℤ
 state c complex = get_or (states complex (start (outer c.before)).args.s.lambda) (outer c.before).states.i []
 
 abbrev path : Arrived → List Step
-path c = path-of (start (outer c.before)).args.edges.now (start (outer c.before)).args.directions.now
+path c = path_of (start (outer c.before)).args.edges.now (start (outer c.before)).args.directions.now
 
 abbrev Basis : Arrived → Complex → Type 0
 Basis c complex = BasisList complex (start (outer c.before)).args.list.now (start (outer c.before)).args.s (start (outer c.before)).args.free.now
@@ -200,12 +200,12 @@ inside c = omega arith
 -- it stayed in the band, and the row begins with what it reached
 arrived : (c : Arrived) (complex : Complex) → Basis c complex → (stays (start (outer c.before)).args.s.lambda (state c complex) (path c) ≡ true) × (walked (state c complex) (path c) ≡ config c)
 arrived c complex basis =
-    let at-loop = c.before in
-    let begun = start (outer at-loop) in
-    let past : at-loop.loop.k ≡ length begun.args.edges.now = omega arith in
-    let is = row_is complex _ _ _ basis (outer at-loop).states.i (inside c) in (
-      rw is at (walk-stays _ _ _ _ _ begun.pre.1 at-loop.loop.k _ at-loop.loop.invariant.3 past),
-      rw is at (walk-leads _ _ _ _ _ begun.pre.1 at-loop.loop.k _ at-loop.loop.invariant.3 past),
+    let at_loop = c.before in
+    let begun = start (outer at_loop) in
+    let past : at_loop.loop.k ≡ length begun.args.edges.now = omega arith in
+    let is = row_is complex _ _ _ basis (outer at_loop).states.i (inside c) in (
+      rw is at (walk_stays _ _ _ _ _ begun.pre.1 at_loop.loop.k _ at_loop.loop.invariant.3 past),
+      rw is at (walk_leads _ _ _ _ _ begun.pre.1 at_loop.loop.k _ at_loop.loop.invariant.3 past),
     )
 
 sub-advance : tie.Need-overflow-sub-advance invariant-loop decreases-loop invariant-states decreases-states
@@ -224,17 +224,17 @@ advance-requires : tie.Need-advance-requires invariant-loop decreases-loop invar
 advance-requires c κs =
     let over = c.before.before in
     let begun = start (outer over.before) in
-    (rw (sub-zero begun.args.s.edges) (list-rows _ _ _ _ begun.pre.0.basis (config over) (config-long over)), (outer over.before).states.inv.1)
+    (rw (sub-zero begun.args.s.edges) (list_rows _ _ _ _ begun.pre.0.basis (config over) (config_long over)), (outer over.before).states.inv.1)
 
 -- the place of what was reached
 found : (c : tie.After-advance invariant-loop decreases-loop invariant-states decreases-states) (complex : Complex) → Basis c.before.before.before complex → c.advance.result ≡ place complex (start (outer c.before.before.before.before)).args.s.lambda (config c.before.before.before)
 found c complex basis =
     let over = c.before.before.before in
-    let at-states = outer over.before in
-    let begun = start at-states in
+    let at_states = outer over.before in
+    let begun = start at_states in
     let there = arrived over complex basis in
-    (rw (sub-zero begun.args.s.edges) at c.advance.ensures) _ (place-ranked complex _ _ _ basis (config over) (config-long over))
-    (sought complex _ _ _ basis _ _ _ begun.pre.1 at-states.states.i _ _ (at-states.states.inv.3 complex basis) (inside over) there.0 (config over) there.1 (config-long over))
+    (rw (sub-zero begun.args.s.edges) at c.advance.ensures) _ (place_ranked complex _ _ _ basis (config over) (config_long over))
+    (sought complex _ _ _ basis _ _ _ begun.pre.1 at_states.states.i _ _ (at_states.states.inv.3 complex basis) (inside over) there.0 (config over) there.1 (config_long over))
 
 sub-add-reached : tie.Need-overflow-sub-add-reached invariant-loop decreases-loop invariant-states decreases-states
 sub-add-reached c = search rules
@@ -248,13 +248,13 @@ part-add-reached-end c =
     let long = c.before.before.before.before.before.loop.invariant.3.long in
     search rules
 
-add-reached-requires : tie.Need-add-reached-requires invariant-loop decreases-loop invariant-states decreases-states
-add-reached-requires c κs =
+add_reached-requires : tie.Need-add_reached-requires invariant-loop decreases-loop invariant-states decreases-states
+add_reached-requires c κs =
     let over = c.before.before.before.before.before in
     let begun = start (outer over.before) in
     let basis = begun.pre.0.basis in
     let same : over.before.loop.i ≡ (outer over.before).states.i = over.before.loop.invariant.0 in
-    rw (sub-zero begun.args.s.edges, config-long over) (basis.few, edges_few _ _ _ _ basis, list-long _ _ _ _ basis, begun.pre.0.one_each, omega arith)
+    rw (sub-zero begun.args.s.edges, config_long over) (basis.few, edges_few _ _ _ _ basis, list_long _ _ _ _ basis, begun.pre.0.one_each, omega arith)
 
 add-i-2 : tie.Need-overflow-add-i-2 invariant-loop decreases-loop invariant-states decreases-states
 add-i-2 c = search rules
@@ -264,30 +264,30 @@ states-less-2 c = search rules
 
 states-again-2 : tie.Need-states-preserved-2 invariant-loop decreases-loop invariant-states decreases-states
 states-again-2 c =
-    let sought-out = c.before.before.before in
-    let over = sought-out.before.before.before in
-    let at-loop = over.before in
-    let at-states = outer at-loop in
-    let begun = start at-states in
-    let same : at-loop.loop.i ≡ at-states.states.i = at-loop.loop.invariant.0 in
+    let sought_out = c.before.before.before in
+    let over = sought_out.before.before.before in
+    let at_loop = over.before in
+    let at_states = outer at_loop in
+    let begun = start at_states in
+    let same : at_loop.loop.i ≡ at_states.states.i = at_loop.loop.invariant.0 in
     let own = begun.pre.0.basis in
     rw same (
       omega (arith, inside over),
-      omega (arith, found sought-out _ own, place-within _ own.accepted begun.args.s.lambda (config over), own.count),
-      at-loop.loop.invariant.3.long,
+      omega (arith, found sought_out _ own, place_within _ own.accepted begun.args.s.lambda (config over), own.count),
+      at_loop.loop.invariant.3.long,
       λ complex basis.
           let there = arrived over complex basis in
-          summed-more complex _ _ _ basis _ _ _ begun.pre.1 at-states.states.i _ _ (at-states.states.inv.3 complex basis) (inside over) there.0 (config over) there.1 (config-long over)
-          sought-out.advance.result (found sought-out complex basis) c.add-reached.result ((rw (sub-zero begun.args.s.edges) at c.add-reached.ensures) ∙ ap (λ (k : ℕ). with-product begun.args.list.now begun.args.s.states begun.args.amplitudes.now k sought-out.advance.result (config over) at-states.states.total) same),
+          summed_more complex _ _ _ basis _ _ _ begun.pre.1 at_states.states.i _ _ (at_states.states.inv.3 complex basis) (inside over) there.0 (config over) there.1 (config_long over)
+          sought_out.advance.result (found sought_out complex basis) c.add_reached.result ((rw (sub-zero begun.args.s.edges) at c.add_reached.ensures) ∙ ap (λ (k : ℕ). with_product begun.args.list.now begun.args.s.states begun.args.amplitudes.now k sought_out.advance.result (config over) at_states.states.total) same),
     )
 
 returns : tie.Need-returns invariant-loop decreases-loop invariant-states decreases-states
 returns c complex basis =
     let begun = start c.before in
-    summed-all complex _ _ _ basis _ _ _ begun.pre.1 c.before.states.i _ _ (c.before.states.invariant.3 complex basis) (omega arith)
+    summed_all complex _ _ _ basis _ _ _ begun.pre.1 c.before.states.i _ _ (c.before.states.invariant.3 complex basis) (omega arith)
 
-pub wilson-sum-spec : {M : Type 1} → statement M
-wilson-sum-spec =
+pub wilson_sum_spec : {M : Type 1} → statement M
+wilson_sum_spec =
     tie.close
     (tie.spec
     invariant-loop
@@ -301,11 +301,11 @@ wilson-sum-spec =
     sub-copy-state
     part-copy-state-start
     part-copy-state-end
-    copy-state-requires
+    copy_state-requires
     loop-holds
-    shared-slice-read-take-step
-    shared-slice-copy-out-take-step
-    take-step-requires
+    shared_slice_read_take_step
+    shared_slice_copy_out_take_step
+    take_step-requires
     add-i
     states-less
     states-again
@@ -319,7 +319,7 @@ wilson-sum-spec =
     sub-add-reached
     part-add-reached-start
     part-add-reached-end
-    add-reached-requires
+    add_reached-requires
     add-i-2
     states-less-2
     states-again-2

@@ -1,7 +1,7 @@
 use Prim.Native.Nat.{◌<◌}
 use native.Mathlib.Omega.{arith}
 use borrow.Author.Rules.{rules}
-use Rattle.complex.proofs.Numberings.{note-over, note-old, note-past, note-new}
+use Rattle.complex.proofs.Numberings.{note_over, note_old, note_past, note_new}
 use Rattle.complex.proofs.numbering.note.Statement.{statement}
 use Rattle.complex.proofs.numbering.note.Tie as tie
 use Rattle.complex.proofs.numbering.note.Reads as reads
@@ -9,7 +9,7 @@ use Rattle.complex.proofs.numbering.note.Lts as lts
 
 -- src/numbering.rt:17:9
 returns : tie.Need-returns
-returns c = λ l n. note-over _ _ _ _ _ c.before.requires.0 l n c.if1.true
+returns c = λ l n. note_over _ _ _ _ _ c.before.requires.0 l n c.if1.true
 
 -- src/numbering.rt:19:8
 mul-if2 : tie.Need-overflow-mul-if2
@@ -21,7 +21,7 @@ element-copy-out-if2 c = search rules
 
 -- src/numbering.rt:20:9
 returns-2 : tie.Need-returns-2
-returns-2 c = λ l n. note-old _ _ _ _ _ c.before.before.before.requires.0 l n c.before.before.if1.false c.if2.true
+returns-2 c = λ l n. note_old _ _ _ _ _ c.before.before.before.requires.0 l n c.before.before.if1.false c.if2.true
 
 -- src/numbering.rt:23:16
 add-result : tie.Need-overflow-add-result
@@ -29,7 +29,7 @@ add-result c = search rules
 
 -- src/numbering.rt:23:9
 returns-3 : tie.Need-returns-3
-returns-3 c = λ l n. note-past _ _ _ _ _ c.before.before.before.before.requires.0 l n c.if3.true c.before.if2.false
+returns-3 c = λ l n. note_past _ _ _ _ _ c.before.before.before.before.requires.0 l n c.if3.true c.before.if2.false
 
 -- src/numbering.rt:25:19
 add-table : tie.Need-overflow-add-table
@@ -68,10 +68,10 @@ returns-4 : tie.Need-returns-4
 returns-4 c =
     let a = c.before.before.before.before in
     let few : a.args.count < a.args.limit = omega (arith, c.before.before.before.if1.false, c.if3.false) in
-    λ l n. note-new _ _ _ _ _ a.requires.0 l n few a.requires.1 c.before.if2.false
+    λ l n. note_new _ _ _ _ _ a.requires.0 l n few a.requires.1 c.before.if2.false
 
-pub note-spec : {M : Type 1} → statement M
-note-spec =
+pub note_spec : {M : Type 1} → statement M
+note_spec =
     tie.close
     (tie.spec
     returns

@@ -2,7 +2,7 @@ use Prim.Native.Nat.{◌<◌}
 use mathlib.Core.Path.{sym}
 use native.Mathlib.Omega.{arith}
 use borrow.Author.Rules.{rules}
-use Rattle.complex.proofs.HalfEdges.{link-more}
+use Rattle.complex.proofs.HalfEdges.{link_more}
 use Rattle.complex.proofs.search.link.Statement.{statement}
 use Rattle.complex.proofs.search.link.Tie as tie
 
@@ -28,10 +28,10 @@ returns : tie.Need-returns
 returns c =
     let start = c.before.before.before in
     let small : c.before.byte.result < 64 = omega arith in
-    link-more _ _ _ _ _ _ start.requires.0 start.requires.1 small (sym c.before.byte.ensures) start.requires.3
+    link_more _ _ _ _ _ _ start.requires.0 start.requires.1 small (sym c.before.byte.ensures) start.requires.3
 
-pub link-spec : {M : Type 1} → statement M
-link-spec =
+pub link_spec : {M : Type 1} → statement M
+link_spec =
     tie.close
     (tie.spec
     element-copy-out-byte

@@ -20,10 +20,10 @@ sub-d c = omega arith
 
 link-requires : tie.Need-link-requires invariant-loop decreases-loop
 link-requires c κs =
-    let at-loop = c.before.before.before in
-    let start = at-loop.before in
-    let down : at-loop.loop.d ≡ at-loop.loop.d - 1 + 1 = omega arith in
-    (omega arith, start.requires.0, start.requires.1 (at-loop.loop.d - 1) (omega arith), rw down at at-loop.loop.invariant.1)
+    let at_loop = c.before.before.before in
+    let start = at_loop.before in
+    let down : at_loop.loop.d ≡ at_loop.loop.d - 1 + 1 = omega arith in
+    (omega arith, start.requires.0, start.requires.1 (at_loop.loop.d - 1) (omega arith), rw down at at_loop.loop.invariant.1)
 
 loop-less : tie.Need-loop-smaller invariant-loop decreases-loop
 loop-less c = omega arith
@@ -36,7 +36,7 @@ returns c =
     let past : c.before.loop.d ≡ 0 = omega arith in
     rw past at c.before.loop.invariant.1
 
-pub link-all-spec : {M : Type 1} → statement M
-link-all-spec =
+pub link_all_spec : {M : Type 1} → statement M
+link_all_spec =
     tie.close
     (tie.spec invariant-loop decreases-loop loop-holds sub-d link-requires loop-less loop-again returns)

@@ -4,7 +4,7 @@ use native.Mathlib.Omega.{arith}
 use borrow.Author.Rules.{rules}
 use lib.ListN.{get_or}
 use Rattle.complex.specs.Tree.{opposite}
-use Rattle.complex.proofs.Trees.{look-inside, look-kept, look-room, look-grown}
+use Rattle.complex.proofs.Trees.{look_inside, look_kept, look_room, look_grown}
 use Rattle.complex.proofs.search.look.Statement.{statement}
 use Rattle.complex.proofs.search.look.Tie as tie
 
@@ -14,12 +14,12 @@ is c = rw c.before.before.opposite.ensures at c.byte.ensures
 inside : (c : tie.After-byte) → c.byte.result < c.before.before.before.args.n-vertices
 inside c =
     let start = c.before.before.before in
-    look-inside _ _ _ start.requires.0 _ start.requires.1 _ _ start.requires.2 (is c)
+    look_inside _ _ _ start.requires.0 _ start.requires.1 _ _ start.requires.2 (is c)
 
 room : (c : tie.Else1) → c.before.before.before.before.before.args.found + 1 < c.before.before.before.before.before.args.n-vertices
 room c =
     let start = c.before.before.before.before.before in
-    look-room _ _ _ start.requires.0 _ start.requires.1 _ _ start.requires.2 (is c.before.before) c.if1.false
+    look_room _ _ _ start.requires.0 _ start.requires.1 _ _ start.requires.2 (is c.before.before) c.if1.false
 
 opposite-requires : tie.Need-opposite-requires
 opposite-requires c κs = search rules
@@ -38,7 +38,7 @@ element-copy-out-if1 c = omega (arith, inside c)
 returns : tie.Need-returns
 returns c =
     let start = c.before.before.before.before.before in
-    look-kept _ _ _ start.requires.0 _ start.requires.1 _ _ start.requires.2 (is c.before.before) c.if1.true
+    look_kept _ _ _ start.requires.0 _ start.requires.1 _ _ start.requires.2 (is c.before.before) c.if1.true
 
 add-next : tie.Need-overflow-add-next
 add-next c = search rules
@@ -59,7 +59,7 @@ returns-2 : tie.Need-returns-2
 returns-2 c =
     let start = c.before.before.before.before.before in
     rw (← c.before.before.byte.ensures)
-    (look-grown _ _ _ start.requires.0 _ start.requires.1 _ _ start.requires.2 (is c.before.before) c.if1.false)
+    (look_grown _ _ _ start.requires.0 _ start.requires.1 _ _ start.requires.2 (is c.before.before) c.if1.false)
 
 pub look_spec : {M : Type 1} → statement M
 look_spec =

@@ -22,9 +22,9 @@ array-share-prefix-pentachora c = search rules
 slice-aggregate-answers-same : tie.Need-slice-aggregate-answers-same
 slice-aggregate-answers-same c = sym (length-take-le _ _ (array-share-prefix-pentachora c.before))
 
-answers-same-requires : tie.Need-answers-same-requires
+answers_same-requires : tie.Need-answers_same-requires
 unfolding case_at
-answers-same-requires c κs =
+answers_same-requires c κs =
     let read = c.before.before in
     let bytes = read.before.before in
     (bytes.before.before.requires, all_read 8 (λ n. n) read.u64s.ensures bytes.field.ensures.0 (omega (arith, bytes.field.ensures.1)))
@@ -32,8 +32,8 @@ answers-same-requires c κs =
 returns : tie.Need-returns
 returns c = search rules
 
-pub complexes-same-spec : {M : Type 1} → statement M
-complexes-same-spec =
+pub complexes_same_spec : {M : Type 1} → statement M
+complexes_same_spec =
     tie.close
     (tie.spec
     field-requires
@@ -41,5 +41,5 @@ complexes-same-spec =
     u64s-requires
     array-share-prefix-pentachora
     slice-aggregate-answers-same
-    answers-same-requires
+    answers_same-requires
     returns)

@@ -5,8 +5,8 @@ use Rattle.mathematics.proofs.Signed.{back64}
 use Rattle.recorded.specs.Bytes.{float_of}
 use Rattle.recorded_fields.specs.Layout.{case_at}
 use Rattle.recorded_fields.proofs.Decoding.{all_read}
-use Rattle.complex_recorded.specs.Agreement.{matvec-agrees}
-use Rattle.complex_recorded.specs.Cases.{rows-agreed}
+use Rattle.complex_recorded.specs.Agreement.{matvec_agrees}
+use Rattle.complex_recorded.specs.Cases.{rows_agreed}
 use borrow.Author.Rules.{rules}
 use Rattle.complex_recorded.proofs.row_cases.rows_same.Statement.{statement}
 use Rattle.complex_recorded.proofs.row_cases.rows_same.Tie as tie
@@ -77,11 +77,11 @@ array-share-prefix-vector c = search rules
 slice-aggregate-matvec-same-4 : tie.Need-slice-aggregate-matvec-same-4
 slice-aggregate-matvec-same-4 c = sym (length-take-le _ _ (array-share-prefix-vector c.before))
 
-matvec-same-requires : tie.Need-matvec-same-requires
-matvec-same-requires c κs = search rules
+matvec_same-requires : tie.Need-matvec_same-requires
+matvec_same-requires c κs = search rules
 
 returns : tie.Need-returns
-unfolding rows-agreed case_at
+unfolding rows_agreed case_at
 returns c =
     let product = c.before.before.before.before.before in
     let number = product.before in
@@ -93,15 +93,15 @@ returns c =
     let columns = second.before.before in
     let first = columns.before.before in
     let starts = first.before.before in
-    let all-starts = all_read 4 (λ n. n) first.u32s.ensures starts.field.ensures.0 (omega (arith, starts.field.ensures.1)) in
-    let all-columns = all_read 4 (λ n. n) second.u32s2.ensures columns.field2.ensures.0 (omega (arith, columns.field2.ensures.1)) in
-    let all-values = all_read 8 float_of third.floats.ensures values.field3.ensures.0 (omega (arith, values.field3.ensures.1)) in
-    let all-vector = all_read 8 float_of fourth.floats2.ensures vector.field4.ensures.0 (omega (arith, vector.field4.ensures.1)) in
+    let all_starts = all_read 4 (λ n. n) first.u32s.ensures starts.field.ensures.0 (omega (arith, starts.field.ensures.1)) in
+    let all_columns = all_read 4 (λ n. n) second.u32s2.ensures columns.field2.ensures.0 (omega (arith, columns.field2.ensures.1)) in
+    let all_values = all_read 8 float_of third.floats.ensures values.field3.ensures.0 (omega (arith, values.field3.ensures.1)) in
+    let all_vector = all_read 8 float_of fourth.floats2.ensures vector.field4.ensures.0 (omega (arith, vector.field4.ensures.1)) in
     let told = back64 _ number.told.type-inv ∙ number.told.ensures in
-    c.matvec-same.ensures ∙ (λ i. matvec-agrees (all-starts i) (all-columns i) (all-values i) (all-vector i) (told i) (product.field5.ensures.0 i))
+    c.matvec_same.ensures ∙ (λ i. matvec_agrees (all_starts i) (all_columns i) (all_values i) (all_vector i) (told i) (product.field5.ensures.0 i))
 
-pub rows-same-spec : {M : Type 1} → statement M
-rows-same-spec =
+pub rows_same_spec : {M : Type 1} → statement M
+rows_same_spec =
     tie.close
     (tie.spec
     field-requires
@@ -126,5 +126,5 @@ rows-same-spec =
     slice-aggregate-matvec-same-3
     array-share-prefix-vector
     slice-aggregate-matvec-same-4
-    matvec-same-requires
+    matvec_same-requires
     returns)

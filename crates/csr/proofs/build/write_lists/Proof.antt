@@ -2,48 +2,48 @@ use Prim.Native.Nat.{◌*◌, ◌^◌, ◌<◌}
 use mathlib.Core.Path.{◌≡◌, refl, sym, ap}
 use native.Mathlib.Omega.{arith}
 use lib.ListN.{length}
-use Rattle.complex.specs.Complex.{Complex, complexOf}
-use Rattle.triangles.proofs.SidesFound.{triangles-long}
+use Rattle.complex.specs.Complex.{Complex, complex_of}
+use Rattle.triangles.proofs.SidesFound.{triangles_long}
 use Rattle.matrices.specs.Weights.{weight}
 use Rattle.gauss_law.specs.Listing.{states}
 use Rattle.plaquettes.specs.Targets.{BasisList}
-use Rattle.plaquettes.proofs.Listed.{small-rows}
-use Rattle.entries.specs.Rows.{csr-entries}
+use Rattle.plaquettes.proofs.Listed.{small_rows}
+use Rattle.entries.specs.Rows.{csr_entries}
 use Rattle.csr.specs.Fill.{Walk, walk_of, WalkOf}
-use Rattle.csr.proofs.WalkMade.{numbered, word_small, walk-made, entries-small}
-use Rattle.csr.proofs.Built.{writable, lists-written, starts_fit}
+use Rattle.csr.proofs.WalkMade.{numbered, word_small, walk_made, entries_small}
+use Rattle.csr.proofs.Built.{writable, lists_written, starts_fit}
 use borrow.Author.Rules.{rules}
 use Rattle.csr.proofs.build.write_lists.Statement.{statement}
 use Rattle.csr.proofs.build.write_lists.Tie as tie
 
 abbrev Numbers : Type 0
-Numbers = tie.After-write-numbers
+Numbers = tie.After-write_numbers
 
 abbrev start : Numbers → tie.Start
 start c = c.before.before.before.before.before.before.before.before.before.before.before
 
-abbrev the-complex : Numbers → Complex
-the-complex c = complexOf (start c).args.c
+abbrev the_complex : Numbers → Complex
+the_complex c = complex_of (start c).args.c
 
-basis : (c : Numbers) → BasisList (the-complex c) (start c).args.list.now (start c).args.s (start c).args.free.now
+basis : (c : Numbers) → BasisList (the_complex c) (start c).args.list.now (start c).args.s (start c).args.free.now
 basis c = (start c).requires.0
 
-triangles : (c : Numbers) → 2 * (start c).args.c.n_triangles ≡ 2 * length (the-complex c).triangles
-triangles c = ap (λ k. 2 * k) (sym (triangles-long (start c).args.c))
+triangles : (c : Numbers) → 2 * (start c).args.c.n_triangles ≡ 2 * length (the_complex c).triangles
+triangles c = ap (λ k. 2 * k) (sym (triangles_long (start c).args.c))
 
-few : (c : Numbers) → csr-entries (the-complex c) (start c).args.s.lambda (start c).args.p (weight (start c).args.given (start c).args.weights.now) < 2 ^ 32
-few c = entries-small (the-complex c) (basis c).accepted (start c).args.s.lambda (start c).args.p (weight (start c).args.given (start c).args.weights.now) (omega (arith, (basis c).few, (basis c).count))
+few : (c : Numbers) → csr_entries (the_complex c) (start c).args.s.lambda (start c).args.p (weight (start c).args.given (start c).args.weights.now) < 2 ^ 32
+few c = entries_small (the_complex c) (basis c).accepted (start c).args.s.lambda (start c).args.p (weight (start c).args.given (start c).args.weights.now) (omega (arith, (basis c).few, (basis c).count))
 
 -- the walk by the tables and the numbers
 abbrev walk : Numbers → Walk
 walk c =
     let a = (start c).args in
     let moves = c.before.before.before.before.write_moves.new in
-    walk_of a.all.now moves.1.1.1.1.1.1.1.1.1.0 moves.1.1.1.1.1.1.1.1.1.1.0 (2 * a.c.n_triangles) a.s.lambda c.write-numbers.new.1.1.1.0 a.s.states a.list.now a.s.edges a.p.electric
+    walk_of a.all.now moves.1.1.1.1.1.1.1.1.1.0 moves.1.1.1.1.1.1.1.1.1.1.0 (2 * a.c.n_triangles) a.s.lambda c.write_numbers.new.1.1.1.0 a.s.states a.list.now a.s.edges a.p.electric
 
-is : (c : Numbers) → WalkOf (the-complex c) (start c).args.s.lambda (start c).args.p (weight (start c).args.given (start c).args.weights.now) (start c).args.free.now (walk c)
+is : (c : Numbers) → WalkOf (the_complex c) (start c).args.s.lambda (start c).args.p (weight (start c).args.given (start c).args.weights.now) (start c).args.free.now (walk c)
 is c =
-    walk-made (the-complex c) (start c).args.list.now (start c).args.s (start c).args.free.now (basis c) (start c).requires.2 (start c).args.p (weight (start c).args.given (start c).args.weights.now) (start c).args.starts.now c.write-numbers.new.1.1.1.0 c.write-numbers.ensures _ _ _ _ (triangles c) c.before.before.before.before.write_moves.ensures
+    walk_made (the_complex c) (start c).args.list.now (start c).args.s (start c).args.free.now (basis c) (start c).requires.2 (start c).args.p (weight (start c).args.given (start c).args.weights.now) (start c).args.starts.now c.write_numbers.new.1.1.1.0 c.write_numbers.ensures _ _ _ _ (triangles c) c.before.before.before.before.write_moves.ensures
 
 slice-aggregate-write-moves : tie.Need-slice-aggregate-write-moves
 slice-aggregate-write-moves c = search rules
@@ -51,43 +51,43 @@ slice-aggregate-write-moves c = search rules
 slice-aggregate-write-moves-2 : tie.Need-slice-aggregate-write-moves-2
 slice-aggregate-write-moves-2 c = search rules
 
-write-moves-requires : tie.Need-write-moves-requires
-write-moves-requires c κs =
+write_moves-requires : tie.Need-write_moves-requires
+write_moves-requires c κs =
     let s = c.before.before.before.before.before.before in
     let b = s.requires.0 in (
-      record { accepted = b.accepted; truncation = b.truncation; weighed = s.requires.3; free-count = b.free-count; free-fit = rw (← b.edges) b.free-fit; free-listed = b.free-listed; few = s.requires.2 },
+      record { accepted = b.accepted; truncation = b.truncation; weighed = s.requires.3; free_count = b.free_count; free_fit = rw (← b.edges) b.free_fit; free_listed = b.free_listed; few = s.requires.2 },
       s.requires.1,
       refl,
       refl,
     )
 
-write-numbers-requires : tie.Need-write-numbers-requires
-write-numbers-requires c κs =
+write_numbers-requires : tie.Need-write_numbers-requires
+write_numbers-requires c κs =
     let s = c.before.before.before.before.before.before.before.before.before.before in
-    (small-rows _ _ _ _ s.requires.0, numbered _ _ _ _ s.requires.0 s.requires.2, omega (arith, s.requires.4))
+    (small_rows _ _ _ _ s.requires.0, numbered _ _ _ _ s.requires.0 s.requires.2, omega (arith, s.requires.4))
 
 mul-write-rows : tie.Need-overflow-mul-write-rows
 mul-write-rows c =
     let made = c.before.before.before.before.before in
-    let h = (basis made).accepted.few-triangles in
+    let h = (basis made).accepted.few_triangles in
     let e = triangles made in
     search rules
 
-write-rows-requires : tie.Need-write-rows-requires
-write-rows-requires c κs =
+write_rows-requires : tie.Need-write_rows-requires
+write_rows-requires c κs =
     let made = c.before.before.before.before.before.before.before.before in
     let s = start made in (
-      small-rows _ _ _ _ (basis made),
-      writable (is made) _ _ _ (omega (arith, (basis made).count, made.write-numbers.ensures.long, s.pre.4))
-          (word_small _ _ _ _ (basis made) s.pre.2 s.args.p (weight s.args.given s.args.weights.now) _ _ made.write-numbers.ensures) s.pre.5 s.pre.6 (few made),
+      small_rows _ _ _ _ (basis made),
+      writable (is made) _ _ _ (omega (arith, (basis made).count, made.write_numbers.ensures.long, s.pre.4))
+          (word_small _ _ _ _ (basis made) s.pre.2 s.args.p (weight s.args.given s.args.weights.now) _ _ made.write_numbers.ensures) s.pre.5 s.pre.6 (few made),
     )
 
-write-starts-requires : tie.Need-write-starts-requires
-write-starts-requires c κs =
+write_starts-requires : tie.Need-write_starts-requires
+write_starts-requires c κs =
     let made = c.before.before.before.before.before.before.before.before.before.before.before.before.before.before.before.before in
     let s = start made in
-    let walked = c.before.before.before.before.before.before.before.write-rows.ensures.2 in
-    (omega (arith, walked.long, made.write-numbers.ensures.long, s.pre.4), starts_fit (is made) s.args.s.states (basis made).count _ _ _ _ _ _ _ _ walked (few made))
+    let walked = c.before.before.before.before.before.before.before.write_rows.ensures.2 in
+    (omega (arith, walked.long, made.write_numbers.ensures.long, s.pre.4), starts_fit (is made) s.args.s.states (basis made).count _ _ _ _ _ _ _ _ walked (few made))
 
 same_length : tie.Need-same-length
 same_length c = search rules
@@ -102,19 +102,19 @@ returns : tie.Need-returns
 returns c =
     let made = c.before.before.before.before.before.before.before.before.before.before.before.before.before.before.before.before.before.before.before in
     let s = start made in
-    lists-written (is made) s.args.s.states (basis made).count _ _ _ _ _ _ _ _ _ _ _ s.pre.4 made.write-numbers.ensures c.before.before.before.before.before.before.before.before.before.before.write-rows.ensures.2 c.before.before.write-starts.ensures
+    lists_written (is made) s.args.s.states (basis made).count _ _ _ _ _ _ _ _ _ _ _ s.pre.4 made.write_numbers.ensures c.before.before.before.before.before.before.before.before.before.before.write_rows.ensures.2 c.before.before.write_starts.ensures
 
-pub write-lists-spec : {M : Type 1} → statement M
-write-lists-spec =
+pub write_lists_spec : {M : Type 1} → statement M
+write_lists_spec =
     tie.close
     (tie.spec
     slice-aggregate-write-moves
     slice-aggregate-write-moves-2
-    write-moves-requires
-    write-numbers-requires
+    write_moves-requires
+    write_numbers-requires
     mul-write-rows
-    write-rows-requires
-    write-starts-requires
+    write_rows-requires
+    write_starts-requires
     same_length
     same-length-2
     same-length-3

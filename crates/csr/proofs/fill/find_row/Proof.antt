@@ -3,11 +3,11 @@ use mathlib.Core.Path.{◌≡◌}
 use native.Mathlib.Omega.{arith}
 use native.Mathlib.Nat.{mul-le-mul, mul-le-mul_right}
 use lib.ListN.{length}
-use Rattle.hilbert.proofs.Searching.{row-part}
-use Rattle.plaquettes.specs.Rows.{electric-term}
+use Rattle.hilbert.proofs.Searching.{row_part}
+use Rattle.plaquettes.specs.Rows.{electric_term}
 use Rattle.matrices.specs.Squares.{squares, energy}
 use Rattle.hilbert.specs.Search.{row}
-use Rattle.csr.proofs.Filling.{collected-differ, row-found}
+use Rattle.csr.proofs.Filling.{collected_differ, row_found}
 use borrow.Author.Rules.{rules}
 use Rattle.csr.proofs.fill.find_row.Statement.{statement}
 use Rattle.csr.proofs.fill.find_row.Tie as tie
@@ -22,8 +22,8 @@ room c =
 mul-from : tie.Need-overflow-mul-from
 mul-from c = let h = room c.before.before.before.before in search rules
 
-row-energy-requires : tie.Need-row-energy-requires
-row-energy-requires c κs = search rules
+row_energy-requires : tie.Need-row_energy-requires
+row_energy-requires c κs = search rules
 
 mul-lower : tie.Need-overflow-mul-lower
 mul-lower c = search rules
@@ -49,24 +49,24 @@ part-collect-row-start c = search rules
 part-collect-row-end : tie.Need-slice-bounds-collect-row-end
 part-collect-row-end c = let h = room c.before.before.before.before.before.before.before in search rules
 
-collect-row-requires : tie.Need-collect-row-requires
-collect-row-requires c κs =
+collect_row-requires : tie.Need-collect_row-requires
+collect_row-requires c κs =
     let s = c.before.before.before.before.before.before.before.before.before.before.before in
     let walking = s.requires.0 in
-    (walking.moves-few, rw (row-part s.args.list.now s.args.s.edges s.args.i) (walking.each s.args.i s.requires.2), s.requires.4, walking.few, s.requires.3, omega (arith, s.requires.2, walking.few), c.before.before.before.before.lower.ensures.1, s.requires.5, s.requires.6)
+    (walking.moves_few, rw (row_part s.args.list.now s.args.s.edges s.args.i) (walking.each s.args.i s.requires.2), s.requires.4, walking.few, s.requires.3, omega (arith, s.requires.2, walking.few), c.before.before.before.before.lower.ensures.1, s.requires.5, s.requires.6)
 
-abbrev start : tie.After-collect-row → tie.Start
+abbrev start : tie.After-collect_row → tie.Start
 start c = c.before.before.before.before.before.before.before.before.before.before.before.before
 
 -- the diagonal is the energy of state i
-energy-told : (c : tie.After-collect-row) → c.before.before.before.before.before.before.before.row-energy.result ≡ energy (start c).args.electric (squares (row (start c).args.s.edges (start c).args.list.now (start c).args.i))
-unfolding electric-term
-energy-told c = c.before.before.before.before.before.before.before.row-energy.ensures
+energy_told : (c : tie.After-collect_row) → c.before.before.before.before.before.before.before.row_energy.result ≡ energy (start c).args.electric (squares (row (start c).args.s.edges (start c).args.list.now (start c).args.i))
+unfolding electric_term
+energy_told c = c.before.before.before.before.before.before.before.row_energy.ensures
 
-sort-row-requires : tie.Need-sort-row-requires
-sort-row-requires c κs =
+sort_row-requires : tie.Need-sort_row-requires
+sort_row-requires c κs =
     let found = c.before.before.before.before.before.before.before.before in
-    (search rules, search rules, collected-differ _ _ _ _ _ _ (row-part (start found).args.list.now (start found).args.s.edges (start found).args.i) found.before.before.before.before.before.lower.ensures.0 (energy-told found) _ found.collect-row.ensures.0 (start found).requires.7)
+    (search rules, search rules, collected_differ _ _ _ _ _ _ (row_part (start found).args.list.now (start found).args.s.edges (start found).args.i) found.before.before.before.before.before.lower.ensures.0 (energy_told found) _ found.collect_row.ensures.0 (start found).requires.7)
 
 same_length : tie.Need-same-length
 same_length c = search rules
@@ -80,16 +80,16 @@ same-length-3 c = search rules
 returns : tie.Need-returns
 returns c =
     let found = c.before.before.before.before.before.before.before.before.before.before.before.before.before in (
-      row-found _ _ _ _ _ _ (row-part (start found).args.list.now (start found).args.s.edges (start found).args.i) found.before.before.before.before.before.lower.ensures.0 (energy-told found) _ found.collect-row.ensures.0 _ _ _ c.before.before.before.before.sort-row.ensures.sorted found.collect-row.ensures.2,
-      found.collect-row.ensures.1,
+      row_found _ _ _ _ _ _ (row_part (start found).args.list.now (start found).args.s.edges (start found).args.i) found.before.before.before.before.before.lower.ensures.0 (energy_told found) _ found.collect_row.ensures.0 _ _ _ c.before.before.before.before.sort_row.ensures.sorted found.collect_row.ensures.2,
+      found.collect_row.ensures.1,
     )
 
-pub find-row-spec : {M : Type 1} → statement M
-find-row-spec =
+pub find_row_spec : {M : Type 1} → statement M
+find_row_spec =
     tie.close
     (tie.spec
     mul-from
-    row-energy-requires
+    row_energy-requires
     mul-lower
     shared-slice-read-lower
     lower-requires
@@ -98,8 +98,8 @@ find-row-spec =
     sub-collect-row
     part-collect-row-start
     part-collect-row-end
-    collect-row-requires
-    sort-row-requires
+    collect_row-requires
+    sort_row-requires
     same_length
     same-length-2
     same-length-3

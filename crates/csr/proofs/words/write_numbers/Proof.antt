@@ -4,7 +4,7 @@ use native.Mathlib.Omega.{arith}
 use native.Mathlib.Nat.{mul-le-mul, mul-le-mul_right}
 use lib.ListN.{get_or, length}
 use Rattle.hilbert.specs.Search.{row}
-use Rattle.hilbert.proofs.Searching.{row-part}
+use Rattle.hilbert.proofs.Searching.{row_part}
 use Rattle.moves.specs.Numbers.{number}
 use Rattle.csr.specs.Words.{FirstWords}
 use Rattle.csr.proofs.FirstWords.{none_first, first_next}
@@ -51,13 +51,13 @@ part-number-end c = let h = room c in search rules
 is : (c : tie.After-number invariant-loop decreases-loop) → c.number.result ≡ number c.before.before.before.before.before.args.s.lambda c.before.before.before.before.before.args.s.lambda c.before.before.before.before.before.args.free.now c.before.before.before.before.before.args.s.free (row c.before.before.before.before.before.args.s.edges c.before.before.before.before.before.args.list.now c.before.before.before.loop.i)
 is c =
     let s = c.before.before.before.before.before in
-    c.number.ensures ∙ rw (row-part s.args.list.now s.args.s.edges c.before.before.before.loop.i) refl
+    c.number.ensures ∙ rw (row_part s.args.list.now s.args.s.edges c.before.before.before.loop.i) refl
 
 number-requires : tie.Need-number-requires invariant-loop decreases-loop
 number-requires c κs =
     let s = c.before.before.before.before in
     let i = c.before.before.loop.i in
-    rw (row-part s.args.list.now s.args.s.edges i) (s.requires.1 i c.before.loop-test.true)
+    rw (row_part s.args.list.now s.args.s.edges i) (s.requires.1 i c.before.loop-test.true)
 
 cast-words : tie.Need-overflow-cast-words invariant-loop decreases-loop
 cast-words c =
@@ -82,8 +82,8 @@ loop-less c = search rules
 loop-again : tie.Need-loop-preserved invariant-loop decreases-loop
 loop-again c =
     let s = c.before.before.before.before.before in
-    let at-loop = c.before.before.before in
-    (omega arith, first_next _ _ _ _ _ at-loop.loop.invariant.1 (omega (arith, s.requires.2, c.before.before.loop-test.true)) (is c))
+    let at_loop = c.before.before.before in
+    (omega arith, first_next _ _ _ _ _ at_loop.loop.invariant.1 (omega (arith, s.requires.2, c.before.before.loop-test.true)) (is c))
 
 same_length : tie.Need-same-length invariant-loop decreases-loop
 same_length c = c.before.loop.invariant.1.long
@@ -93,8 +93,8 @@ returns c =
     let past : c.before.loop.i ≡ c.before.before.before.args.s.states = omega arith in
     rw past at c.before.loop.invariant.1
 
-pub write-numbers-spec : {M : Type 1} → statement M
-write-numbers-spec =
+pub write_numbers_spec : {M : Type 1} → statement M
+write_numbers_spec =
     tie.close
     (tie.spec
     invariant-loop

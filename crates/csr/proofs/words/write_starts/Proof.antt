@@ -3,7 +3,7 @@ use mathlib.Core.Path.{◌≡◌, refl, sym, ap, ◌∙◌}
 use native.Mathlib.Omega.{arith}
 use lib.ListN.{get_or, length, length-set}
 use Rattle.csr.specs.Words.{upper, begins, FirstWords}
-use Rattle.csr.proofs.FirstWords.{none_first, first_next, begins-next, begins-rise}
+use Rattle.csr.proofs.FirstWords.{none_first, first_next, begins_next, begins_rise}
 use borrow.Author.Rules.{rules}
 use Rattle.csr.proofs.words.write_starts.Statement.{statement}
 use Rattle.csr.proofs.words.write_starts.Tie as tie
@@ -21,8 +21,8 @@ inside : (c : Turn) → c.before.before.loop.i < length c.before.before.loop.wor
 inside c = omega (arith, c.before.before.loop.invariant.2.long, c.before.before.before.requires.0, c.before.loop-test.true)
 
 -- the length that is read
-count-is : (c : Turn) → get_or c.before.before.loop.words c.before.before.loop.i 0 / 1048576 ≡ upper c.before.before.before.args.words.now c.before.before.loop.i
-count-is c = ap (λ x. x / 1048576) (c.before.before.loop.invariant.2.rest c.before.before.loop.i (omega arith))
+count_is : (c : Turn) → get_or c.before.before.loop.words c.before.before.loop.i 0 / 1048576 ≡ upper c.before.before.before.args.words.now c.before.before.loop.i
+count_is c = ap (λ x. x / 1048576) (c.before.before.loop.invariant.2.rest c.before.before.loop.i (omega arith))
 
 loop-holds : tie.Need-loop-init invariant-loop decreases-loop
 unfolding begins
@@ -42,13 +42,13 @@ slice-write-words c = inside c
 
 add_at : tie.Need-overflow-add-at invariant-loop decreases-loop
 add_at c =
-    let at-loop = c.before.before in
-    let s = at-loop.before in
+    let at_loop = c.before.before in
+    let s = at_loop.before in
     let few = s.requires.1 in
-    let rise = begins-rise (upper s.args.words.now) (at-loop.loop.i + 1) s.args.n (omega (arith, c.before.loop-test.true)) in
-    let next = begins-next (upper s.args.words.now) at-loop.loop.i in
-    let told = count-is c in
-    let start = at-loop.loop.invariant.1 in
+    let rise = begins_rise (upper s.args.words.now) (at_loop.loop.i + 1) s.args.n (omega (arith, c.before.loop-test.true)) in
+    let next = begins_next (upper s.args.words.now) at_loop.loop.i in
+    let told = count_is c in
+    let start = at_loop.loop.invariant.1 in
     record { fits = omega arith }
 
 add-i : tie.Need-overflow-add-i invariant-loop decreases-loop
@@ -59,11 +59,11 @@ loop-less c = search rules
 
 loop-again : tie.Need-loop-preserved invariant-loop decreases-loop
 loop-again c =
-    let at-loop = c.before.before in
-    let s = at-loop.before in (
+    let at_loop = c.before.before in
+    let s = at_loop.before in (
       omega arith,
-      omega (arith, count-is c, at-loop.loop.invariant.1, begins-next (upper s.args.words.now) at-loop.loop.i),
-      first_next _ _ _ _ _ at-loop.loop.invariant.2 (omega (arith, s.requires.0, c.before.loop-test.true)) at-loop.loop.invariant.1,
+      omega (arith, count_is c, at_loop.loop.invariant.1, begins_next (upper s.args.words.now) at_loop.loop.i),
+      first_next _ _ _ _ _ at_loop.loop.invariant.2 (omega (arith, s.requires.0, c.before.loop-test.true)) at_loop.loop.invariant.1,
     )
 
 mul-words-2 : tie.Need-overflow-mul-words-2 invariant-loop decreases-loop
@@ -80,8 +80,8 @@ returns c =
     let past : c.before.loop.i ≡ c.before.before.args.n = omega arith in
     first_next _ _ _ _ _ (rw past at c.before.loop.invariant.2) c.before.before.requires.0 (rw past at c.before.loop.invariant.1)
 
-pub write-starts-spec : {M : Type 1} → statement M
-write-starts-spec =
+pub write_starts_spec : {M : Type 1} → statement M
+write_starts_spec =
     tie.close
     (tie.spec
     invariant-loop

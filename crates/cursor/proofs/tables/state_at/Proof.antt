@@ -1,9 +1,9 @@
 use mathlib.Core.Path.{ap, ◌∙◌}
 use lib.ListN.{length}
 use lib.Seq.{take_at}
-use Rattle.walker.specs.Tables.{states-of}
-use Rattle.walker.proofs.Fitting.{begin-part}
-use Rattle.cursor.proofs.Cursors.{anew-long}
+use Rattle.walker.specs.Tables.{states_of}
+use Rattle.walker.proofs.Fitting.{begin_part}
+use Rattle.cursor.proofs.Cursors.{anew_long}
 use borrow.Author.Rules.{rules}
 use Rattle.cursor.proofs.tables.state_at.Statement.{statement}
 use Rattle.cursor.proofs.tables.state_at.Tie as tie
@@ -17,21 +17,21 @@ part-space-start c = search rules
 part-space-end : tie.Need-slice-bounds-space-end
 part-space-end c = search rules
 
-find-state-requires : tie.Need-find-state-requires
-unfolding states-of
-find-state-requires c κs =
+find_state-requires : tie.Need-find_state-requires
+unfolding states_of
+find_state-requires c κs =
     let s = c.before.before.before.before.before.before.before in
-    rw (begin-part s.args.t1) (s.requires.0.walkable, rw s.requires.0.sized s.requires.1)
+    rw (begin_part s.args.t1) (s.requires.0.walkable, rw s.requires.0.sized s.requires.1)
 
 returns : tie.Need-returns
-unfolding states-of
+unfolding states_of
 returns c =
     let s = c.before.before.before.before.before.before.before.before.before in
     let w = s.args.t1 in
-    let found = c.before.find-state in
-    let long = found.auto.0 ∙ ap length (begin-part w) ∙ s.requires.0.sized in
-    (anew-long found.new.0 w.first w.n_edges long s.requires.0.edges s.requires.0.space, take_at found.new.0 _ w.n_edges long ∙ (rw (begin-part w, s.requires.0.sized) at found.ensures))
+    let found = c.before.find_state in
+    let long = found.auto.0 ∙ ap length (begin_part w) ∙ s.requires.0.sized in
+    (anew_long found.new.0 w.first w.n_edges long s.requires.0.edges s.requires.0.space, take_at found.new.0 _ w.n_edges long ∙ (rw (begin_part w, s.requires.0.sized) at found.ensures))
 
-pub state-at-spec : {M : Type 1} → statement M
-state-at-spec =
-    tie.close (tie.spec sub-config part-space-start part-space-end find-state-requires returns)
+pub state_at_spec : {M : Type 1} → statement M
+state_at_spec =
+    tie.close (tie.spec sub-config part-space-start part-space-end find_state-requires returns)

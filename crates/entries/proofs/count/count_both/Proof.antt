@@ -2,7 +2,7 @@ use Prim.Native.Nat.{◌+◌}
 use mathlib.Core.Bool.{cond}
 use mathlib.Core.Path.{ap, ap₂, ◌∙◌}
 use native.Mathlib.Omega.{arith}
-use Rattle.entries.specs.Count.{both-stay}
+use Rattle.entries.specs.Count.{both_stay}
 use borrow.Author.Rules.{rules}
 use Rattle.entries.proofs.count.count_both.Statement.{statement}
 use Rattle.entries.proofs.count.count_both.Tie as tie
@@ -23,14 +23,14 @@ add-result : tie.Need-overflow-add-result
 add-result c = search rules
 
 returns : tie.Need-returns
-unfolding both-stay
+unfolding both_stay
 returns c =
     let forward = c.before.before in (
       ap₂ (λ a b. a + b) (forward.one.ensures.0 ∙ ap (λ b. cond b 1 0) forward.before.stays.ensures) (c.one2.ensures.0 ∙ ap (λ b. cond b 1 0) c.before.stays2.ensures),
       omega (arith, forward.one.ensures.1, c.one2.ensures.1),
     )
 
-pub count-both-spec : {M : Type 1} → statement M
-count-both-spec =
+pub count_both_spec : {M : Type 1} → statement M
+count_both_spec =
     tie.close
     (tie.spec stays-requires one-requires stays-requires-2 one-requires-2 add-result returns)

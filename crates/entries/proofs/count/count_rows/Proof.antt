@@ -1,5 +1,5 @@
-use Rattle.walker.specs.Tables.{states-of}
-use Rattle.walker.proofs.Fitting.{begin-part}
+use Rattle.walker.specs.Tables.{states_of}
+use Rattle.walker.proofs.Fitting.{begin_part}
 use borrow.Author.Rules.{rules}
 use Rattle.entries.proofs.count.count_rows.Statement.{statement}
 use Rattle.entries.proofs.count.count_rows.Tie as tie
@@ -13,18 +13,18 @@ part-space-start c = search rules
 part-space-end : tie.Need-slice-bounds-space-end
 part-space-end c = search rules
 
-count-walked-requires : tie.Need-count-walked-requires
-unfolding states-of
-count-walked-requires c κs =
+count_walked-requires : tie.Need-count_walked-requires
+unfolding states_of
+count_walked-requires c κs =
     let s = c.before.before.before.before.before.before.before in
-    rw (begin-part s.args.t1, s.requires.0.sized) (s.requires.0.walkable, s.requires.1)
+    rw (begin_part s.args.t1, s.requires.0.sized) (s.requires.0.walkable, s.requires.1)
 
 returns : tie.Need-returns
-unfolding states-of
+unfolding states_of
 returns c =
     let s = c.before.before.before.before.before.before.before.before.before in
-    rw (begin-part s.args.t1, s.requires.0.sized) at c.before.count-walked.ensures
+    rw (begin_part s.args.t1, s.requires.0.sized) at c.before.count_walked.ensures
 
-pub count-rows-spec : {M : Type 1} → statement M
-count-rows-spec =
-    tie.close (tie.spec sub-config part-space-start part-space-end count-walked-requires returns)
+pub count_rows_spec : {M : Type 1} → statement M
+count_rows_spec =
+    tie.close (tie.spec sub-config part-space-start part-space-end count_walked-requires returns)

@@ -7,25 +7,25 @@ use lib.IntN.{ℤ}
 use lib.ListN.{get_or, length, take}
 use lib.Seq.{length-take-le, take_all}
 use Rattle.cycles.specs.Cycles.{row}
-use Rattle.walker.specs.Walker.{walked-states}
-use Rattle.cursor.specs.Cursor.{states-from, state-here, Standing, CursorAt}
-use Rattle.cursor.proofs.Cursors.{few-states, row-ready, row_is}
-use Rattle.cursor.proofs.Numbers.{at_first, at-end, at-state}
-use Rattle.entries.specs.Count.{over-states, row-entries, Countable}
-use Rattle.entries.proofs.Counted.{over-next, over_none}
-use Rattle.entries.proofs.Counting.{same-countable}
+use Rattle.walker.specs.Walker.{walked_states}
+use Rattle.cursor.specs.Cursor.{states_from, state_here, Standing, CursorAt}
+use Rattle.cursor.proofs.Cursors.{few_states, row_ready, row_is}
+use Rattle.cursor.proofs.Numbers.{at_first, at_end, at_state}
+use Rattle.entries.specs.Count.{over_states, row_entries, Countable}
+use Rattle.entries.proofs.Counted.{over_next, over_none}
+use Rattle.entries.proofs.Counting.{same_countable}
 use borrow.Author.Rules.{rules}
 use Rattle.entries.proofs.count.count_walked.Statement.{statement}
 use Rattle.entries.proofs.count.count_walked.Tie as tie
 
 abbrev invariant-loop : tie.invariant-loop
-invariant-loop config₀ free n-free cycles lambda blocks all n m state₀ total₀ here₀ config state total here =
-    (length config ≡ length config₀) × (length state ≡ length config₀) × Standing free cycles lambda n-free config here × CursorAt free cycles lambda n-free (states-from free cycles lambda n-free config₀ here₀) config here
-    × (total ≡ over-states (row-entries lambda all n) (take here.number (states-from free cycles lambda n-free config₀ here₀))) × (total ≤ 513 * here.number)
+invariant-loop config₀ free n_free cycles lambda blocks all n m state₀ total₀ here₀ config state total here =
+    (length config ≡ length config₀) × (length state ≡ length config₀) × Standing free cycles lambda n_free config here × CursorAt free cycles lambda n_free (states_from free cycles lambda n_free config₀ here₀) config here
+    × (total ≡ over_states (row_entries lambda all n) (take here.number (states_from free cycles lambda n_free config₀ here₀))) × (total ≤ 513 * here.number)
 
 abbrev decreases-loop : tie.decreases-loop
-decreases-loop config₀ free n-free cycles lambda blocks all n m state₀ total₀ here₀ config state total here =
-    length (states-from free cycles lambda n-free config here)
+decreases-loop config₀ free n_free cycles lambda blocks all n m state₀ total₀ here₀ config state total here =
+    length (states_from free cycles lambda n_free config here)
 
 abbrev Loop : Type 0
 Loop = tie.At-loop invariant-loop decreases-loop
@@ -37,22 +37,22 @@ start c = c.before.before.before.before.before
 abbrev whole : Loop → List (List ℤ)
 whole c =
     let s = (start c).args in
-    let first = c.before.before.first-state in
-    states-from s.free.now s.cycles.now s.lambda s.n-free first.new.0 first.result
+    let first = c.before.before.first_state in
+    states_from s.free.now s.cycles.now s.lambda s.n_free first.new.0 first.result
 
 abbrev listed : Loop → List (List ℤ)
 listed c =
     let s = (start c).args in
-    walked-states s.free.now (row (length s.config.now) s.cycles.now) s.lambda s.n-free s.config.now s.blocks
+    walked_states s.free.now (row (length s.config.now) s.cycles.now) s.lambda s.n_free s.config.now s.blocks
 
 whole_is : (c : Loop) → whole c ≡ listed c
-whole_is c = c.before.before.first-state.ensures.states
+whole_is c = c.before.before.first_state.ensures.states
 
 -- the cursor's state is that with its number
-here-is : (c : Loop) → 0 < c.loop.here.left → (c.loop.here.number < length (whole c)) × (state-here (start c).args.cycles.now c.loop.config c.loop.here ≡ get_or (whole c) c.loop.here.number [])
-here-is c some =
+here_is : (c : Loop) → 0 < c.loop.here.left → (c.loop.here.number < length (whole c)) × (state_here (start c).args.cycles.now c.loop.config c.loop.here ≡ get_or (whole c) c.loop.here.number [])
+here_is c some =
     let s = (start c).args in
-    at-state s.free.now s.cycles.now s.lambda s.n-free (whole c) c.loop.config c.loop.here c.loop.invariant.3 c.loop.invariant.2 some
+    at_state s.free.now s.cycles.now s.lambda s.n_free (whole c) c.loop.config c.loop.here c.loop.invariant.3 c.loop.invariant.2 some
 
 sub-state : tie.Need-overflow-sub-state invariant-loop decreases-loop
 sub-state c = search rules
@@ -63,25 +63,25 @@ part-space-start c = search rules
 part-space-end : tie.Need-slice-bounds-space-end invariant-loop decreases-loop
 part-space-end c = search rules
 
-first-state-requires : tie.Need-first-state-requires invariant-loop decreases-loop
-first-state-requires c κs =
+first_state-requires : tie.Need-first_state-requires invariant-loop decreases-loop
+first_state-requires c κs =
     let s = c.before.before in
     let a = s.args in
-    (s.requires.0, few-states a.free.now a.cycles.now a.lambda a.n-free a.config.now a.blocks s.requires.0)
+    (s.requires.0, few_states a.free.now a.cycles.now a.lambda a.n_free a.config.now a.blocks s.requires.0)
 
 loop-holds : tie.Need-loop-init invariant-loop decreases-loop
 loop-holds c =
     let s = c.before.before.before.before in
     let a = s.args in
-    let first = c.before.first-state in
-    let few = s.requires.0.cycles-fit.edges_few in
+    let first = c.before.first_state in
+    let few = s.requires.0.cycles_fit.edges_few in
     let inside : length a.config.now - 0 ≤ 63 = omega arith in
-    let all = states-from a.free.now a.cycles.now a.lambda a.n-free first.new.0 first.result in (
+    let all = states_from a.free.now a.cycles.now a.lambda a.n_free first.new.0 first.result in (
       refl,
       length-take-le _ _ inside ∙ sub-zero (length a.config.now) ∙ sym first.auto.0,
       first.ensures.standing,
-      at_first a.free.now a.cycles.now a.lambda a.n-free _ first.new.0 first.result refl first.ensures.numbered,
-      over_none _ ∙ ap (λ k. over-states (row-entries a.lambda a.all.now a.n) (take k all)) (sym first.ensures.numbered),
+      at_first a.free.now a.cycles.now a.lambda a.n_free _ first.new.0 first.result refl first.ensures.numbered,
+      over_none _ ∙ ap (λ k. over_states (row_entries a.lambda a.all.now a.n) (take k all)) (sym first.ensures.numbered),
       omega arith,
     )
 
@@ -94,72 +94,72 @@ part-fill-row-start c = search rules
 part-fill-row-end : tie.Need-slice-bounds-fill-row-end invariant-loop decreases-loop
 part-fill-row-end c = search rules
 
-fill-row-requires : tie.Need-fill-row-requires invariant-loop decreases-loop
-fill-row-requires c κs =
-    let at-loop = c.before.before.before.before.before in
-    let s = (start at-loop).args in
-    let standing = at-loop.loop.invariant.2 in
+fill_row-requires : tie.Need-fill_row-requires invariant-loop decreases-loop
+fill_row-requires c κs =
+    let at_loop = c.before.before.before.before.before in
+    let s = (start at_loop).args in
+    let standing = at_loop.loop.invariant.2 in
     let few = standing.few in
-    let more : 0 < at-loop.loop.here.left = omega arith in
+    let more : 0 < at_loop.loop.here.left = omega arith in
     let low = standing.some more in
-    (row-ready s.free.now s.cycles.now s.lambda s.n-free at-loop.loop.config _ standing.walkable more, omega arith, at-loop.loop.invariant.1 ∙ sym at-loop.loop.invariant.0)
+    (row_ready s.free.now s.cycles.now s.lambda s.n_free at_loop.loop.config _ standing.walkable more, omega arith, at_loop.loop.invariant.1 ∙ sym at_loop.loop.invariant.0)
 
 abbrev Row : Type 0
-Row = tie.After-fill-row invariant-loop decreases-loop
+Row = tie.After-fill_row invariant-loop decreases-loop
 
-abbrev loop-of : Row → Loop
-loop-of c = c.before.before.before.before.before.before
+abbrev loop_of : Row → Loop
+loop_of c = c.before.before.before.before.before.before
 
-more : (c : Row) → 0 < (loop-of c).loop.here.left
+more : (c : Row) → 0 < (loop_of c).loop.here.left
 more c = omega arith
 
-row_here : (c : Row) → c.fill-row.new.0 ≡ get_or (whole (loop-of c)) (loop-of c).loop.here.number []
+row_here : (c : Row) → c.fill_row.new.0 ≡ get_or (whole (loop_of c)) (loop_of c).loop.here.number []
 row_here c =
-    let at-loop = loop-of c in
-    let s = (start at-loop).args in
-    c.fill-row.ensures ∙ row_is s.free.now s.cycles.now s.lambda s.n-free at-loop.loop.config _ at-loop.loop.inv.2.walkable (more c) at-loop.loop.here.d ∙ (here-is at-loop (more c)).1
+    let at_loop = loop_of c in
+    let s = (start at_loop).args in
+    c.fill_row.ensures ∙ row_is s.free.now s.cycles.now s.lambda s.n_free at_loop.loop.config _ at_loop.loop.inv.2.walkable (more c) at_loop.loop.here.d ∙ (here_is at_loop (more c)).1
 
-row-countable : (c : Row) → Countable (start (loop-of c)).args.lambda c.fill-row.new.0 (start (loop-of c)).args.all.now (start (loop-of c)).args.n
-row-countable c =
-    let at-loop = loop-of c in
-    let number = at-loop.loop.here.number in
-    let there : number < length (listed at-loop) = omega (arith, (here-is at-loop (more c)).0, ap length (whole_is at-loop)) in
-    same-countable _ _ _ _ _ (row_here c ∙ ap (λ l. get_or l number []) (whole_is at-loop)) ((start at-loop).pre.1.each number there)
+row_countable : (c : Row) → Countable (start (loop_of c)).args.lambda c.fill_row.new.0 (start (loop_of c)).args.all.now (start (loop_of c)).args.n
+row_countable c =
+    let at_loop = loop_of c in
+    let number = at_loop.loop.here.number in
+    let there : number < length (listed at_loop) = omega (arith, (here_is at_loop (more c)).0, ap length (whole_is at_loop)) in
+    same_countable _ _ _ _ _ (row_here c ∙ ap (λ l. get_or l number []) (whole_is at_loop)) ((start at_loop).pre.1.each number there)
 
-count-row-requires : tie.Need-count-row-requires invariant-loop decreases-loop
-count-row-requires c κs = row-countable c.before.before
+count_row-requires : tie.Need-count_row-requires invariant-loop decreases-loop
+count_row-requires c κs = row_countable c.before.before
 
 add_total : tie.Need-overflow-add-total invariant-loop decreases-loop
 add_total c =
     let filled = c.before.before.before in
-    let at-loop = loop-of filled in
-    let below = (here-is at-loop (more filled)).0 in
-    let few = (start at-loop).pre.1.few in
-    let bound : at-loop.loop.total + c.count-row.result ≤ 600000000 = omega (arith, below, few, ap length (whole_is at-loop), at-loop.loop.inv.5, c.count-row.ensures.1) in
+    let at_loop = loop_of filled in
+    let below = (here_is at_loop (more filled)).0 in
+    let few = (start at_loop).pre.1.few in
+    let bound : at_loop.loop.total + c.count_row.result ≤ 600000000 = omega (arith, below, few, ap length (whole_is at_loop), at_loop.loop.inv.5, c.count_row.ensures.1) in
     search rules
 
-next-state-requires : tie.Need-next-state-requires invariant-loop decreases-loop
-next-state-requires c κs = search rules
+next_state-requires : tie.Need-next_state-requires invariant-loop decreases-loop
+next_state-requires c κs = search rules
 
 loop-less : tie.Need-loop-smaller invariant-loop decreases-loop
-loop-less c = omega (arith, ap length c.before.next-state.ensures.states)
+loop-less c = omega (arith, ap length c.before.next_state.ensures.states)
 
 loop-again : tie.Need-loop-preserved invariant-loop decreases-loop
 loop-again c =
-    let next = c.before.next-state in
-    let counted = c.before.before.before.count-row in
+    let next = c.before.next_state in
+    let counted = c.before.before.before.count_row in
     let filled = c.before.before.before.before.before.before in
-    let at-loop = loop-of filled in
-    let a = (start at-loop).args in
-    let f = row-entries a.lambda a.all.now a.n in
-    let number = at-loop.loop.here.number in (
-      next.auto.1.0 ∙ at-loop.loop.inv.0,
-      filled.fill-row.auto.0 ∙ at-loop.loop.inv.1,
+    let at_loop = loop_of filled in
+    let a = (start at_loop).args in
+    let f = row_entries a.lambda a.all.now a.n in
+    let number = at_loop.loop.here.number in (
+      next.auto.1.0 ∙ at_loop.loop.inv.0,
+      filled.fill_row.auto.0 ∙ at_loop.loop.inv.1,
       next.ensures.standing,
-      next.ensures.at _ at-loop.loop.inv.3,
-      ap₂ (λ a b. a + b) at-loop.loop.inv.4 (counted.ensures.0 ∙ ap f (row_here filled)) ∙ sym (over-next f (whole at-loop) number (here-is at-loop (more filled)).0)
-          ∙ ap (λ k. over-states f (take k (whole at-loop))) (sym next.ensures.numbered),
-      omega (arith, at-loop.loop.inv.5, counted.ensures.1, next.ensures.numbered),
+      next.ensures.at _ at_loop.loop.inv.3,
+      ap₂ (λ a b. a + b) at_loop.loop.inv.4 (counted.ensures.0 ∙ ap f (row_here filled)) ∙ sym (over_next f (whole at_loop) number (here_is at_loop (more filled)).0)
+          ∙ ap (λ k. over_states f (take k (whole at_loop))) (sym next.ensures.numbered),
+      omega (arith, at_loop.loop.inv.5, counted.ensures.1, next.ensures.numbered),
     )
 
 same_length : tie.Need-same-length invariant-loop decreases-loop
@@ -167,13 +167,13 @@ same_length c = search rules
 
 returns : tie.Need-returns invariant-loop decreases-loop
 returns c =
-    let at-loop = c.before.before.before in
-    let a = (start at-loop).args in
-    let end : at-loop.loop.here.number ≡ length (whole at-loop) = at-end a.free.now a.cycles.now a.lambda a.n-free (whole at-loop) at-loop.loop.config at-loop.loop.here at-loop.loop.invariant.3 (omega arith) in
-    at-loop.loop.invariant.4 ∙ ap (over-states (row-entries a.lambda a.all.now a.n)) (take_all at-loop.loop.here.number (whole at-loop) (omega (arith, end)) ∙ whole_is at-loop)
+    let at_loop = c.before.before.before in
+    let a = (start at_loop).args in
+    let end : at_loop.loop.here.number ≡ length (whole at_loop) = at_end a.free.now a.cycles.now a.lambda a.n_free (whole at_loop) at_loop.loop.config at_loop.loop.here at_loop.loop.invariant.3 (omega arith) in
+    at_loop.loop.invariant.4 ∙ ap (over_states (row_entries a.lambda a.all.now a.n)) (take_all at_loop.loop.here.number (whole at_loop) (omega (arith, end)) ∙ whole_is at_loop)
 
-pub count-walked-spec : {M : Type 1} → statement M
-count-walked-spec =
+pub count_walked_spec : {M : Type 1} → statement M
+count_walked_spec =
     tie.close
     (tie.spec
     invariant-loop
@@ -181,15 +181,15 @@ count-walked-spec =
     sub-state
     part-space-start
     part-space-end
-    first-state-requires
+    first_state-requires
     loop-holds
     sub-fill-row
     part-fill-row-start
     part-fill-row-end
-    fill-row-requires
-    count-row-requires
+    fill_row-requires
+    count_row-requires
     add_total
-    next-state-requires
+    next_state-requires
     loop-less
     loop-again
     same_length

@@ -5,7 +5,7 @@ use lib.IntN.{pos}
 use lib.ListN.{get_or, length, take}
 use Rattle.mathematics.proofs.Signed.{back32}
 use Rattle.matrices.specs.Squares.{squares}
-use Rattle.entries.proofs.Zero.{zero-next, zero-not, zero-all}
+use Rattle.entries.proofs.Zero.{zero_next, zero_not, zero_all}
 use borrow.Author.Rules.{rules}
 use Rattle.entries.proofs.count.is_zero.Statement.{statement}
 use Rattle.entries.proofs.count.is_zero.Tie as tie
@@ -28,9 +28,9 @@ shared-slice-copy-out-x c = search rules
 
 returns : tie.Need-returns invariant-loop decreases-loop
 returns c =
-    let at-loop = c.before.before.before in
-    let s = at-loop.before.args.state.now in
-    zero-not s at-loop.loop.e (omega (arith, c.before.before.loop-test.true)) at-loop.loop.invariant.2 (rw (back32 (get_or s at-loop.loop.e (pos 0)) c.before.x.given) at c.if1.true)
+    let at_loop = c.before.before.before in
+    let s = at_loop.before.args.state.now in
+    zero_not s at_loop.loop.e (omega (arith, c.before.before.loop-test.true)) at_loop.loop.invariant.2 (rw (back32 (get_or s at_loop.loop.e (pos 0)) c.before.x.given) at c.if1.true)
 
 add-e : tie.Need-overflow-add-e invariant-loop decreases-loop
 add-e c = search rules
@@ -40,18 +40,18 @@ loop-less c = search rules
 
 loop-again : tie.Need-loop-preserved invariant-loop decreases-loop
 loop-again c =
-    let at-loop = c.before.before.before in
-    let s = at-loop.before.args.state.now in (
+    let at_loop = c.before.before.before in
+    let s = at_loop.before.args.state.now in (
       omega arith,
       refl,
-      zero-next s at-loop.loop.e (omega (arith, c.before.before.loop-test.true)) at-loop.loop.invariant.2 (rw (back32 (get_or s at-loop.loop.e (pos 0)) c.before.x.given) at c.if1.false),
+      zero_next s at_loop.loop.e (omega (arith, c.before.before.loop-test.true)) at_loop.loop.invariant.2 (rw (back32 (get_or s at_loop.loop.e (pos 0)) c.before.x.given) at c.if1.false),
     )
 
 returns-2 : tie.Need-returns-2 invariant-loop decreases-loop
-returns-2 c = zero-all _ c.before.loop.e (omega arith) c.before.loop.invariant.2
+returns-2 c = zero_all _ c.before.loop.e (omega arith) c.before.loop.invariant.2
 
-pub is-zero-spec : {M : Type 1} → statement M
-is-zero-spec =
+pub is_zero_spec : {M : Type 1} → statement M
+is_zero_spec =
     tie.close
     (tie.spec
     invariant-loop

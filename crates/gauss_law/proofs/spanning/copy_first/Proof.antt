@@ -21,8 +21,8 @@ loop-holds c = (omega arith, refl, refl)
 element-copy-out-u8-to-u32 : tie.Need-element-copy-out-u8-to-u32 invariant-loop decreases-loop
 element-copy-out-u8-to-u32 c = search rules
 
-u8-to-u32-requires : tie.Need-u8-to-u32-requires invariant-loop decreases-loop
-u8-to-u32-requires c κs = tt
+u8_to_u32-requires : tie.Need-u8_to_u32-requires invariant-loop decreases-loop
+u8_to_u32-requires c κs = tt
 
 mul-to : tie.Need-overflow-mul-to invariant-loop decreases-loop
 mul-to c = search rules
@@ -38,14 +38,14 @@ loop-less c = search rules
 
 loop-again : tie.Need-loop-preserved invariant-loop decreases-loop
 loop-again c =
-    let at-loop = c.before.before.before in
-    let from = at-loop.before.before.args.from.now in
-    let to = at-loop.before.before.args.to.now in
-    let i = at-loop.loop.i in
+    let at_loop = c.before.before.before in
+    let from = at_loop.before.before.args.from.now in
+    let to = at_loop.before.before.args.to.now in
+    let i = at_loop.loop.i in
     let here : i < length from = omega arith in
     let room : i < length to = omega arith in
     let full : length (take i from) ≡ i = length-take-le i from (omega arith) in
-    (omega arith, simp length-set at-loop.loop.invariant.1, rw (at-loop.loop.invariant.2, c.u8-to-u32.ensures, take_next from i 0 here) (store (take i from) to i (get_or from i 0) 0 full room))
+    (omega arith, simp length-set at_loop.loop.invariant.1, rw (at_loop.loop.invariant.2, c.u8_to_u32.ensures, take_next from i 0 here) (store (take i from) to i (get_or from i 0) 0 full room))
 
 same_length : tie.Need-same-length invariant-loop decreases-loop
 same_length c = search rules
@@ -55,15 +55,15 @@ returns c =
     let past : c.before.loop.i ≡ c.before.before.before.args.count = omega arith in
     rw past at c.before.loop.invariant.2
 
-pub copy-first-spec : {M : Type 1} → statement M
-copy-first-spec =
+pub copy_first_spec : {M : Type 1} → statement M
+copy_first_spec =
     tie.close
     (tie.spec
     invariant-loop
     decreases-loop
     loop-holds
     element-copy-out-u8-to-u32
-    u8-to-u32-requires
+    u8_to_u32-requires
     mul-to
     slice-write-to
     add-i

@@ -1,17 +1,17 @@
-use Rattle.gauss_law.proofs.Spanned.{spanned-numbered, spanned-edges, spanned-free}
+use Rattle.gauss_law.proofs.Spanned.{spanned_numbered, spanned_edges, spanned_free}
 use Rattle.gauss_law.proofs.spanning.free_edges.Statement.{statement}
 use Rattle.gauss_law.proofs.spanning.free_edges.Tie as tie
 
-tree-flags-requires : tie.Need-tree-flags-requires
-tree-flags-requires c κs =
+tree_flags-requires : tie.Need-tree_flags-requires
+tree_flags-requires c κs =
     let start = c.before.before in
-    (start.requires.searched.fits.tree-long, start.requires.searched.fits.room, spanned-numbered _ _ start.requires)
+    (start.requires.searched.fits.tree_long, start.requires.searched.fits.room, spanned_numbered _ _ start.requires)
 
 unflagged-requires : tie.Need-unflagged-requires
-unflagged-requires c κs = spanned-edges _ _ c.before.before.before.before.requires
+unflagged-requires c κs = spanned_edges _ _ c.before.before.before.before.requires
 
 returns : tie.Need-returns
-returns c = spanned-free _ _ c.before.before.before.before.before.requires _ _ c.before.before.tree-flags.ensures c.unflagged.ensures
+returns c = spanned_free _ _ c.before.before.before.before.before.requires _ _ c.before.before.tree_flags.ensures c.unflagged.ensures
 
-pub free-edges-spec : {M : Type 1} → statement M
-free-edges-spec = tie.close (tie.spec tree-flags-requires unflagged-requires returns)
+pub free_edges_spec : {M : Type 1} → statement M
+free_edges_spec = tie.close (tie.spec tree_flags-requires unflagged-requires returns)

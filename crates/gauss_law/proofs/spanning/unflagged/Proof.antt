@@ -3,7 +3,7 @@ use mathlib.Core.Path.{◌≡◌}
 use native.Mathlib.Omega.{arith}
 use borrow.Author.Rules.{rules}
 use Rattle.gauss_law.specs.Spanning.{Unflagged}
-use Rattle.gauss_law.proofs.Spanned.{none-unflagged}
+use Rattle.gauss_law.proofs.Spanned.{none_unflagged}
 use Rattle.gauss_law.proofs.spanning.unflagged.Statement.{statement}
 use Rattle.gauss_law.proofs.spanning.unflagged.Tie as tie
 
@@ -14,10 +14,10 @@ abbrev decreases-loop : tie.decreases-loop
 decreases-loop flags n-edges free₀ e₀ free e = n-edges - e
 
 loop-holds : tie.Need-loop-init invariant-loop decreases-loop
-loop-holds c = (omega arith, none-unflagged _)
+loop-holds c = (omega arith, none_unflagged _)
 
-note-free-requires : tie.Need-note-free-requires invariant-loop decreases-loop
-note-free-requires c κs = (omega arith, c.before.loop.invariant.1)
+note_free-requires : tie.Need-note_free-requires invariant-loop decreases-loop
+note_free-requires c κs = (omega arith, c.before.loop.invariant.1)
 
 add-e : tie.Need-overflow-add-e invariant-loop decreases-loop
 add-e c = search rules
@@ -26,14 +26,14 @@ loop-less : tie.Need-loop-smaller invariant-loop decreases-loop
 loop-less c = search rules
 
 loop-again : tie.Need-loop-preserved invariant-loop decreases-loop
-loop-again c = (omega arith, c.note-free.ensures)
+loop-again c = (omega arith, c.note_free.ensures)
 
 returns : tie.Need-returns invariant-loop decreases-loop
 returns c =
     let past : c.before.loop.e ≡ c.before.before.args.n-edges = omega arith in
     rw past at c.before.loop.invariant.1
 
-pub unflagged-spec : {M : Type 1} → statement M
-unflagged-spec =
+pub unflagged_spec : {M : Type 1} → statement M
+unflagged_spec =
     tie.close
-    (tie.spec invariant-loop decreases-loop loop-holds note-free-requires add-e loop-less loop-again returns)
+    (tie.spec invariant-loop decreases-loop loop-holds note_free-requires add-e loop-less loop-again returns)

@@ -6,76 +6,76 @@ use borrow.Author.Tests.{ne_eqb, ltb-false}
 use lib.Dec.{ltb}
 use lib.ListN.{length}
 use Rattle.mathematics.specs.Refusals.{first}
-use Rattle.mathematics.proofs.Tests.{or-fell}
+use Rattle.mathematics.proofs.Tests.{or_fell}
 use Rattle.mathematics.proofs.Calls.{none, here, past, refuses, ends, both}
-use Rattle.complex.specs.Complex.{complexOf}
+use Rattle.complex.specs.Complex.{complex_of}
 use Rattle.enumeration.specs.Enumeration.{short, BasisWalks}
 use Rattle.gauss_law.specs.Listing.{states}
-use Rattle.enumeration.proofs.Enumerating.{basis-refuses, past-basis, short-told, basis-written}
-use Rattle.matrices.specs.Coupling.{u1-right}
-use Rattle.matrices.specs.Weights.{weights-tests}
-use Rattle.triangles.proofs.SidesFound.{triangles-long}
-use Rattle.matrices.proofs.Weighing.{weights-fit, weights-refuse, past-weights}
-use Rattle.answers.specs.Answer.{numberAnswer}
-use Rattle.hamiltonian.specs.Dense.{u1-dense-call}
-use Rattle.plaquettes.proofs.Listed.{basis-listed}
+use Rattle.enumeration.proofs.Enumerating.{basis_refuses, past_basis, short_told, basis_written}
+use Rattle.matrices.specs.Coupling.{u1_right}
+use Rattle.matrices.specs.Weights.{weights_tests}
+use Rattle.triangles.proofs.SidesFound.{triangles_long}
+use Rattle.matrices.proofs.Weighing.{weights_fit, weights_refuse, past_weights}
+use Rattle.answers.specs.Answer.{number_answer}
+use Rattle.hamiltonian.specs.Dense.{u1_dense_call}
+use Rattle.plaquettes.proofs.Listed.{basis_listed}
 use borrow.Author.Rules.{rules}
 use Rattle.hamiltonian.proofs.dense.build_hamiltonian.Statement.{statement}
 use Rattle.hamiltonian.proofs.dense.build_hamiltonian.Tie as tie
 
 -- the weights and the coupling are judged by the definition's own tests
-weighed : (c : tie.After-judge-weights) → c.judge-weights.result ≡ first (weights-tests (length (complexOf c.before.before.before.before.before.before.args.c).triangles) (u1-right c.before.before.before.before.before.before.args.p) c.before.before.before.before.before.before.args.given c.before.before.before.before.before.before.args.weights.now)
-weighed c = rw (triangles-long c.before.before.before.before.before.before.args.c, ← c.before.is-u1.ensures) c.judge-weights.ensures
+weighed : (c : tie.After-judge_weights) → c.judge_weights.result ≡ first (weights_tests (length (complex_of c.before.before.before.before.before.before.args.c).triangles) (u1_right c.before.before.before.before.before.before.args.p) c.before.before.before.before.before.before.args.given c.before.before.before.before.before.before.args.weights.now)
+weighed c = rw (triangles_long c.before.before.before.before.before.before.args.c, ← c.before.is_u1.ensures) c.judge_weights.ensures
 
 abbrev start : tie.Else2 → tie.Start
 start c = c.before.before.before.before.before.before.before
 
-basis : (c : tie.Else2) → BasisWalks (complexOf (start c).args.c) (start c).args.lambda c.before.before.before.before.prepare-basis.result.walker c.before.before.before.before.prepare-basis.result.blocks
-basis c = c.before.before.before.before.prepare-basis.ensures.basis c.before.before.before.if1.false
+basis : (c : tie.Else2) → BasisWalks (complex_of (start c).args.c) (start c).args.lambda c.before.before.before.before.prepare_basis.result.walker c.before.before.before.before.prepare_basis.result.blocks
+basis c = c.before.before.before.before.prepare_basis.ensures.basis c.before.before.before.if1.false
 
-right : (c : tie.Else2) → first (weights-tests (length (complexOf (start c).args.c).triangles) (u1-right (start c).args.p) (start c).args.given (start c).args.weights.now) ≡ 0
+right : (c : tie.Else2) → first (weights_tests (length (complex_of (start c).args.c).triangles) (u1_right (start c).args.p) (start c).args.given (start c).args.weights.now) ≡ 0
 right c = sym (weighed c.before) ∙ c.if2.false
 
 abbrev passed : tie.After-struct-known → tie.Else2
 passed c = c.before.before.before
 
-counted : (c : tie.After-struct-known) → c.before.count-states.result ≡ length (states (complexOf (start (passed c)).args.c) (start (passed c)).args.lambda)
-counted c = c.before.count-states.ensures ∙ ap length (basis (passed c)).listed
+counted : (c : tie.After-struct-known) → c.before.count_states.result ≡ length (states (complex_of (start (passed c)).args.c) (start (passed c)).args.lambda)
+counted c = c.before.count_states.ensures ∙ ap length (basis (passed c)).listed
 
 -- the sizes of the two lists are numbers of the machine
-sizes : (c : tie.After-struct-known) → (c.before.count-states.result * (passed c).before.before.before.before.prepare-basis.result.walker.n_edges ≤ 1048576 * 63) × (c.before.count-states.result * c.before.count-states.result ≤ 1048576 * 1048576)
+sizes : (c : tie.After-struct-known) → (c.before.count_states.result * (passed c).before.before.before.before.prepare_basis.result.walker.n_edges ≤ 1048576 * 63) × (c.before.count_states.result * c.before.count_states.result ≤ 1048576 * 1048576)
 sizes c =
     let b = basis (passed c) in
-    let few : c.before.count-states.result ≤ 1048576 = rw (counted c) b.few in
+    let few : c.before.count_states.result ≤ 1048576 = rw (counted c) b.few in
     (mul-le-mul few b.fit.edges, mul-le-mul few few)
 
 -- the test of the room is that of the basis and of the matrix
 no_room : (c : tie.After-struct-known)
-    → (short (complexOf (start (passed c)).args.c) (start (passed c)).args.lambda (length (start (passed c)).args.states.now) || ltb (length (start (passed c)).args.res.now) (length (states (complexOf (start (passed c)).args.c) (start (passed c)).args.lambda) * length (states (complexOf (start (passed c)).args.c) (start (passed c)).args.lambda)))
-    ≡ (ltb (length (start (passed c)).args.states.now) (c.before.count-states.result * (passed c).before.before.before.before.prepare-basis.result.walker.n_edges) || ltb (length (start (passed c)).args.res.now) (c.before.count-states.result * c.before.count-states.result))
-no_room c = rw (short-told _ _ _ _ (basis (passed c)) (length (start (passed c)).args.states.now), ← c.before.count-states.ensures, ← (counted c))
+    → (short (complex_of (start (passed c)).args.c) (start (passed c)).args.lambda (length (start (passed c)).args.states.now) || ltb (length (start (passed c)).args.res.now) (length (states (complex_of (start (passed c)).args.c) (start (passed c)).args.lambda) * length (states (complex_of (start (passed c)).args.c) (start (passed c)).args.lambda)))
+    ≡ (ltb (length (start (passed c)).args.states.now) (c.before.count_states.result * (passed c).before.before.before.before.prepare_basis.result.walker.n_edges) || ltb (length (start (passed c)).args.res.now) (c.before.count_states.result * c.before.count_states.result))
+no_room c = rw (short_told _ _ _ _ (basis (passed c)) (length (start (passed c)).args.states.now), ← c.before.count_states.ensures, ← (counted c))
 
-prepare-basis-requires : tie.Need-prepare-basis-requires
-prepare-basis-requires c κs = search rules
+prepare_basis-requires : tie.Need-prepare_basis-requires
+prepare_basis-requires c κs = search rules
 
 returns : tie.Need-returns
-unfolding u1-dense-call numberAnswer
-returns c = refuses _ (basis-refuses c.before.prepare-basis.ensures c.if1.true _) (ne_eqb _ 0 c.if1.true)
+unfolding u1_dense_call number_answer
+returns c = refuses _ (basis_refuses c.before.prepare_basis.ensures c.if1.true _) (ne_eqb _ 0 c.if1.true)
 
-is-u1-requires : tie.Need-is-u1-requires
-is-u1-requires c κs = search rules
+is_u1-requires : tie.Need-is_u1-requires
+is_u1-requires c κs = search rules
 
-judge-weights-requires : tie.Need-judge-weights-requires
-judge-weights-requires c κs = search rules
+judge_weights-requires : tie.Need-judge_weights-requires
+judge_weights-requires c κs = search rules
 
 returns-2 : tie.Need-returns-2
-unfolding u1-dense-call numberAnswer
+unfolding u1_dense_call number_answer
 returns-2 c =
     let judged = c.before.before.before in
-    refuses _ (past-basis judged.before.prepare-basis.ensures judged.if1.false (weights-refuse _ _ _ _ (weighed c.before) c.if2.true _)) (ne_eqb _ 0 c.if2.true)
+    refuses _ (past_basis judged.before.prepare_basis.ensures judged.if1.false (weights_refuse _ _ _ _ (weighed c.before) c.if2.true _)) (ne_eqb _ 0 c.if2.true)
 
-count-states-requires : tie.Need-count-states-requires
-count-states-requires c κs = (basis c.before).fit
+count_states-requires : tie.Need-count_states-requires
+count_states-requires c κs = (basis c.before).fit
 
 mul-if3 : tie.Need-overflow-mul-if3
 mul-if3 c = let h = sizes c in search rules
@@ -84,32 +84,32 @@ mul-if3-2 : tie.Need-overflow-mul-if3-2
 mul-if3-2 c = let h = sizes c in search rules
 
 returns-3 : tie.Need-returns-3
-unfolding u1-dense-call numberAnswer
+unfolding u1_dense_call number_answer
 returns-3 c =
     let judged = passed c.before in
-    refuses _ (past-basis judged.before.before.before.before.prepare-basis.ensures judged.before.before.before.if1.left (past-weights _ _ _ _ (right judged) (here (no_room c.before ∙ c.if3.true)))) refl
+    refuses _ (past_basis judged.before.before.before.before.prepare_basis.ensures judged.before.before.before.if1.left (past_weights _ _ _ _ (right judged) (here (no_room c.before ∙ c.if3.true)))) refl
 
 -- both lists are long enough
-room : (c : tie.Else3) → (c.before.before.count-states.result * (passed c.before).before.before.before.before.prepare-basis.result.walker.n_edges ≤ length (start (passed c.before)).args.states.now) × (c.before.before.count-states.result * c.before.before.count-states.result ≤ length (start (passed c.before)).args.res.now)
+room : (c : tie.Else3) → (c.before.before.count_states.result * (passed c.before).before.before.before.before.prepare_basis.result.walker.n_edges ≤ length (start (passed c.before)).args.states.now) × (c.before.before.count_states.result * c.before.before.count_states.result ≤ length (start (passed c.before)).args.res.now)
 room c =
-    let fell = or-fell _ _ c.if3.false in
+    let fell = or_fell _ _ c.if3.false in
     (ltb-false _ _ fell.0, ltb-false _ _ fell.1)
 
-write-states-requires : tie.Need-write-states-requires
-write-states-requires c κs = let enough = c.before in ((basis (passed enough.before)).fit, rw (← enough.before.before.count-states.ensures) (room enough).0)
+write_states-requires : tie.Need-write_states-requires
+write_states-requires c κs = let enough = c.before in ((basis (passed enough.before)).fit, rw (← enough.before.before.count_states.ensures) (room enough).0)
 
 -- as many states were written as were counted
-number : (c : tie.After-write-states) → c.write-states.result ≡ c.before.before.before.before.count-states.result
-number c = c.write-states.ensures.count ∙ sym c.before.before.before.before.count-states.ensures
+number : (c : tie.After-write_states) → c.write_states.result ≡ c.before.before.before.before.count_states.result
+number c = c.write_states.ensures.count ∙ sym c.before.before.before.before.count_states.ensures
 
-write-dense-requires : tie.Need-write-dense-requires
-write-dense-requires c κs =
+write_dense-requires : tie.Need-write_dense-requires
+write_dense-requires c κs =
     let listed = c.before.before.before in
     let enough = listed.before.before in
     let here = passed enough.before in (
       _,
-      basis-listed _ _ _ _ (basis here) _ _ _ listed.write-states.ensures _ refl,
-      weights-fit _ _ _ _ (right here),
+      basis_listed _ _ _ _ (basis here) _ _ _ listed.write_states.ensures _ refl,
+      weights_fit _ _ _ _ (right here),
       rw (number listed) (room enough).1,
     )
 
@@ -120,30 +120,30 @@ same-length-2 : tie.Need-same-length-2
 same-length-2 c = search rules
 
 returns-4 : tie.Need-returns-4
-unfolding u1-dense-call numberAnswer
+unfolding u1_dense_call number_answer
 returns-4 c =
     let listed = c.before.before.before.before.before.before in
     let enough = listed.before.before in
     let judged = passed enough.before in
     let many = counted enough.before in
-    ends _ (past-basis judged.before.before.before.before.prepare-basis.ensures judged.before.before.before.if1.left (past-weights _ _ _ _ (right judged) (past (no_room enough.before ∙ enough.if3.false) none)))
-    many (both (basis-written _ _ _ _ (basis judged) _ _ _ listed.write-states.ensures).1 c.before.before.write-dense.ensures) (basis judged).few
+    ends _ (past_basis judged.before.before.before.before.prepare_basis.ensures judged.before.before.before.if1.left (past_weights _ _ _ _ (right judged) (past (no_room enough.before ∙ enough.if3.false) none)))
+    many (both (basis_written _ _ _ _ (basis judged) _ _ _ listed.write_states.ensures).1 c.before.before.write_dense.ensures) (basis judged).few
 
-pub build-hamiltonian-spec : {M : Type 1} → statement M
-build-hamiltonian-spec =
+pub build_hamiltonian_spec : {M : Type 1} → statement M
+build_hamiltonian_spec =
     tie.close
     (tie.spec
-    prepare-basis-requires
+    prepare_basis-requires
     returns
-    is-u1-requires
-    judge-weights-requires
+    is_u1-requires
+    judge_weights-requires
     returns-2
-    count-states-requires
+    count_states-requires
     mul-if3
     mul-if3-2
     returns-3
-    write-states-requires
-    write-dense-requires
+    write_states-requires
+    write_dense-requires
     same_length
     same-length-2
     returns-4)

@@ -6,7 +6,7 @@ use lib.ListN.{length}
 use Rattle.complex.specs.Complex.{Complex}
 use Rattle.plaquettes.specs.Targets.{BasisList}
 use Rattle.triangles.specs.Indices.{SidesOf}
-use Rattle.hamiltonian.proofs.Plaquettes.{Way, hit-below, way-begun, way_on, way-ended}
+use Rattle.hamiltonian.proofs.Plaquettes.{Way, hit_below, way_begun, way_on, way_ended}
 use borrow.Author.Rules.{rules}
 use Rattle.hamiltonian.proofs.walk.add_plaquette.Statement.{statement}
 use Rattle.hamiltonian.proofs.walk.add_plaquette.Tie as tie
@@ -18,16 +18,16 @@ abbrev decreases-loop : tie.decreases-loop
 decreases-loop list s sides x h₀ n from₀ i₀ h from i = s.states - i
 
 loop-holds : tie.Need-loop-init invariant-loop decreases-loop
-loop-holds c = (omega arith, omega arith, refl, λ complex t free basis of. way-begun complex _ _ free basis t _ of _ _)
+loop-holds c = (omega arith, omega arith, refl, λ complex t free basis of. way_begun complex _ _ free basis t _ of _ _)
 
-find-pair-requires : tie.Need-find-pair-requires invariant-loop decreases-loop
-find-pair-requires c κs = search rules
+find_pair-requires : tie.Need-find_pair-requires invariant-loop decreases-loop
+find_pair-requires c κs = search rules
 
-add-hit-requires : tie.Need-add-hit-requires invariant-loop decreases-loop
-add-hit-requires c κs =
-    let at-loop = c.before.before.before in
-    let pre = at-loop.before.before.requires in
-    (pre.0.rows.few, rw at-loop.loop.invariant.2 pre.1, omega arith)
+add_hit-requires : tie.Need-add_hit-requires invariant-loop decreases-loop
+add_hit-requires c κs =
+    let at_loop = c.before.before.before in
+    let pre = at_loop.before.before.requires in
+    (pre.0.rows.few, rw at_loop.loop.invariant.2 pre.1, omega arith)
 
 add-i : tie.Need-overflow-add-i invariant-loop decreases-loop
 add-i c = search rules
@@ -38,13 +38,13 @@ loop-less c = search rules
 loop-again : tie.Need-loop-preserved invariant-loop decreases-loop
 loop-again c =
     let made = c.before.before in
-    let at-loop = made.before.before.before.before in
-    let s = at-loop.before.before in (
+    let at_loop = made.before.before.before.before in
+    let s = at_loop.before.before in (
       omega arith,
-      hit-below _ _ _ _ _ _ _ _ made.add-hit.ensures at-loop.loop.invariant.1,
-      made.add-hit.auto.0 ∙ at-loop.loop.invariant.2,
+      hit_below _ _ _ _ _ _ _ _ made.add_hit.ensures at_loop.loop.invariant.1,
+      made.add_hit.auto.0 ∙ at_loop.loop.invariant.2,
       λ complex t free basis of.
-          way_on complex _ _ free basis t _ of _ _ at-loop.loop.i (omega arith) at-loop.loop.from _ (at-loop.loop.invariant.3 complex t free basis of) _ made.before.before.find-pair.ensures s.requires.1 _ _ made.add-hit.ensures,
+          way_on complex _ _ free basis t _ of _ _ at_loop.loop.i (omega arith) at_loop.loop.from _ (at_loop.loop.invariant.3 complex t free basis of) _ made.before.before.find_pair.ensures s.requires.1 _ _ made.add_hit.ensures,
     )
 
 same_length : tie.Need-same-length invariant-loop decreases-loop
@@ -54,17 +54,17 @@ returns : tie.Need-returns invariant-loop decreases-loop
 returns c complex t free basis of =
     let s = c.before.before.before in
     let past : c.before.loop.i ≡ s.args.s.states = omega arith in
-    way-ended complex _ _ free basis t _ of _ _ c.before.loop.from _ (rw past at (c.before.loop.invariant.3 complex t free basis of))
+    way_ended complex _ _ free basis t _ of _ _ c.before.loop.from _ (rw past at (c.before.loop.invariant.3 complex t free basis of))
 
-pub add-plaquette-spec : {M : Type 1} → statement M
-add-plaquette-spec =
+pub add_plaquette_spec : {M : Type 1} → statement M
+add_plaquette_spec =
     tie.close
     (tie.spec
     invariant-loop
     decreases-loop
     loop-holds
-    find-pair-requires
-    add-hit-requires
+    find_pair-requires
+    add_hit-requires
     add-i
     loop-less
     loop-again

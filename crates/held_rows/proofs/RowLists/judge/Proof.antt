@@ -40,11 +40,11 @@ use denote.Exit.{yes}
 use denote.Triple.Clauses.{ensured, lasts}
 use Rattle.mathematics.specs.Calls.{Answered, none_lent}
 use Rattle.matvec.specs.declared.product.Product.{Product}
-use Rattle.matvec.specs.Product.{productAnswer}
+use Rattle.matvec.specs.Product.{product_answer}
 use Rattle.matvec.specs.contracts.product.Product as S
 use Rattle.matvec.proofs.product.Product.TheLaws as S'
 use Rattle.held_rows.specs.declared.RowLists.{RowLists}
-use Rattle.held_rows.specs.Lists.{lists-call}
+use Rattle.held_rows.specs.Lists.{lists_call}
 use Rattle.held_rows.proofs.Record.{Row, Shape, Lawful, Own, Slices, opened}
 use Rattle.held_rows.proofs.RowLists.TheLaws as T'
 use Rattle.held_rows.specs.contracts.judge_lists as callee
@@ -78,7 +78,7 @@ module _ {M : Type 1} {𝓤 : Ura M} (𝓛 : Logic 𝓤) (mem : Memory → SProp
 
   -- what both contracts say of an answer
   abbrev Told : Product → Type 0
-  Told r = Answered (lists-call d.starts.now d.columns.now d.values.now) (productAnswer r) none_lent
+  Told r = Answered (lists_call d.starts.now d.columns.now d.values.now) (product_answer r) none_lent
 
   abbrev Post : Val → SProp 𝓤
   Post = (walk_of 𝓛 judge.ended stayed (judge.clauses 𝓛 mem run)).post ((κs, qs, tt, (d, tt), (mach ∷ [], tt)), tt)
@@ -143,22 +143,22 @@ module _ {M : Type 1} {𝓤 : Ura M} (𝓛 : Logic 𝓤) (mem : Memory → SProp
 module _ {M : Type 1} {𝓤 : Ura M} (𝓛 : Logic 𝓤) (mem : Memory → SProp 𝓤) (run : Routine → Fun 𝓤) where
   open 𝓛 use {H}
 
-  judge-walks : (C : Calls 𝓤 H) (Λ : Loops 𝓤 H) → FmC 𝓤 H 𝓛.laws C → Triple 𝓤 (C #judge-lists) (Judge 𝓛 mem run)
+  judge_walks : (C : Calls 𝓤 H) (Λ : Loops 𝓤 H) → FmC 𝓤 H 𝓛.laws C → Triple 𝓤 (C #judge-lists) (Judge 𝓛 mem run)
       → Walks 𝓛 judge.ended stayed (WpFn 𝓤 H C Λ code.function) (judge.clauses 𝓛 mem run)
-  judge-walks C Λ fm known = walked 𝓛 judge.ended stayed (judge.clauses 𝓛 mem run) (WpFn 𝓤 H C Λ code.function) (λ κs. (LL.vals (Shape 0 κs) (Lawful 0 κs), tt)) (λ κs. (LL.tells (Shape 0 κs) (Lawful 0 κs), tt))
+  judge_walks C Λ fm known = walked 𝓛 judge.ended stayed (judge.clauses 𝓛 mem run) (WpFn 𝓤 H C Λ code.function) (λ κs. (LL.vals (Shape 0 κs) (Lawful 0 κs), tt)) (λ κs. (LL.tells (Shape 0 κs) (Lawful 0 κs), tt))
       (λ κs qs bounds a g are. via 𝓤 _ (fst∗ 𝓤 _ (emp 𝓤)) (walk 𝓛 mem run κs.0 κs.1.0 κs.1.1.0 qs.0 qs.1.0 qs.1.1.0 a.0 C Λ fm known
       ((LL.lawful (Shape 0 κs) (Lawful 0 κs) 𝓛).typed a.0 _ are.0).0))
 
-judge-meets : {M : Type 1} {𝓤 : Ura M} (𝓛 : Logic 𝓤) (mem : Memory → SProp 𝓤) (run : Routine → Fun 𝓤) (𝓣 : Tables 𝓤 𝓛.H)
+judge_meets : {M : Type 1} {𝓤 : Ura M} (𝓛 : Logic 𝓤) (mem : Memory → SProp 𝓤) (run : Routine → Fun 𝓤) (𝓣 : Tables 𝓤 𝓛.H)
     → Triple 𝓤 (𝓣.C #judge-lists) (Judge 𝓛 mem run)
     → Meets 𝓛 judge.signature (WpFn 𝓤 𝓛.H 𝓣.C 𝓣.Λ code.function) (judge.spec 𝓛 mem run)
-judge-meets {𝓤 = 𝓤} 𝓛 mem run 𝓣 known = walk_Meets 𝓛 judge.ended stayed (Goes-none 𝓛 3 (Row 0) yes (λ κs x f. refl), tt)
-    (judge.clauses 𝓛 mem run) (WpFn 𝓤 𝓛.H 𝓣.C 𝓣.Λ code.function) (WpFn-mono 𝓤 𝓛.H 𝓛.laws 𝓣 code.function) (judge-walks 𝓛 mem run 𝓣.C 𝓣.Λ (fm_of 𝓤 𝓛.H 𝓛.laws 𝓣) known)
+judge_meets {𝓤 = 𝓤} 𝓛 mem run 𝓣 known = walk_Meets 𝓛 judge.ended stayed (Goes-none 𝓛 3 (Row 0) yes (λ κs x f. refl), tt)
+    (judge.clauses 𝓛 mem run) (WpFn 𝓤 𝓛.H 𝓣.C 𝓣.Λ code.function) (WpFn-mono 𝓤 𝓛.H 𝓛.laws 𝓣 code.function) (judge_walks 𝓛 mem run 𝓣.C 𝓣.Λ (fm_of 𝓤 𝓛.H 𝓛.laws 𝓣) known)
 
-pub judge-spec : {M : Type 1} → stated.statement M
+pub judge_spec : {M : Type 1} → stated.statement M
 unfolding code.routine tables_of
-judge-spec 𝓤 𝓛 𝓜 𝓡 =
+judge_spec 𝓤 𝓛 𝓜 𝓡 =
     entered 𝓤 𝓛.H (triple_of 𝓛 judge.signature (judge.spec 𝓛 𝓜.mem 𝓡.run))
     (tables 𝓤 𝓛.H 𝓜 𝓡 code.env).C (tables 𝓤 𝓛.H 𝓜 𝓡 code.env).Λ #judge code.function (code.unfolded 𝓤 𝓛.H 𝓜 𝓡)
-    (judge-meets 𝓛 𝓜.mem 𝓡.run (tables_of 𝓤 𝓛.H 𝓜 (tables 𝓤 𝓛.H 𝓜 𝓡 code.env))
+    (judge_meets 𝓛 𝓜.mem 𝓡.run (tables_of 𝓤 𝓛.H 𝓜 (tables 𝓤 𝓛.H 𝓜 𝓡 code.env))
     (cited 𝓤 𝓛.H (Judge 𝓛 𝓜.mem 𝓡.run) 𝓜 𝓡 code.env #judge-lists callee-def.routine code.calls-held-rows::judge-lists (callee-thm.met 𝓤 𝓛 𝓜 𝓡)))

@@ -42,7 +42,7 @@ use denote.Exit.{yes}
 use denote.Triple.Clauses.{ensured, lasts}
 use Rattle.mathematics.specs.Calls.{Answered}
 use Rattle.matvec.specs.declared.product.Product.{Product}
-use Rattle.matvec.specs.Product.{productAnswer, product-call}
+use Rattle.matvec.specs.Product.{product_answer, product_call}
 use Rattle.matvec.specs.contracts.product.Product as S
 use Rattle.matvec.proofs.product.Product.TheLaws as S'
 use Rattle.held_rows.specs.declared.RowLists.{RowLists}
@@ -97,7 +97,7 @@ module _ {M : Type 1} {𝓤 : Ura M} (𝓛 : Logic 𝓤) (mem : Memory → SProp
 
   -- what both contracts say of an answer and of the result at the end
   abbrev Told : Product → List Float → Type 0
-  Told r zs = Answered (product-call d.starts.now d.columns.now d.values.now x.now ys) (productAnswer r) zs
+  Told r zs = Answered (product_call d.starts.now d.columns.now d.values.now x.now ys) (product_answer r) zs
 
   abbrev Post : Val → SProp 𝓤
   Post = (walk_of 𝓛 matvec.ended stayed (matvec.clauses 𝓛 mem run)).post ((κs, qs, tt, a, vals), tt)
@@ -177,26 +177,26 @@ module _ {M : Type 1} {𝓤 : Ura M} (𝓛 : Logic 𝓤) (mem : Memory → SProp
 module _ {M : Type 1} {𝓤 : Ura M} (𝓛 : Logic 𝓤) (mem : Memory → SProp 𝓤) (run : Routine → Fun 𝓤) where
   open 𝓛 use {H}
 
-  matvec-walks : (C : Calls 𝓤 H) (Λ : Loops 𝓤 H) → FmC 𝓤 H 𝓛.laws C → Triple 𝓤 (C #matvec·matvec) (Multiply 𝓛 mem run)
+  matvec_walks : (C : Calls 𝓤 H) (Λ : Loops 𝓤 H) → FmC 𝓤 H 𝓛.laws C → Triple 𝓤 (C #matvec·matvec) (Multiply 𝓛 mem run)
       → Walks 𝓛 matvec.ended stayed (WpFn 𝓤 H C Λ code.function) (matvec.clauses 𝓛 mem run)
-  matvec-walks C Λ fm known = walked 𝓛 matvec.ended stayed (matvec.clauses 𝓛 mem run) (WpFn 𝓤 H C Λ code.function) (λ κs. (LL.vals (Shape 2 κs) (Lawful 2 κs), (shr_slice_vals, (shr_slice_vals, tt))))
+  matvec_walks C Λ fm known = walked 𝓛 matvec.ended stayed (matvec.clauses 𝓛 mem run) (WpFn 𝓤 H C Λ code.function) (λ κs. (LL.vals (Shape 2 κs) (Lawful 2 κs), (shr_slice_vals, (shr_slice_vals, tt))))
       (λ κs. (LL.tells (Shape 2 κs) (Lawful 2 κs), (shr_slice_Tells (named 3) κs.1.1.1.0 f64, (mut_slice_Tells (named 4) κs.1.1.1.1.0 f64, tt))))
       (λ κs qs bounds a g are. via 𝓤 _ (fst∗ 𝓤 _ (emp 𝓤)) (walk 𝓛 mem run κs.0 κs.1.0 κs.1.1.0 κs.1.1.1.0 κs.1.1.1.1.0 qs.0 qs.1.0 qs.1.1.0 qs.1.1.1.0 qs.1.1.1.1.0
       a.0 a.1.0 a.1.1.0.ref_ptr.0 a.1.1.0.ref_ptr.1 a.1.1.0.ghost_name a.1.1.0.now C Λ fm known
       ((LL.lawful (Shape 2 κs) (Lawful 2 κs) 𝓛).typed a.0 _ are.0).0 are.1.0 are.1.1.0.0.1))
 
-matvec-meets : {M : Type 1} {𝓤 : Ura M} (𝓛 : Logic 𝓤) (mem : Memory → SProp 𝓤) (run : Routine → Fun 𝓤) (𝓣 : Tables 𝓤 𝓛.H)
+matvec_meets : {M : Type 1} {𝓤 : Ura M} (𝓛 : Logic 𝓤) (mem : Memory → SProp 𝓤) (run : Routine → Fun 𝓤) (𝓣 : Tables 𝓤 𝓛.H)
     → Triple 𝓤 (𝓣.C #matvec·matvec) (Multiply 𝓛 mem run)
     → Meets 𝓛 matvec.signature (WpFn 𝓤 𝓛.H 𝓣.C 𝓣.Λ code.function) (matvec.spec 𝓛 mem run)
-matvec-meets {𝓤 = 𝓤} 𝓛 mem run 𝓣 known = walk_Meets 𝓛 matvec.ended stayed
+matvec_meets {𝓤 = 𝓤} 𝓛 mem run 𝓣 known = walk_Meets 𝓛 matvec.ended stayed
     (Goes-none 𝓛 5 (Row 2) yes (λ κs x f. refl), (Goes-none_slice 𝓛 5 (3 ∷ []) tt (plain (λ _. f64)) yes, (Goes-gave_slice 𝓛 5 4 tt (plain (λ _. f64)), tt)))
     (matvec.clauses 𝓛 mem run) (WpFn 𝓤 𝓛.H 𝓣.C 𝓣.Λ code.function) (WpFn-mono 𝓤 𝓛.H 𝓛.laws 𝓣 code.function)
-    (matvec-walks 𝓛 mem run 𝓣.C 𝓣.Λ (fm_of 𝓤 𝓛.H 𝓛.laws 𝓣) known)
+    (matvec_walks 𝓛 mem run 𝓣.C 𝓣.Λ (fm_of 𝓤 𝓛.H 𝓛.laws 𝓣) known)
 
-pub matvec-spec : {M : Type 1} → stated.statement M
+pub matvec_spec : {M : Type 1} → stated.statement M
 unfolding code.routine tables_of
-matvec-spec 𝓤 𝓛 𝓜 𝓡 =
+matvec_spec 𝓤 𝓛 𝓜 𝓡 =
     entered 𝓤 𝓛.H (triple_of 𝓛 matvec.signature (matvec.spec 𝓛 𝓜.mem 𝓡.run))
     (tables 𝓤 𝓛.H 𝓜 𝓡 code.env).C (tables 𝓤 𝓛.H 𝓜 𝓡 code.env).Λ #matvec code.function (code.unfolded 𝓤 𝓛.H 𝓜 𝓡)
-    (matvec-meets 𝓛 𝓜.mem 𝓡.run (tables_of 𝓤 𝓛.H 𝓜 (tables 𝓤 𝓛.H 𝓜 𝓡 code.env))
+    (matvec_meets 𝓛 𝓜.mem 𝓡.run (tables_of 𝓤 𝓛.H 𝓜 (tables 𝓤 𝓛.H 𝓜 𝓡 code.env))
     (cited 𝓤 𝓛.H (Multiply 𝓛 𝓜.mem 𝓡.run) 𝓜 𝓡 code.env #matvec·matvec callee-def.routine code.calls-matvec::product::matvec (callee-thm.met 𝓤 𝓛 𝓜 𝓡)))

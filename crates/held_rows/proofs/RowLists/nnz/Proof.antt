@@ -78,19 +78,19 @@ module _ {M : Type 1} {𝓤 : Ura M} (𝓛 : Logic 𝓤) (mem : Memory → SProp
 module _ {M : Type 1} {𝓤 : Ura M} (𝓛 : Logic 𝓤) (mem : Memory → SProp 𝓤) (run : Routine → Fun 𝓤) where
   open 𝓛 use {H}
 
-  nnz-walks : (C : Calls 𝓤 H) (Λ : Loops 𝓤 H) → Walks 𝓛 nnz.ended stayed (WpFn 𝓤 H C Λ code.function) (nnz.clauses 𝓛 mem run)
-  nnz-walks C Λ = walked 𝓛 nnz.ended stayed (nnz.clauses 𝓛 mem run) (WpFn 𝓤 H C Λ code.function) (λ κs. (LL.vals (Shape 0 κs) (Lawful 0 κs), tt)) (λ κs. (LL.tells (Shape 0 κs) (Lawful 0 κs), tt))
+  nnz_walks : (C : Calls 𝓤 H) (Λ : Loops 𝓤 H) → Walks 𝓛 nnz.ended stayed (WpFn 𝓤 H C Λ code.function) (nnz.clauses 𝓛 mem run)
+  nnz_walks C Λ = walked 𝓛 nnz.ended stayed (nnz.clauses 𝓛 mem run) (WpFn 𝓤 H C Λ code.function) (λ κs. (LL.vals (Shape 0 κs) (Lawful 0 κs), tt)) (λ κs. (LL.tells (Shape 0 κs) (Lawful 0 κs), tt))
       (λ κs qs bounds a g are. via 𝓤 _ (fst∗ 𝓤 _ (emp 𝓤)) (walk 𝓛 mem run κs.0 κs.1.0 κs.1.1.0 qs.0 qs.1.0 qs.1.1.0 a.0 C Λ
       ((LL.lawful (Shape 0 κs) (Lawful 0 κs) 𝓛).typed a.0 _ are.0).0))
 
-nnz-meets : {M : Type 1} {𝓤 : Ura M} (𝓛 : Logic 𝓤) → (mem : Memory → SProp 𝓤) (run : Routine → Fun 𝓤) (𝓣 : Tables 𝓤 𝓛.H)
+nnz_meets : {M : Type 1} {𝓤 : Ura M} (𝓛 : Logic 𝓤) → (mem : Memory → SProp 𝓤) (run : Routine → Fun 𝓤) (𝓣 : Tables 𝓤 𝓛.H)
     → Meets 𝓛 nnz.signature (WpFn 𝓤 𝓛.H 𝓣.C 𝓣.Λ code.function) (nnz.spec 𝓛 mem run)
-nnz-meets {𝓤 = 𝓤} 𝓛 mem run 𝓣 = walk_Meets 𝓛 nnz.ended stayed (Goes-none 𝓛 3 (Row 0) yes (λ κs x f. refl), tt)
-    (nnz.clauses 𝓛 mem run) (WpFn 𝓤 𝓛.H 𝓣.C 𝓣.Λ code.function) (WpFn-mono 𝓤 𝓛.H 𝓛.laws 𝓣 code.function) (nnz-walks 𝓛 mem run 𝓣.C 𝓣.Λ)
+nnz_meets {𝓤 = 𝓤} 𝓛 mem run 𝓣 = walk_Meets 𝓛 nnz.ended stayed (Goes-none 𝓛 3 (Row 0) yes (λ κs x f. refl), tt)
+    (nnz.clauses 𝓛 mem run) (WpFn 𝓤 𝓛.H 𝓣.C 𝓣.Λ code.function) (WpFn-mono 𝓤 𝓛.H 𝓛.laws 𝓣 code.function) (nnz_walks 𝓛 mem run 𝓣.C 𝓣.Λ)
 
-pub nnz-spec : {M : Type 1} → stated.statement M
+pub nnz_spec : {M : Type 1} → stated.statement M
 unfolding code.routine tables_of
-nnz-spec 𝓤 𝓛 𝓜 𝓡 =
+nnz_spec 𝓤 𝓛 𝓜 𝓡 =
     entered 𝓤 𝓛.H (triple_of 𝓛 nnz.signature (nnz.spec 𝓛 𝓜.mem 𝓡.run))
     (tables 𝓤 𝓛.H 𝓜 𝓡 code.env).C (tables 𝓤 𝓛.H 𝓜 𝓡 code.env).Λ #nnz code.function (code.unfolded 𝓤 𝓛.H 𝓜 𝓡)
-    (nnz-meets 𝓛 𝓜.mem 𝓡.run (tables_of 𝓤 𝓛.H 𝓜 (tables 𝓤 𝓛.H 𝓜 𝓡 code.env)))
+    (nnz_meets 𝓛 𝓜.mem 𝓡.run (tables_of 𝓤 𝓛.H 𝓜 (tables 𝓤 𝓛.H 𝓜 𝓡 code.env)))

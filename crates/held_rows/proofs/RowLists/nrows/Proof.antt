@@ -147,22 +147,22 @@ module _ {M : Type 1} {𝓤 : Ura M} (𝓛 : Logic 𝓤) (mem : Memory → SProp
 module _ {M : Type 1} {𝓤 : Ura M} (𝓛 : Logic 𝓤) (mem : Memory → SProp 𝓤) (run : Routine → Fun 𝓤) where
   open 𝓛 use {H}
 
-  nrows-walks : (C : Calls 𝓤 H) (Λ : Loops 𝓤 H) → FmC 𝓤 H 𝓛.laws C → Triple 𝓤 (C #count-rows) (Count 𝓛 mem run)
+  nrows_walks : (C : Calls 𝓤 H) (Λ : Loops 𝓤 H) → FmC 𝓤 H 𝓛.laws C → Triple 𝓤 (C #count-rows) (Count 𝓛 mem run)
       → Walks 𝓛 nrows.ended stayed (WpFn 𝓤 H C Λ code.function) (nrows.clauses 𝓛 mem run)
-  nrows-walks C Λ fm known = walked 𝓛 nrows.ended stayed (nrows.clauses 𝓛 mem run) (WpFn 𝓤 H C Λ code.function) (λ κs. (LL.vals (Shape 0 κs) (Lawful 0 κs), tt)) (λ κs. (LL.tells (Shape 0 κs) (Lawful 0 κs), tt))
+  nrows_walks C Λ fm known = walked 𝓛 nrows.ended stayed (nrows.clauses 𝓛 mem run) (WpFn 𝓤 H C Λ code.function) (λ κs. (LL.vals (Shape 0 κs) (Lawful 0 κs), tt)) (λ κs. (LL.tells (Shape 0 κs) (Lawful 0 κs), tt))
       (λ κs qs bounds a g are. via 𝓤 _ (fst∗ 𝓤 _ (emp 𝓤)) (walk 𝓛 mem run κs.0 κs.1.0 κs.1.1.0 qs.0 qs.1.0 qs.1.1.0 a.0 C Λ fm known
       ((LL.lawful (Shape 0 κs) (Lawful 0 κs) 𝓛).typed a.0 _ are.0).0))
 
-nrows-meets : {M : Type 1} {𝓤 : Ura M} (𝓛 : Logic 𝓤) (mem : Memory → SProp 𝓤) (run : Routine → Fun 𝓤) (𝓣 : Tables 𝓤 𝓛.H)
+nrows_meets : {M : Type 1} {𝓤 : Ura M} (𝓛 : Logic 𝓤) (mem : Memory → SProp 𝓤) (run : Routine → Fun 𝓤) (𝓣 : Tables 𝓤 𝓛.H)
     → Triple 𝓤 (𝓣.C #count-rows) (Count 𝓛 mem run)
     → Meets 𝓛 nrows.signature (WpFn 𝓤 𝓛.H 𝓣.C 𝓣.Λ code.function) (nrows.spec 𝓛 mem run)
-nrows-meets {𝓤 = 𝓤} 𝓛 mem run 𝓣 known = walk_Meets 𝓛 nrows.ended stayed (Goes-none 𝓛 3 (Row 0) yes (λ κs x f. refl), tt)
-    (nrows.clauses 𝓛 mem run) (WpFn 𝓤 𝓛.H 𝓣.C 𝓣.Λ code.function) (WpFn-mono 𝓤 𝓛.H 𝓛.laws 𝓣 code.function) (nrows-walks 𝓛 mem run 𝓣.C 𝓣.Λ (fm_of 𝓤 𝓛.H 𝓛.laws 𝓣) known)
+nrows_meets {𝓤 = 𝓤} 𝓛 mem run 𝓣 known = walk_Meets 𝓛 nrows.ended stayed (Goes-none 𝓛 3 (Row 0) yes (λ κs x f. refl), tt)
+    (nrows.clauses 𝓛 mem run) (WpFn 𝓤 𝓛.H 𝓣.C 𝓣.Λ code.function) (WpFn-mono 𝓤 𝓛.H 𝓛.laws 𝓣 code.function) (nrows_walks 𝓛 mem run 𝓣.C 𝓣.Λ (fm_of 𝓤 𝓛.H 𝓛.laws 𝓣) known)
 
-pub nrows-spec : {M : Type 1} → stated.statement M
+pub nrows_spec : {M : Type 1} → stated.statement M
 unfolding code.routine tables_of
-nrows-spec 𝓤 𝓛 𝓜 𝓡 =
+nrows_spec 𝓤 𝓛 𝓜 𝓡 =
     entered 𝓤 𝓛.H (triple_of 𝓛 nrows.signature (nrows.spec 𝓛 𝓜.mem 𝓡.run))
     (tables 𝓤 𝓛.H 𝓜 𝓡 code.env).C (tables 𝓤 𝓛.H 𝓜 𝓡 code.env).Λ #nrows code.function (code.unfolded 𝓤 𝓛.H 𝓜 𝓡)
-    (nrows-meets 𝓛 𝓜.mem 𝓡.run (tables_of 𝓤 𝓛.H 𝓜 (tables 𝓤 𝓛.H 𝓜 𝓡 code.env))
+    (nrows_meets 𝓛 𝓜.mem 𝓡.run (tables_of 𝓤 𝓛.H 𝓜 (tables 𝓤 𝓛.H 𝓜 𝓡 code.env))
     (cited 𝓤 𝓛.H (Count 𝓛 𝓜.mem 𝓡.run) 𝓜 𝓡 code.env #count-rows callee-def.routine code.calls-held-rows::count-rows (callee-thm.met 𝓤 𝓛 𝓜 𝓡)))

@@ -6,15 +6,15 @@ use lib.ListN.{length}
 use borrow.Author.Tests.{ltb-true, ltb-false, not-true, not-false}
 use borrow.Author.Rules.{rules}
 use Rattle.hilbert.specs.Search.{Ranked}
-use Rattle.hilbert.proofs.Searching.{row_inside, row_small, row-long, row-part}
+use Rattle.hilbert.proofs.Searching.{row_inside, row_small, row_long, row_part}
 use Rattle.hilbert.proofs.search.advance.Statement.{statement}
 use Rattle.hilbert.proofs.search.advance.Tie as tie
 
 abbrev invariant-loop : tie.invariant-loop
-invariant-loop states n from config free n-free m place₀ place = (place ≤ n) × ((p : ℕ) → Ranked states n config free n-free p → from ≤ p → place ≤ p)
+invariant-loop states n from config free n_free m place₀ place = (place ≤ n) × ((p : ℕ) → Ranked states n config free n_free p → from ≤ p → place ≤ p)
 
 abbrev decreases-loop : tie.decreases-loop
-decreases-loop states n from config free n-free m place₀ place = n - place
+decreases-loop states n from config free n_free m place₀ place = n - place
 
 abbrev Loop : Type 0
 Loop = tie.At-loop invariant-loop decreases-loop
@@ -30,8 +30,8 @@ row_room : (c : tie.In-loop invariant-loop decreases-loop)
     → (c.before.loop.place * length (start c.before).args.config.now + length (start c.before).args.config.now ≤ length (start c.before).args.states.now) × (c.before.loop.place * length (start c.before).args.config.now ≤ 2 ^ 20 * 63)
 row_room c =
     let s = start c.before in (
-      row_inside s.args.states.now s.args.n s.args.config.now s.args.free.now s.args.n-free s.pre.0 c.before.loop.place (inside c),
-      row_small s.args.states.now s.args.n s.args.config.now s.args.free.now s.args.n-free s.pre.0 c.before.loop.place (inside c),
+      row_inside s.args.states.now s.args.n s.args.config.now s.args.free.now s.args.n_free s.pre.0 c.before.loop.place (inside c),
+      row_small s.args.states.now s.args.n s.args.config.now s.args.free.now s.args.n_free s.pre.0 c.before.loop.place (inside c),
     )
 
 loop-holds : tie.Need-loop-init invariant-loop decreases-loop
@@ -55,31 +55,31 @@ part-row-before-start c = let h = row_room c in search rules
 part-row-before-end : tie.Need-slice-bounds-row-before-end invariant-loop decreases-loop
 part-row-before-end c = let h = row_room c in search rules
 
-row-before-requires : tie.Need-row-before-requires invariant-loop decreases-loop
-row-before-requires c κs =
-    let at-loop = c.before.before in
-    let s = start at-loop in
-    rw (row-part s.args.states.now (length s.args.config.now) at-loop.loop.place)
-    (row-long s.args.states.now s.args.n s.args.config.now s.args.free.now s.args.n-free s.pre.0 at-loop.loop.place (inside c.before), s.pre.0.edges_few, s.pre.0.free-few, s.pre.0.free-fit)
+row_before-requires : tie.Need-row_before-requires invariant-loop decreases-loop
+row_before-requires c κs =
+    let at_loop = c.before.before in
+    let s = start at_loop in
+    rw (row_part s.args.states.now (length s.args.config.now) at_loop.loop.place)
+    (row_long s.args.states.now s.args.n s.args.config.now s.args.free.now s.args.n_free s.pre.0 at_loop.loop.place (inside c.before), s.pre.0.edges_few, s.pre.0.free_few, s.pre.0.free_fit)
 
 abbrev Tested : Type 0
-Tested = tie.After-row-before invariant-loop decreases-loop
+Tested = tie.After-row_before invariant-loop decreases-loop
 
-abbrev loop-of : Tested → Loop
-loop-of c = c.before.before.before
+abbrev loop_of : Tested → Loop
+loop_of c = c.before.before.before
 
 -- the configuration's place is past the row just where that row comes before it
-past_row : (c : Tested) (p : ℕ) → Ranked (start (loop-of c)).args.states.now (start (loop-of c)).args.n (start (loop-of c)).args.config.now (start (loop-of c)).args.free.now (start (loop-of c)).args.n-free p
-    → ltb (loop-of c).loop.place p ≡ c.row_before.result
+past_row : (c : Tested) (p : ℕ) → Ranked (start (loop_of c)).args.states.now (start (loop_of c)).args.n (start (loop_of c)).args.config.now (start (loop_of c)).args.free.now (start (loop_of c)).args.n_free p
+    → ltb (loop_of c).loop.place p ≡ c.row_before.result
 past_row c p r =
-    let at-loop = loop-of c in
-    let s = (start at-loop).args in
-    sym ((rw (row-part s.states.now (length s.config.now) at-loop.loop.place) at c.row_before.ensures) ∙ r.rows at-loop.loop.place (inside c.before.before))
+    let at_loop = loop_of c in
+    let s = (start at_loop).args in
+    sym ((rw (row_part s.states.now (length s.config.now) at_loop.loop.place) at c.row_before.ensures) ∙ r.rows at_loop.loop.place (inside c.before.before))
 
 returns : tie.Need-returns invariant-loop decreases-loop
 returns c p r h =
-    let at-loop = loop-of c.before in
-    omega (arith, at-loop.loop.inv.1 p r h, ltb-false at-loop.loop.place p (past_row c.before p r ∙ not-true _ c.if1.true))
+    let at_loop = loop_of c.before in
+    omega (arith, at_loop.loop.inv.1 p r h, ltb-false at_loop.loop.place p (past_row c.before p r ∙ not-true _ c.if1.true))
 
 add-place : tie.Need-overflow-add-place invariant-loop decreases-loop
 add-place c = search rules
@@ -89,16 +89,16 @@ loop-less c = search rules
 
 loop-again : tie.Need-loop-preserved invariant-loop decreases-loop
 loop-again c =
-    let at-loop = loop-of c.before in (
+    let at_loop = loop_of c.before in (
       omega arith,
-      λ p r h. omega (arith, ltb-true at-loop.loop.place p (past_row c.before p r ∙ not-false _ c.if1.false)),
+      λ p r h. omega (arith, ltb-true at_loop.loop.place p (past_row c.before p r ∙ not-false _ c.if1.false)),
     )
 
 returns-2 : tie.Need-returns-2 invariant-loop decreases-loop
 returns-2 c p r h = omega (arith, c.before.loop.invariant.1 p r h, r.within)
 
-pub advance-spec : {M : Type 1} → statement M
-advance-spec =
+pub advance_spec : {M : Type 1} → statement M
+advance_spec =
     tie.close
     (tie.spec
     invariant-loop
@@ -110,7 +110,7 @@ advance-spec =
     sub-row-before
     part-row-before-start
     part-row-before-end
-    row-before-requires
+    row_before-requires
     returns
     add-place
     loop-less

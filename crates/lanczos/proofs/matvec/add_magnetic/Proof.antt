@@ -3,67 +3,67 @@ use mathlib.Core.List.{List}
 use mathlib.Core.Path.{◌≡◌, refl, ap, ◌∙◌}
 use native.Mathlib.Omega.{arith}
 use lib.ListN.{length}
-use Rattle.complex.specs.Complex.{Complex, complexOf}
+use Rattle.complex.specs.Complex.{Complex, complex_of}
 use Rattle.complex.proofs.Accepting.{accepted}
 use Rattle.matrices.specs.Weights.{weight}
-use Rattle.matrices.specs.Terms.{row-plaquette-term}
-use Rattle.matrices.proofs.Weighing.{weight-there}
+use Rattle.matrices.specs.Terms.{row_plaquette_term}
+use Rattle.matrices.proofs.Weighing.{weight_there}
 use Rattle.triangles.specs.Indices.{AllSides}
-use Rattle.triangles.proofs.SidesFound.{triangles-long}
-use Rattle.triangles.proofs.AllSides.{own-sides}
+use Rattle.triangles.proofs.SidesFound.{triangles_long}
+use Rattle.triangles.proofs.AllSides.{own_sides}
 use Rattle.plaquettes.specs.Targets.{BasisList}
-use Rattle.lanczos.specs.Matvec.{triangles-added}
+use Rattle.lanczos.specs.Matvec.{triangles_added}
 use Rattle.lanczos.specs.Runs.{FirstCycle}
-use Rattle.lanczos.proofs.Folds.{triangle-more}
-use Rattle.lanczos.proofs.Running.{run-rows}
+use Rattle.lanczos.proofs.Folds.{triangle_more}
+use Rattle.lanczos.proofs.Running.{run_rows}
 use borrow.Author.Rules.{rules}
 use Rattle.lanczos.proofs.matvec.add_magnetic.Statement.{statement}
 use Rattle.lanczos.proofs.matvec.add_magnetic.Tie as tie
 
 abbrev invariant-loop : tie.invariant-loop
-invariant-loop p given weights vector list s cycle result₀ all edges count t₀ t-end result t = (t ≤ t-end) × (length result ≡ length result₀) × ((c : Complex) (free : List ℕ) → BasisList c list s free → AllSides c all → FirstCycle c cycle → length c.triangles ≡ t-end → result ≡ triangles-added c s.lambda p (weight given weights) vector t result₀)
+invariant-loop p given weights vector list s cycle result₀ all edges count t₀ t-end result t = (t ≤ t-end) × (length result ≡ length result₀) × ((c : Complex) (free : List ℕ) → BasisList c list s free → AllSides c all → FirstCycle c cycle → length c.triangles ≡ t-end → result ≡ triangles_added c s.lambda p (weight given weights) vector t result₀)
 
 abbrev decreases-loop : tie.decreases-loop
 decreases-loop p given weights vector list s cycle result₀ all edges count t₀ t-end result t = t-end - t
 
-all-sides-requires : tie.Need-all-sides-requires invariant-loop decreases-loop
-all-sides-requires c κs = (accepted _).1 c.before.before.before.requires.1.accepted
+all_sides-requires : tie.Need-all_sides-requires invariant-loop decreases-loop
+all_sides-requires c κs = (accepted _).1 c.before.before.before.requires.1.accepted
 
-cycle-edges-requires : tie.Need-cycle-edges-requires invariant-loop decreases-loop
-cycle-edges-requires c κs =
+cycle_edges-requires : tie.Need-cycle_edges-requires invariant-loop decreases-loop
+cycle_edges-requires c κs =
     let pre = c.before.before.before.before.requires in
-    rw pre.5.sized pre.1.accepted.few-edges
+    rw pre.5.sized pre.1.accepted.few_edges
 
 loop-holds : tie.Need-loop-init invariant-loop decreases-loop
-unfolding triangles-added
+unfolding triangles_added
 loop-holds c = (omega arith, refl, λ complex free basis sides first many. refl)
 
 -- the triangle that is under way
 abbrev start : tie.In-loop invariant-loop decreases-loop → tie.Start invariant-loop decreases-loop
 start c = c.before.before.before.before.before.before.before.before
 
-there : (c : tie.In-loop invariant-loop decreases-loop) → c.before.loop.t < length (complexOf (start c).args.c).triangles
-there c = rw (triangles-long (start c).args.c) (omega arith)
+there : (c : tie.In-loop invariant-loop decreases-loop) → c.before.loop.t < length (complex_of (start c).args.c).triangles
+there c = rw (triangles_long (start c).args.c) (omega arith)
 
 small : (c : tie.In-loop invariant-loop decreases-loop) → c.before.loop.t < 256
-small c = omega (arith, there c, (start c).requires.1.accepted.few-triangles)
+small c = omega (arith, there c, (start c).requires.1.accepted.few_triangles)
 
-weight-of-requires : tie.Need-weight-of-requires invariant-loop decreases-loop
-weight-of-requires c κs = weight-there _ _ _ (start c).requires.2 _ (there c)
+weight_of-requires : tie.Need-weight_of-requires invariant-loop decreases-loop
+weight_of-requires c κs = weight_there _ _ _ (start c).requires.2 _ (there c)
 
-row-plaquette-term-requires : tie.Need-row-plaquette-term-requires invariant-loop decreases-loop
-row-plaquette-term-requires c κs = search rules
+row_plaquette_term-requires : tie.Need-row_plaquette_term-requires invariant-loop decreases-loop
+row_plaquette_term-requires c κs = search rules
 
-sides-at-requires : tie.Need-sides-at-requires invariant-loop decreases-loop
-sides-at-requires c κs = small c.before.before.before
+sides_at-requires : tie.Need-sides_at-requires invariant-loop decreases-loop
+sides_at-requires c κs = small c.before.before.before
 
-add-plaquette-requires : tie.Need-add-plaquette-requires invariant-loop decreases-loop
-add-plaquette-requires c κs =
+add_plaquette-requires : tie.Need-add_plaquette-requires invariant-loop decreases-loop
+add_plaquette-requires c κs =
     let looping = c.before.before.before.before.before.before in
-    let at-loop = looping.before in
+    let at_loop = looping.before in
     let pre = (start looping).requires in
-    let of = own-sides _ _ at-loop.before.before.before.all-sides.ensures _ _ (there looping) c.before.before.sides-at.ensures in
-    (run-rows _ _ _ _ pre.1 _ _ of _ _ _ pre.5 at-loop.before.before.cycle-edges.ensures, pre.3, rw at-loop.loop.invariant.1 pre.4)
+    let of = own_sides _ _ at_loop.before.before.before.all_sides.ensures _ _ (there looping) c.before.before.sides_at.ensures in
+    (run_rows _ _ _ _ pre.1 _ _ of _ _ _ pre.5 at_loop.before.before.cycle_edges.ensures, pre.3, rw at_loop.loop.invariant.1 pre.4)
 
 add-t : tie.Need-overflow-add-t invariant-loop decreases-loop
 add-t c = let h = small c.before.before.before.before.before.before.before.before.before in search rules
@@ -76,14 +76,14 @@ loop-again c =
     let made = c.before.before in
     let sided = made.before.before.before in
     let looping = sided.before.before.before.before in
-    let at-loop = looping.before in
+    let at_loop = looping.before in
     let s = start looping in
-    let value = sided.before.before.row-plaquette-term.ensures ∙ ap (row-plaquette-term s.args.p) sided.before.before.before.weight-of.ensures in (
+    let value = sided.before.before.row_plaquette_term.ensures ∙ ap (row_plaquette_term s.args.p) sided.before.before.before.weight_of.ensures in (
       omega arith,
-      made.add-plaquette.auto.1.1.1.1.1.1.1.1.0 ∙ at-loop.loop.invariant.1,
+      made.add_plaquette.auto.1.1.1.1.1.1.1.1.0 ∙ at_loop.loop.invariant.1,
       λ complex free basis sides first many.
-          triangle-more complex _ s.args.p (weight s.args.given s.args.weights.now) s.args.vector.now _ _ _ _ _ _ basis.count value (at-loop.loop.invariant.2 complex free basis sides first many)
-          (made.add-plaquette.ensures complex _ free basis (own-sides complex _ sides _ _ (rw many (omega arith)) sided.sides-at.ensures) first),
+          triangle_more complex _ s.args.p (weight s.args.given s.args.weights.now) s.args.vector.now _ _ _ _ _ _ basis.count value (at_loop.loop.invariant.2 complex free basis sides first many)
+          (made.add_plaquette.ensures complex _ free basis (own_sides complex _ sides _ _ (rw many (omega arith)) sided.sides_at.ensures) first),
     )
 
 same_length : tie.Need-same-length invariant-loop decreases-loop
@@ -91,24 +91,24 @@ same_length c = c.before.loop.invariant.1
 
 returns : tie.Need-returns invariant-loop decreases-loop
 returns c =
-    let at-loop = c.before in
-    let s = at-loop.before.before.before.before.before.before.before in
-    let past : at-loop.loop.t ≡ s.args.c.n_triangles = omega arith in
-    rw past at (at-loop.loop.invariant.2 (complexOf s.args.c) s.requires.0 s.requires.1 at-loop.before.before.before.all-sides.ensures s.requires.5 (triangles-long s.args.c))
+    let at_loop = c.before in
+    let s = at_loop.before.before.before.before.before.before.before in
+    let past : at_loop.loop.t ≡ s.args.c.n_triangles = omega arith in
+    rw past at (at_loop.loop.invariant.2 (complex_of s.args.c) s.requires.0 s.requires.1 at_loop.before.before.before.all_sides.ensures s.requires.5 (triangles_long s.args.c))
 
-pub add-magnetic-spec : {M : Type 1} → statement M
-add-magnetic-spec =
+pub add_magnetic_spec : {M : Type 1} → statement M
+add_magnetic_spec =
     tie.close
     (tie.spec
     invariant-loop
     decreases-loop
-    all-sides-requires
-    cycle-edges-requires
+    all_sides-requires
+    cycle_edges-requires
     loop-holds
-    weight-of-requires
-    row-plaquette-term-requires
-    sides-at-requires
-    add-plaquette-requires
+    weight_of-requires
+    row_plaquette_term-requires
+    sides_at-requires
+    add_plaquette-requires
     add-t
     loop-less
     loop-again

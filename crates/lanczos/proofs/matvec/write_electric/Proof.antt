@@ -5,20 +5,20 @@ use native.Mathlib.Omega.{arith}
 use lib.ListN.{length, drop, length-set}
 use Rattle.mathematics.specs.Counting.{below}
 use Rattle.matrices.proofs.Literals.{zero}
-use Rattle.lanczos.specs.Walk.{electric-parts}
-use Rattle.lanczos.proofs.Electric.{electric-turn, electric-all}
+use Rattle.lanczos.specs.Walk.{electric_parts}
+use Rattle.lanczos.proofs.Electric.{electric_turn, electric_all}
 use borrow.Author.Rules.{rules}
 use Rattle.lanczos.proofs.matvec.write_electric.Statement.{statement}
 use Rattle.lanczos.proofs.matvec.write_electric.Tie as tie
 
 abbrev invariant-loop : tie.invariant-loop
-invariant-loop list n m factor vector result₀ i₀ result i = (i ≤ n) × (length result ≡ length result₀) × (result ≡ electric-parts factor m list vector i ++ drop i result₀)
+invariant-loop list n m factor vector result₀ i₀ result i = (i ≤ n) × (length result ≡ length result₀) × (result ≡ electric_parts factor m list vector i ++ drop i result₀)
 
 abbrev decreases-loop : tie.decreases-loop
 decreases-loop list n m factor vector result₀ i₀ result i = n - i
 
 loop-holds : tie.Need-loop-init invariant-loop decreases-loop
-unfolding electric-parts below
+unfolding electric_parts below
 loop-holds c = (omega arith, refl, refl)
 
 mul-x : tie.Need-overflow-mul-x invariant-loop decreases-loop
@@ -27,8 +27,8 @@ mul-x c = search rules
 shared-slice-read-x : tie.Need-shared-slice-read-x invariant-loop decreases-loop
 shared-slice-read-x c = search rules
 
-row-energy-requires : tie.Need-row-energy-requires invariant-loop decreases-loop
-row-energy-requires c κs = (_, c.before.before.before.before.before.requires.0, omega arith)
+row_energy-requires : tie.Need-row_energy-requires invariant-loop decreases-loop
+row_energy-requires c κs = (_, c.before.before.before.before.before.requires.0, omega arith)
 
 mul-result : tie.Need-overflow-mul-result invariant-loop decreases-loop
 mul-result c = search rules
@@ -44,12 +44,12 @@ loop-less c = search rules
 
 loop-again : tie.Need-loop-preserved invariant-loop decreases-loop
 loop-again c =
-    let at-loop = c.before.before.before in
-    let a = at-loop.before.before.before.args in
-    let i = at-loop.loop.i in (
+    let at_loop = c.before.before.before in
+    let a = at_loop.before.before.before.args in
+    let i = at_loop.loop.i in (
       omega arith,
-      rw length-set at-loop.loop.invariant.1,
-      electric-turn a.factor a.m a.list.now a.vector.now a.result.now at-loop.loop.result i _ (omega (arith, at-loop.before.before.before.requires.2)) at-loop.loop.invariant.2 (rw (zero, ← c.row-energy.ensures)),
+      rw length-set at_loop.loop.invariant.1,
+      electric_turn a.factor a.m a.list.now a.vector.now a.result.now at_loop.loop.result i _ (omega (arith, at_loop.before.before.before.requires.2)) at_loop.loop.invariant.2 (rw (zero, ← c.row_energy.ensures)),
     )
 
 same_length : tie.Need-same-length invariant-loop decreases-loop
@@ -59,10 +59,10 @@ returns : tie.Need-returns invariant-loop decreases-loop
 returns c =
     let a = c.before.before.before.before.args in
     let past : c.before.loop.i ≡ a.n = omega arith in
-    (rw past at c.before.loop.invariant.2) ∙ electric-all a.factor a.m a.list.now a.vector.now a.n a.result.now
+    (rw past at c.before.loop.invariant.2) ∙ electric_all a.factor a.m a.list.now a.vector.now a.n a.result.now
 
-pub write-electric-spec : {M : Type 1} → statement M
-write-electric-spec =
+pub write_electric_spec : {M : Type 1} → statement M
+write_electric_spec =
     tie.close
     (tie.spec
     invariant-loop
@@ -70,7 +70,7 @@ write-electric-spec =
     loop-holds
     mul-x
     shared-slice-read-x
-    row-energy-requires
+    row_energy-requires
     mul-result
     slice-write-result
     add-i

@@ -8,7 +8,7 @@ use mir.Syntax.{w8}
 use mir.Val.{of_z}
 use lib.ListN.{get_or, length}
 use Rattle.mathematics.proofs.Signed.{zero8}
-use Rattle.lanczos.proofs.Rooms.{bool_small, Covering, covering-none, covering-more, covering-all}
+use Rattle.lanczos.proofs.Rooms.{bool_small, Covering, covering_none, covering_more, covering_all}
 use borrow.Author.Rules.{rules}
 use Rattle.lanczos.proofs.state_runs.cycle_edges.Statement.{statement}
 use Rattle.lanczos.proofs.state_runs.cycle_edges.Tie as tie
@@ -20,7 +20,7 @@ abbrev decreases-loop : tie.decreases-loop
 decreases-loop cycle edges₀ count₀ e₀ e-end edges count e = length cycle - e
 
 loop-holds : tie.Need-loop-init invariant-loop decreases-loop
-loop-holds c = (omega arith, refl, covering-none _ _ refl)
+loop-holds c = (omega arith, refl, covering_none _ _ refl)
 
 cast-edges : tie.Need-overflow-cast-edges invariant-loop decreases-loop
 cast-edges c = search rules
@@ -36,9 +36,9 @@ cast-count c = search rules
 
 add-count : tie.Need-overflow-add-count invariant-loop decreases-loop
 add-count c =
-    let at-loop = c.before.before in
-    let h = bool_small (not (eqb (of_z w8 (get_or at-loop.before.args.cycle.now at-loop.loop.e (pos 0))) 0)) in
-    let few = at-loop.loop.invariant.2.few in
+    let at_loop = c.before.before in
+    let h = bool_small (not (eqb (of_z w8 (get_or at_loop.before.args.cycle.now at_loop.loop.e (pos 0))) 0)) in
+    let few = at_loop.loop.invariant.2.few in
     search rules
 
 add-e : tie.Need-overflow-add-e invariant-loop decreases-loop
@@ -49,15 +49,15 @@ loop-less c = search rules
 
 loop-again : tie.Need-loop-preserved invariant-loop decreases-loop
 loop-again c =
-    let at-loop = c.before.before in
-    let s = at-loop.before in
-    (omega arith, refl, covering-more _ _ _ _ at-loop.loop.invariant.2 (omega (arith, s.requires)) _ (sym (zero8 (get_or s.args.cycle.now at-loop.loop.e (pos 0)) c.count.given)))
+    let at_loop = c.before.before in
+    let s = at_loop.before in
+    (omega arith, refl, covering_more _ _ _ _ at_loop.loop.invariant.2 (omega (arith, s.requires)) _ (sym (zero8 (get_or s.args.cycle.now at_loop.loop.e (pos 0)) c.count.given)))
 
 returns : tie.Need-returns invariant-loop decreases-loop
-returns c = covering-all _ _ _ _ (omega arith) c.before.loop.invariant.2
+returns c = covering_all _ _ _ _ (omega arith) c.before.loop.invariant.2
 
-pub cycle-edges-spec : {M : Type 1} → statement M
-cycle-edges-spec =
+pub cycle_edges_spec : {M : Type 1} → statement M
+cycle_edges_spec =
     tie.close
     (tie.spec
     invariant-loop

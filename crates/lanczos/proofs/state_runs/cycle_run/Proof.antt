@@ -25,29 +25,29 @@ byte-requires : tie.Need-byte-requires invariant-loop decreases-loop
 byte-requires c κs = search rules
 
 -- the edge that is looked at
-edge-is : (c : tie.After-byte invariant-loop decreases-loop) → c.byte.result ≡ get_or c.before.before.before.before.args.edges.now c.before.before.before.loop.q 0
-edge-is c = c.byte.ensures
+edge_is : (c : tie.After-byte invariant-loop decreases-loop) → c.byte.result ≡ get_or c.before.before.before.before.args.edges.now c.before.before.before.loop.q 0
+edge_is c = c.byte.ensures
 
-edge-below : (c : tie.After-byte invariant-loop decreases-loop) → (c.byte.result < length c.before.before.before.before.args.cycle.now) × (c.byte.result < length c.before.before.before.before.args.row.now)
-edge-below c =
+edge_below : (c : tie.After-byte invariant-loop decreases-loop) → (c.byte.result < length c.before.before.before.before.args.cycle.now) × (c.byte.result < length c.before.before.before.before.args.row.now)
+edge_below c =
     let s = c.before.before.before.before in
-    let below = rw (← (edge-is c)) at (s.requires.1.below c.before.before.before.loop.q (omega arith)) in
+    let below = rw (← (edge_is c)) at (s.requires.1.below c.before.before.before.loop.q (omega arith)) in
     (below, rw (← s.requires.0.sized) below)
 
 mul-room : tie.Need-overflow-mul-room invariant-loop decreases-loop
-mul-room c = let h = edge-below c in search rules
+mul-room c = let h = edge_below c in search rules
 
 shared-slice-copy-out-room : tie.Need-shared-slice-copy-out-room invariant-loop decreases-loop
-shared-slice-copy-out-room c = (edge-below c).1
+shared-slice-copy-out-room c = (edge_below c).1
 
 shared-slice-copy-out-room-2 : tie.Need-shared-slice-copy-out-room-2 invariant-loop decreases-loop
-shared-slice-copy-out-room-2 c = (edge-below c.before).0
+shared-slice-copy-out-room-2 c = (edge_below c.before).0
 
 room-requires : tie.Need-room-requires invariant-loop decreases-loop
 room-requires c κs =
-    let at-loop = c.before.before.before.before.before in
-    let s = at-loop.before in
-    rw (back32 _ c.before.room_arg.given, back8 _ c.room-arg2.given) (s.requires.0.values _, s.requires.0.truncation, s.requires.0.signs _, at-loop.loop.invariant.1.some)
+    let at_loop = c.before.before.before.before.before in
+    let s = at_loop.before in
+    rw (back32 _ c.before.room_arg.given, back8 _ c.room-arg2.given) (s.requires.0.values _, s.requires.0.truncation, s.requires.0.signs _, at_loop.loop.invariant.1.some)
 
 add-q : tie.Need-overflow-add-q invariant-loop decreases-loop
 add-q c = search rules
@@ -58,16 +58,16 @@ loop-less c = search rules
 loop-again : tie.Need-loop-preserved invariant-loop decreases-loop
 loop-again c =
     let asked = c.before in
-    let at-loop = c.before.before.before.before.before.before in
-    (omega arith, run_more _ _ _ _ _ _ _ at-loop.loop.invariant.1 _ (rw (back32 _ asked.before.room_arg.given, back8 _ asked.room-arg2.given, edge-is asked.before.before) at c.room.ensures))
+    let at_loop = c.before.before.before.before.before.before in
+    (omega arith, run_more _ _ _ _ _ _ _ at_loop.loop.invariant.1 _ (rw (back32 _ asked.before.room_arg.given, back8 _ asked.room-arg2.given, edge_is asked.before.before) at c.room.ensures))
 
 returns : tie.Need-returns invariant-loop decreases-loop
 returns c =
     let past : c.before.loop.q ≡ c.before.before.args.count = omega arith in
     rw past at c.before.loop.invariant.1
 
-pub cycle-run-spec : {M : Type 1} → statement M
-cycle-run-spec =
+pub cycle_run_spec : {M : Type 1} → statement M
+cycle_run_spec =
     tie.close
     (tie.spec
     invariant-loop

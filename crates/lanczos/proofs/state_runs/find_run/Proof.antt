@@ -2,18 +2,18 @@ use Prim.Native.Nat.{◌<◌, ◌≤◌}
 use mathlib.Core.Path.{refl}
 use native.Mathlib.Omega.{arith}
 use borrow.Author.Tests.{leb-false}
-use Rattle.mathematics.proofs.Tests.{or-fell}
-use Rattle.lanczos.proofs.Rooms.{one-missing}
-use Rattle.lanczos.proofs.Running.{length-shorter}
+use Rattle.mathematics.proofs.Tests.{or_fell}
+use Rattle.lanczos.proofs.Rooms.{one_missing}
+use Rattle.lanczos.proofs.Running.{length_shorter}
 use borrow.Author.Rules.{rules}
 use Rattle.lanczos.proofs.state_runs.find_run.Statement.{statement}
 use Rattle.lanczos.proofs.state_runs.find_run.Tie as tie
 
-next-staying-requires : tie.Need-next-staying-requires
-next-staying-requires c κs = (c.requires.0.movable, omega arith, refl, c.requires.1)
+next_staying-requires : tie.Need-next_staying-requires
+next_staying-requires c κs = (c.requires.0.movable, omega arith, refl, c.requires.1)
 
-next-staying-requires-2 : tie.Need-next-staying-requires-2
-next-staying-requires-2 c κs = (c.before.requires.0.movable, omega arith, refl, c.before.requires.2)
+next_staying-requires-2 : tie.Need-next_staying-requires-2
+next_staying-requires-2 c κs = (c.before.requires.0.movable, omega arith, refl, c.before.requires.2)
 
 returns : tie.Need-returns
 returns c =
@@ -26,25 +26,25 @@ returns c =
             none = refl;
             a = _;
             b = _;
-            next = c.before.before.next-staying.ensures;
+            next = c.before.before.next_staying.ensures;
             back = c.before.next-staying2.ensures;
-            missing = one-missing _ _ _ c.if1.true;
+            missing = one_missing _ _ _ c.if1.true;
           };
     }
 
 -- both rows are there
-below : (c : tie.Else1) → (c.before.before.next-staying.result < c.before.before.before.args.s.states) × (c.before.next-staying2.result < c.before.before.before.args.s.states)
+below : (c : tie.Else1) → (c.before.before.next_staying.result < c.before.before.before.args.s.states) × (c.before.next-staying2.result < c.before.before.before.args.s.states)
 below c =
-    let fell = or-fell _ _ c.if1.false in
+    let fell = or_fell _ _ c.if1.false in
     (leb-false _ _ fell.0, leb-false _ _ fell.1)
 
-run-length-requires : tie.Need-run-length-requires
-run-length-requires c κs =
+run_length-requires : tie.Need-run_length-requires
+run_length-requires c κs =
     let s = c.before.before.before in
-    (s.requires.0, omega arith, refl, (below c).0, c.before.before.next-staying.ensures.there (below c).0)
+    (s.requires.0, omega arith, refl, (below c).0, c.before.before.next_staying.ensures.there (below c).0)
 
-run-length-requires-2 : tie.Need-run-length-requires-2
-run-length-requires-2 c κs =
+run_length-requires-2 : tie.Need-run_length-requires-2
+run_length-requires-2 c κs =
     let fit = c.before in
     let s = fit.before.before.before in
     (s.requires.0, omega arith, refl, (below fit).1, fit.before.next-staying2.ensures.there (below fit).1)
@@ -63,24 +63,24 @@ returns-2 c =
     record {
       goes = λ l.
           record {
-            next = fit.before.before.next-staying.ensures;
+            next = fit.before.before.next_staying.ensures;
             back = fit.before.next-staying2.ensures;
             below = (below fit).1;
             some = some;
-            forth-run = length-shorter _ _ _ _ _ _ _ _ _ _ some (omega (arith, c.smaller.ensures)) first;
-            back-run = length-shorter _ _ _ _ _ _ _ _ _ _ some (omega (arith, c.smaller.ensures)) second;
+            forth_run = length_shorter _ _ _ _ _ _ _ _ _ _ some (omega (arith, c.smaller.ensures)) first;
+            back_run = length_shorter _ _ _ _ _ _ _ _ _ _ some (omega (arith, c.smaller.ensures)) second;
           };
       over = λ l. absurd (omega (arith, (below fit).0));
     }
 
-pub find-run-spec : {M : Type 1} → statement M
-find-run-spec =
+pub find_run_spec : {M : Type 1} → statement M
+find_run_spec =
     tie.close
     (tie.spec
-    next-staying-requires
-    next-staying-requires-2
+    next_staying-requires
+    next_staying-requires-2
     returns
-    run-length-requires
-    run-length-requires-2
+    run_length-requires
+    run_length-requires-2
     smaller-requires
     returns-2)

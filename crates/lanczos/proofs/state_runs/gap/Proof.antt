@@ -5,29 +5,29 @@ use lib.IntN.{nat_abs}
 use mir.Syntax.{w32}
 use mir.Val.{to_z, of_z}
 use Rattle.mathematics.proofs.Signed.{back32}
-use Rattle.walker.proofs.Narrowing.{difference-fits, difference-back, difference-casts}
+use Rattle.walker.proofs.Narrowing.{difference_fits, difference_back, difference_casts}
 use Rattle.lanczos.proofs.state_runs.gap.Statement.{statement}
 use Rattle.lanczos.proofs.state_runs.gap.Tie as tie
 
 a_back : (c : tie.Start) → to_z w32 (of_z w32 c.args.a) ≡ c.args.a
 a_back c = back32 c.args.a c.ranges.a.sfits
 
-b-back : (c : tie.Start) → to_z w32 (of_z w32 c.args.b) ≡ c.args.b
-b-back c = back32 c.args.b c.ranges.b.sfits
+b_back : (c : tie.Start) → to_z w32 (of_z w32 c.args.b) ≡ c.args.b
+b_back c = back32 c.args.b c.ranges.b.sfits
 
 small : (c : tie.Start) → (nat_abs c.args.a ≤ 2 ^ 24) × (nat_abs c.args.b ≤ 2 ^ 24)
 small c = (omega (arith, c.requires.0), omega (arith, c.requires.1))
 
 sub-result : tie.Need-overflow-sub-result
-sub-result c = rw (a_back c, b-back c) (difference-fits c.args.a c.args.b (small c).0 (small c).1)
+sub-result c = rw (a_back c, b_back c) (difference_fits c.args.a c.args.b (small c).0 (small c).1)
 
 cast-result : tie.Need-overflow-cast-result
 cast-result c =
-    rw (a_back c, b-back c, difference-back c.args.a c.args.b (small c).0 (small c).1)
-    (difference-casts c.args.a c.args.b (small c).0 (small c).1 c.requires.2)
+    rw (a_back c, b_back c, difference_back c.args.a c.args.b (small c).0 (small c).1)
+    (difference_casts c.args.a c.args.b (small c).0 (small c).1 c.requires.2)
 
 returns : tie.Need-returns
-returns c = rw (a_back c, b-back c, difference-back c.args.a c.args.b (small c).0 (small c).1)
+returns c = rw (a_back c, b_back c, difference_back c.args.a c.args.b (small c).0 (small c).1)
 
-pub gap-spec : {M : Type 1} → statement M
-gap-spec = tie.close (tie.spec sub-result cast-result returns)
+pub gap_spec : {M : Type 1} → statement M
+gap_spec = tie.close (tie.spec sub-result cast-result returns)

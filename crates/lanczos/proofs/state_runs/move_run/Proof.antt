@@ -3,37 +3,37 @@ use native.Mathlib.Omega.{arith}
 use mir.Syntax.{w32}
 use mir.Val.{to_z, of_z}
 use Rattle.mathematics.proofs.Signed.{back32}
-use Rattle.lanczos.proofs.Rooms.{three-kept}
+use Rattle.lanczos.proofs.Rooms.{three_kept}
 use Rattle.lanczos.proofs.state_runs.move_run.Statement.{statement}
 use Rattle.lanczos.proofs.state_runs.move_run.Tie as tie
 
-by-back : (c : tie.Start) → to_z w32 (of_z w32 c.args.by) ≡ c.args.by
-by-back c = back32 c.args.by c.ranges.by.sfits
+by_back : (c : tie.Start) → to_z w32 (of_z w32 c.args.by) ≡ c.args.by
+by_back c = back32 c.args.by c.ranges.by.sfits
 
-back-back : (c : tie.Start) → to_z w32 (of_z w32 c.args.back) ≡ c.args.back
-back-back c = back32 c.args.back c.ranges.back.sfits
+back_back : (c : tie.Start) → to_z w32 (of_z w32 c.args.back) ≡ c.args.back
+back_back c = back32 c.args.back c.ranges.back.sfits
 
-moved-room-requires : tie.Need-moved-room-requires
-moved-room-requires c κs = rw (by-back c) (c.requires.0, c.requires.1.first_below, (three-kept _ _ _ _ c.requires.4).0, c.requires.5)
+moved_room-requires : tie.Need-moved_room-requires
+moved_room-requires c κs = rw (by_back c) (c.requires.0, c.requires.1.first_below, (three_kept _ _ _ _ c.requires.4).0, c.requires.5)
 
-moved-room-requires-2 : tie.Need-moved-room-requires-2
-moved-room-requires-2 c κs =
+moved_room-requires-2 : tie.Need-moved_room-requires-2
+moved_room-requires-2 c κs =
     let s = c.before in
-    rw (back-back s, s.requires.3) (s.requires.0, s.requires.1.second_below, (three-kept _ _ _ _ s.requires.4).1, c.moved-room.ensures.some)
+    rw (back_back s, s.requires.3) (s.requires.0, s.requires.1.second_below, (three_kept _ _ _ _ s.requires.4).1, c.moved_room.ensures.some)
 
-moved-room-requires-3 : tie.Need-moved-room-requires-3
-moved-room-requires-3 c κs =
+moved_room-requires-3 : tie.Need-moved_room-requires-3
+moved_room-requires-3 c κs =
     let s = c.before.before in
-    rw (by-back s) (s.requires.0, s.requires.1.third-below, (three-kept _ _ _ _ s.requires.4).2, c.moved-room2.ensures.some)
+    rw (by_back s) (s.requires.0, s.requires.1.third_below, (three_kept _ _ _ _ s.requires.4).2, c.moved-room2.ensures.some)
 
 returns : tie.Need-returns
 returns c =
     let two = c.before in
     let one = two.before in
     let s = one.before in
-    let first = rw (by-back s) at one.moved-room.ensures in
-    let second = rw (back-back s, s.requires.3) at two.moved-room2.ensures in
-    let third = rw (by-back s) at c.moved-room3.ensures in
+    let first = rw (by_back s) at one.moved_room.ensures in
+    let second = rw (back_back s, s.requires.3) at two.moved-room2.ensures in
+    let third = rw (by_back s) at c.moved-room3.ensures in
     record {
       some = third.some;
       limited = omega (arith, first.limited, second.limited, third.limited);
@@ -44,4 +44,4 @@ returns c =
 
 pub move_run_spec : {M : Type 1} → statement M
 move_run_spec =
-    tie.close (tie.spec moved-room-requires moved-room-requires-2 moved-room-requires-3 returns)
+    tie.close (tie.spec moved_room-requires moved_room-requires-2 moved_room-requires-3 returns)

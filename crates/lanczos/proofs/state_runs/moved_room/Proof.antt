@@ -37,8 +37,8 @@ room-requires c κs =
 returns : tie.Need-returns
 returns c = rw (sum_is c.before.before, back8 _ c.before.room_arg.given) at c.room.ensures
 
-pub moved-room-spec : {M : Type 1} → statement M
-moved-room-spec =
+pub moved_room_spec : {M : Type 1} → statement M
+moved_room_spec =
     tie.close
     (tie.spec
     mul-sum

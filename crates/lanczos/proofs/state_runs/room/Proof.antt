@@ -5,8 +5,8 @@ use lib.IntN.{pos, nat_abs, ◌*ℤ◌}
 use mir.Syntax.{w32}
 use mir.Val.{to_z, of_z}
 use Rattle.mathematics.specs.Integers.{equal}
-use Rattle.mathematics.proofs.Signed.{back32, back8, size-sign}
-use Rattle.lanczos.proofs.Rooms.{below_top, room-is, room-still}
+use Rattle.mathematics.proofs.Signed.{back32, back8, size_sign}
+use Rattle.lanczos.proofs.Rooms.{below_top, room_is, room_still}
 use borrow.Author.Rules.{rules}
 use Rattle.lanczos.proofs.state_runs.room.Statement.{statement}
 use Rattle.lanczos.proofs.state_runs.room.Tie as tie
@@ -14,30 +14,30 @@ use Rattle.lanczos.proofs.state_runs.room.Tie as tie
 abbrev start : tie.After-turned → tie.Start
 start c = c.before.before.before.before
 
-top-is : (c : tie.After-usize-to-i32) → to_z w32 (of_z w32 c.usize-to-i32.result) ≡ pos (c.before.before.before.args.lambda + 1)
-top-is c = back32 c.usize-to-i32.result c.usize-to-i32.type-inv ∙ c.usize-to-i32.ensures
+top_is : (c : tie.After-usize_to_i32) → to_z w32 (of_z w32 c.usize_to_i32.result) ≡ pos (c.before.before.before.args.lambda + 1)
+top_is c = back32 c.usize_to_i32.result c.usize_to_i32.type-inv ∙ c.usize_to_i32.ensures
 
-turned-is : (c : tie.After-turned) → to_z w32 (of_z w32 c.turned.result) ≡ (start c).args.x *ℤ (start c).args.sign
-turned-is c =
+turned_is : (c : tie.After-turned) → to_z w32 (of_z w32 c.turned.result) ≡ (start c).args.x *ℤ (start c).args.sign
+turned_is c =
     let s = start c in
     back32 c.turned.result c.turned.type-inv ∙ c.turned.ensures ∙ ap₂ ◌*ℤ◌ (back32 s.args.x s.fits.x.sfits) (back8 s.args.sign s.fits.sign.sfits)
 
-turned-small : (c : tie.After-turned) → nat_abs ((start c).args.x *ℤ (start c).args.sign) ≤ (start c).args.lambda
-turned-small c = let s = start c in omega (arith, size-sign s.args.x s.args.sign s.pre.2, s.pre.0)
+turned_small : (c : tie.After-turned) → nat_abs ((start c).args.x *ℤ (start c).args.sign) ≤ (start c).args.lambda
+turned_small c = let s = start c in omega (arith, size_sign s.args.x s.args.sign s.pre.2, s.pre.0)
 
-is-zero-requires : tie.Need-is-zero-requires
-is-zero-requires c κs = search rules
+is_zero-requires : tie.Need-is_zero-requires
+is_zero-requires c κs = search rules
 
 returns : tie.Need-returns
 returns c =
     let s = c.before.before in
-    room-still _ _ _ s.requires.0 (ap (λ y. equal y (pos 0)) (sym (back8 s.args.sign s.ranges.sign.sfits)) ∙ sym c.before.is_zero.ensures ∙ c.if1.true) _ s.requires.3
+    room_still _ _ _ s.requires.0 (ap (λ y. equal y (pos 0)) (sym (back8 s.args.sign s.ranges.sign.sfits)) ∙ sym c.before.is_zero.ensures ∙ c.if1.true) _ s.requires.3
 
 add-usize-to-i32 : tie.Need-overflow-add-usize-to-i32
 add-usize-to-i32 c = search rules
 
-usize-to-i32-requires : tie.Need-usize-to-i32-requires
-usize-to-i32-requires c κs = search rules
+usize_to_i32-requires : tie.Need-usize_to_i32-requires
+usize_to_i32-requires c κs = search rules
 
 turned-requires : tie.Need-turned-requires
 turned-requires c κs =
@@ -47,7 +47,7 @@ turned-requires c κs =
 gap-requires : tie.Need-gap-requires
 gap-requires c κs =
     let s = start c in
-    rw (top-is c.before, turned-is c) (omega (arith, s.pre.1), omega (arith, turned-small c, s.pre.1), below_top s.args.lambda (s.args.x *ℤ s.args.sign) (turned-small c))
+    rw (top_is c.before, turned_is c) (omega (arith, s.pre.1), omega (arith, turned_small c, s.pre.1), below_top s.args.lambda (s.args.x *ℤ s.args.sign) (turned_small c))
 
 smaller-requires : tie.Need-smaller-requires
 smaller-requires c κs = search rules
@@ -56,17 +56,17 @@ returns-2 : tie.Need-returns-2
 returns-2 c =
     let turning = c.before.before in
     let s = start turning in
-    room-is s.args.lambda s.args.x s.pre.0 s.args.sign s.pre.2 s.args.most _ s.pre.3
-    (rw (← (top-is turning.before), ← (turned-is turning), ← c.before.gap.ensures) c.smaller.ensures)
+    room_is s.args.lambda s.args.x s.pre.0 s.args.sign s.pre.2 s.args.most _ s.pre.3
+    (rw (← (top_is turning.before), ← (turned_is turning), ← c.before.gap.ensures) c.smaller.ensures)
 
-pub room-spec : {M : Type 1} → statement M
-room-spec =
+pub room_spec : {M : Type 1} → statement M
+room_spec =
     tie.close
     (tie.spec
-    is-zero-requires
+    is_zero-requires
     returns
     add-usize-to-i32
-    usize-to-i32-requires
+    usize_to_i32-requires
     turned-requires
     gap-requires
     smaller-requires

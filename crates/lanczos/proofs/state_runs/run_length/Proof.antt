@@ -5,11 +5,11 @@ use lib.ListN.{length}
 use mir.Syntax.{w32}
 use mir.Val.{to_z, of_z}
 use Rattle.mathematics.proofs.Signed.{back32}
-use Rattle.hilbert.proofs.Searching.{row-part}
+use Rattle.hilbert.proofs.Searching.{row_part}
 use Rattle.plaquettes.proofs.Listed.{row_room}
-use Rattle.plaquettes.proofs.Pairing.{row-movable}
-use Rattle.lanczos.proofs.Rooms.{run-banded}
-use Rattle.lanczos.proofs.Running.{cycle-shorter, move-shorter}
+use Rattle.plaquettes.proofs.Pairing.{row_movable}
+use Rattle.lanczos.proofs.Rooms.{run_banded}
+use Rattle.lanczos.proofs.Running.{cycle_shorter, move_shorter}
 use borrow.Author.Rules.{rules}
 use Rattle.lanczos.proofs.state_runs.run_length.Statement.{statement}
 use Rattle.lanczos.proofs.state_runs.run_length.Tie as tie
@@ -18,11 +18,11 @@ use Rattle.lanczos.proofs.state_runs.run_length.Tie as tie
 inside : (c : tie.Start) → (c.args.place * c.args.s.edges + c.args.s.edges ≤ length c.args.list.now) × (c.args.place * c.args.s.edges ≤ 1048576 * 63)
 inside c = row_room _ _ _ c.requires.0.movable.rows c.args.place c.requires.3
 
-by-back : (c : tie.Start) → to_z w32 (of_z w32 c.args.by) ≡ c.args.by
-by-back c = back32 c.args.by c.ranges.by.sfits
+by_back : (c : tie.Start) → to_z w32 (of_z w32 c.args.by) ≡ c.args.by
+by_back c = back32 c.args.by c.ranges.by.sfits
 
-back-back : (c : tie.Start) → to_z w32 (of_z w32 c.args.back) ≡ c.args.back
-back-back c = back32 c.args.back c.ranges.back.sfits
+back_back : (c : tie.Start) → to_z w32 (of_z w32 c.args.back) ≡ c.args.back
+back_back c = back32 c.args.back c.ranges.back.sfits
 
 mul_at : tie.Need-overflow-mul-at
 mul_at c = let h = inside c in search rules
@@ -45,28 +45,28 @@ part-row-end c = let h = inside c in search rules
 sub-cycle-run : tie.Need-overflow-sub-cycle-run
 sub-cycle-run c = search rules
 
-cycle-run-requires : tie.Need-cycle-run-requires
-cycle-run-requires c κs =
+cycle_run-requires : tie.Need-cycle_run-requires
+cycle_run-requires c κs =
     let s = c.before.before in
-    rw (row-part s.args.list.now s.args.s.edges s.args.place) (run-banded _ _ _ _ _ _ s.requires.0 s.args.place s.requires.3, s.requires.0.covers, omega (arith, s.requires.3))
+    rw (row_part s.args.list.now s.args.s.edges s.args.place) (run_banded _ _ _ _ _ _ s.requires.0 s.args.place s.requires.3, s.requires.0.covers, omega (arith, s.requires.3))
 
-move-run-requires : tie.Need-move-run-requires
-move-run-requires c κs =
+move_run-requires : tie.Need-move_run-requires
+move_run-requires c κs =
     let s = c.before.before.before in
-    rw (row-part s.args.list.now s.args.s.edges s.args.place, by-back s, back-back s)
-    (run-banded _ _ _ _ _ _ s.requires.0 s.args.place s.requires.3, row-movable _ _ _ s.requires.0.movable s.args.place s.requires.3, s.requires.1, s.requires.2, s.requires.4, c.cycle-run.ensures.some)
+    rw (row_part s.args.list.now s.args.s.edges s.args.place, by_back s, back_back s)
+    (run_banded _ _ _ _ _ _ s.requires.0 s.args.place s.requires.3, row_movable _ _ _ s.requires.0.movable s.args.place s.requires.3, s.requires.1, s.requires.2, s.requires.4, c.cycle_run.ensures.some)
 
 returns : tie.Need-returns
 returns c =
     let went = c.before in
     let s = went.before.before.before in
-    let part = row-part s.args.list.now s.args.s.edges s.args.place in
-    let cycle = rw part at went.cycle-run.ensures in
-    let moves = rw (part, by-back s) at c.move-run.ensures in
-    record { cycle = cycle-shorter _ _ _ _ _ _ _ _ moves.some moves.limited cycle; moves = move-shorter _ _ _ _ _ _ _ _ moves.some (omega arith) moves }
+    let part = row_part s.args.list.now s.args.s.edges s.args.place in
+    let cycle = rw part at went.cycle_run.ensures in
+    let moves = rw (part, by_back s) at c.move_run.ensures in
+    record { cycle = cycle_shorter _ _ _ _ _ _ _ _ moves.some moves.limited cycle; moves = move_shorter _ _ _ _ _ _ _ _ moves.some (omega arith) moves }
 
-pub run-length-spec : {M : Type 1} → statement M
-run-length-spec =
+pub run_length_spec : {M : Type 1} → statement M
+run_length_spec =
     tie.close
     (tie.spec
     mul_at
@@ -76,6 +76,6 @@ run-length-spec =
     part-row-start
     part-row-end
     sub-cycle-run
-    cycle-run-requires
-    move-run-requires
+    cycle_run-requires
+    move_run-requires
     returns)

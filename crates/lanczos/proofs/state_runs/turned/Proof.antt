@@ -4,26 +4,26 @@ use lib.IntN.{◌*ℤ◌}
 use mir.Syntax.{w32}
 use mir.Val.{to_z, of_z}
 use mir.Facts.{to_z-of_z}
-use Rattle.mathematics.proofs.Signed.{back32, size_fits, back8, size-sign}
+use Rattle.mathematics.proofs.Signed.{back32, size_fits, back8, size_sign}
 use borrow.Author.Rules.{rules}
 use Rattle.lanczos.proofs.state_runs.turned.Statement.{statement}
 use Rattle.lanczos.proofs.state_runs.turned.Tie as tie
 
-is : (c : tie.After-i8-to-i32) → to_z w32 (of_z w32 c.before.args.x) *ℤ to_z w32 (of_z w32 c.i8-to-i32.result) ≡ c.before.args.x *ℤ c.before.args.sign
-is c = ap₂ ◌*ℤ◌ (back32 c.before.args.x c.before.ranges.x.sfits) (back32 c.i8-to-i32.result c.i8-to-i32.type-inv ∙ c.i8-to-i32.ensures ∙ back8 c.before.args.sign c.before.ranges.sign.sfits)
+is : (c : tie.After-i8_to_i32) → to_z w32 (of_z w32 c.before.args.x) *ℤ to_z w32 (of_z w32 c.i8_to_i32.result) ≡ c.before.args.x *ℤ c.before.args.sign
+is c = ap₂ ◌*ℤ◌ (back32 c.before.args.x c.before.ranges.x.sfits) (back32 c.i8_to_i32.result c.i8_to_i32.type-inv ∙ c.i8_to_i32.ensures ∙ back8 c.before.args.sign c.before.ranges.sign.sfits)
 
-i8-to-i32-requires : tie.Need-i8-to-i32-requires
-i8-to-i32-requires c κs = search rules
+i8_to_i32-requires : tie.Need-i8_to_i32-requires
+i8_to_i32-requires c κs = search rules
 
 mul-result : tie.Need-overflow-mul-result
 mul-result c =
     let x = c.before.args.x in
     let sign = c.before.args.sign in
     let pre = c.before.requires in
-    rw (is c) (size_fits w32 (x *ℤ sign) (omega (arith, pre.0, size-sign x sign pre.1)))
+    rw (is c) (size_fits w32 (x *ℤ sign) (omega (arith, pre.0, size_sign x sign pre.1)))
 
 returns : tie.Need-returns
 returns c = to_z-of_z (mul-result c) ∙ is c
 
-pub turned-spec : {M : Type 1} → statement M
-turned-spec = tie.close (tie.spec i8-to-i32-requires mul-result returns)
+pub turned_spec : {M : Type 1} → statement M
+turned_spec = tie.close (tie.spec i8_to_i32-requires mul-result returns)

@@ -7,8 +7,8 @@ use Rattle.complex.specs.Complex.{Complex}
 use Rattle.plaquettes.specs.Targets.{BasisList}
 use Rattle.triangles.specs.Indices.{SidesOf}
 use Rattle.lanczos.specs.Runs.{FirstCycle}
-use Rattle.lanczos.proofs.Folds.{Way, way-begun}
-use Rattle.lanczos.proofs.Running.{way_next, run-bounds}
+use Rattle.lanczos.proofs.Folds.{Way, way_begun}
+use Rattle.lanczos.proofs.Running.{way_next, run_bounds}
 use borrow.Author.Rules.{rules}
 use Rattle.lanczos.proofs.walk.add_plaquette.Statement.{statement}
 use Rattle.lanczos.proofs.walk.add_plaquette.Tie as tie
@@ -20,23 +20,23 @@ abbrev decreases-loop : tie.decreases-loop
 decreases-loop list s sides edges count cycle x vector result₀ n i₀ j₀ result i j = s.states - i
 
 loop-holds : tie.Need-loop-init invariant-loop decreases-loop
-loop-holds c = (omega arith, omega arith, refl, λ complex t free basis of first. way-begun complex _ _ free basis t _ of _ _ _)
+loop-holds c = (omega arith, omega arith, refl, λ complex t free basis of first. way_begun complex _ _ free basis t _ of _ _ _)
 
-find-run-requires : tie.Need-find-run-requires invariant-loop decreases-loop
-find-run-requires c κs = search rules
+find_run-requires : tie.Need-find_run-requires invariant-loop decreases-loop
+find_run-requires c κs = search rules
 
 -- the run lies in the list
-bounds : (c : tie.After-find-run invariant-loop decreases-loop) → (c.find-run.result.from + c.find-run.result.length ≤ c.before.before.before.before.before.args.s.states) × (c.find-run.result.to + c.find-run.result.length ≤ c.before.before.before.before.before.args.s.states) × (c.before.before.loop.i < c.find-run.result.from + c.find-run.result.length)
-bounds c = run-bounds _ _ _ _ _ _ _ _ _ c.find-run.ensures (omega arith)
+bounds : (c : tie.After-find_run invariant-loop decreases-loop) → (c.find_run.result.from + c.find_run.result.length ≤ c.before.before.before.before.before.args.s.states) × (c.find_run.result.to + c.find_run.result.length ≤ c.before.before.before.before.before.args.s.states) × (c.before.before.loop.i < c.find_run.result.from + c.find_run.result.length)
+bounds c = run_bounds _ _ _ _ _ _ _ _ _ c.find_run.ensures (omega arith)
 
-add-run-requires : tie.Need-add-run-requires invariant-loop decreases-loop
-add-run-requires c κs =
+add_run-requires : tie.Need-add_run-requires invariant-loop decreases-loop
+add_run-requires c κs =
     let found = c.before in
-    let at-loop = found.before.before in
-    let s = at-loop.before.before.before in
+    let at_loop = found.before.before in
+    let s = at_loop.before.before.before in
     let h = bounds found in
     let few = s.requires.0.movable.rows.few in
-    rw at-loop.loop.invariant.2
+    rw at_loop.loop.invariant.2
     (omega (arith, h.0, s.requires.2), omega (arith, h.0, s.requires.1), omega (arith, h.1, s.requires.2), omega (arith, h.1, s.requires.1), omega (arith, h.0, few), omega (arith, h.1, few))
 
 add-i : tie.Need-overflow-add-i invariant-loop decreases-loop
@@ -52,15 +52,15 @@ loop-again : tie.Need-loop-preserved invariant-loop decreases-loop
 loop-again c =
     let made = c.before.before.before.before in
     let found = c.before.before.before.before.before.before in
-    let at-loop = found.before.before in
-    let s = at-loop.before.before.before in
+    let at_loop = found.before.before in
+    let s = at_loop.before.before.before in
     let h = bounds found in (
       h.0,
       h.1,
-      made.add-run.auto.0 ∙ at-loop.loop.invariant.2,
+      made.add_run.auto.0 ∙ at_loop.loop.invariant.2,
       λ complex t free basis of first.
-          rw made.add-run.ensures
-          (way_next complex _ _ free basis t _ of _ _ _ first s.requires.0.covers _ _ _ at-loop.loop.i at-loop.loop.j _ _ found.find-run.ensures (at-loop.loop.invariant.3 complex t free basis of first)),
+          rw made.add_run.ensures
+          (way_next complex _ _ free basis t _ of _ _ _ first s.requires.0.covers _ _ _ at_loop.loop.i at_loop.loop.j _ _ found.find_run.ensures (at_loop.loop.invariant.3 complex t free basis of first)),
     )
 
 same_length : tie.Need-same-length invariant-loop decreases-loop
@@ -72,15 +72,15 @@ returns c complex t free basis of first =
     let past : c.before.loop.i ≡ s.args.s.states = omega arith in
     rw past at (c.before.loop.invariant.3 complex t free basis of first).sums
 
-pub add-plaquette-spec : {M : Type 1} → statement M
-add-plaquette-spec =
+pub add_plaquette_spec : {M : Type 1} → statement M
+add_plaquette_spec =
     tie.close
     (tie.spec
     invariant-loop
     decreases-loop
     loop-holds
-    find-run-requires
-    add-run-requires
+    find_run-requires
+    add_run-requires
     add-i
     add-j
     loop-less

@@ -3,20 +3,20 @@ use mathlib.Core.Path.{◌≡◌, refl}
 use native.Mathlib.Numerals.{add-one}
 use native.Mathlib.Omega.{arith}
 use lib.ListN.{length, length-set}
-use Rattle.lanczos.specs.Matvec.{with-hit}
-use Rattle.lanczos.specs.Walk.{run-added}
+use Rattle.lanczos.specs.Matvec.{with_hit}
+use Rattle.lanczos.specs.Walk.{run_added}
 use borrow.Author.Rules.{rules}
 use Rattle.lanczos.proofs.walk.add_run.Statement.{statement}
 use Rattle.lanczos.proofs.walk.add_run.Tie as tie
 
 abbrev invariant-loop : tie.invariant-loop
-invariant-loop result₀ vector i j count x k₀ result k = (k ≤ count) × (length result ≡ length result₀) × (result ≡ run-added x vector i j k result₀)
+invariant-loop result₀ vector i j count x k₀ result k = (k ≤ count) × (length result ≡ length result₀) × (result ≡ run_added x vector i j k result₀)
 
 abbrev decreases-loop : tie.decreases-loop
 decreases-loop result₀ vector i j count x k₀ result k = count - k
 
 loop-holds : tie.Need-loop-init invariant-loop decreases-loop
-unfolding run-added
+unfolding run_added
 loop-holds c = (omega arith, refl, refl)
 
 add_a : tie.Need-overflow-add-a invariant-loop decreases-loop
@@ -68,10 +68,10 @@ loop-less : tie.Need-loop-smaller invariant-loop decreases-loop
 loop-less c = search rules
 
 loop-again : tie.Need-loop-preserved invariant-loop decreases-loop
-unfolding run-added with-hit
+unfolding run_added with_hit
 loop-again c =
-    let at-loop = c.before.before.before.before.before in
-    (omega arith, rw (length-set, length-set) at-loop.loop.invariant.1, rw (add-one at-loop.loop.k, ← at-loop.loop.invariant.2))
+    let at_loop = c.before.before.before.before.before in
+    (omega arith, rw (length-set, length-set) at_loop.loop.invariant.1, rw (add-one at_loop.loop.k, ← at_loop.loop.invariant.2))
 
 same_length : tie.Need-same-length invariant-loop decreases-loop
 same_length c = search rules
@@ -81,8 +81,8 @@ returns c =
     let past : c.before.loop.k ≡ c.before.before.args.count = omega arith in
     rw past at c.before.loop.invariant.2
 
-pub add-run-spec : {M : Type 1} → statement M
-add-run-spec =
+pub add_run_spec : {M : Type 1} → statement M
+add_run_spec =
     tie.close
     (tie.spec
     invariant-loop

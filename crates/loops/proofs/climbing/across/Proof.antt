@@ -6,19 +6,19 @@ use Rattle.complex.specs.Search.{across}
 use Rattle.loops.proofs.climbing.across.Statement.{statement}
 use Rattle.loops.proofs.climbing.across.Tie as tie
 
-edge-start-requires : tie.Need-edge-start-requires
-edge-start-requires c κs = search rules
+edge_start-requires : tie.Need-edge_start-requires
+edge_start-requires c κs = search rules
 
-edge-end-requires : tie.Need-edge-end-requires
-edge-end-requires c κs = search rules
+edge_end-requires : tie.Need-edge_end-requires
+edge_end-requires c κs = search rules
 
 returns : tie.Need-returns
 unfolding entries across
-returns c = c.edge-end.ensures ∙ rw (eq-eqb _ _ (sym c.before.before.edge-start.ensures ∙ c.before.if1.true))
+returns c = c.edge_end.ensures ∙ rw (eq-eqb _ _ (sym c.before.before.edge_start.ensures ∙ c.before.if1.true))
 
 returns-2 : tie.Need-returns-2
 unfolding entries across
-returns-2 c = rw (← c.before.edge-start.ensures, ne_eqb _ _ c.if1.false)
+returns-2 c = rw (← c.before.edge_start.ensures, ne_eqb _ _ c.if1.false)
 
-pub across-spec : {M : Type 1} → statement M
-across-spec = tie.close (tie.spec edge-start-requires edge-end-requires returns returns-2)
+pub across_spec : {M : Type 1} → statement M
+across_spec = tie.close (tie.spec edge_start-requires edge_end-requires returns returns-2)

@@ -4,14 +4,14 @@ use borrow.Author.Tests.{eq-eqb, ne_eqb}
 use Rattle.loops.proofs.climbing.direction.Statement.{statement}
 use Rattle.loops.proofs.climbing.direction.Tie as tie
 
-edge-start-requires : tie.Need-edge-start-requires
-edge-start-requires c κs = search rules
+edge_start-requires : tie.Need-edge_start-requires
+edge_start-requires c κs = search rules
 
 returns : tie.Need-returns
-returns c = rw (eq-eqb _ _ (sym c.before.edge-start.ensures ∙ c.if1.true))
+returns c = rw (eq-eqb _ _ (sym c.before.edge_start.ensures ∙ c.if1.true))
 
 returns-2 : tie.Need-returns-2
-returns-2 c = rw (← c.before.edge-start.ensures, ne_eqb _ _ c.if1.false)
+returns-2 c = rw (← c.before.edge_start.ensures, ne_eqb _ _ c.if1.false)
 
-pub direction-spec : {M : Type 1} → statement M
-direction-spec = tie.close (tie.spec edge-start-requires returns returns-2)
+pub direction_spec : {M : Type 1} → statement M
+direction_spec = tie.close (tie.spec edge_start-requires returns returns-2)

@@ -3,7 +3,7 @@ use mathlib.Core.Path.{◌≡◌, refl}
 use native.Mathlib.Omega.{arith}
 use borrow.Author.Rules.{rules}
 use Rattle.loops.specs.Climbing.{Noted}
-use Rattle.loops.proofs.Noting.{none-noted, one-noted, vertex-below}
+use Rattle.loops.proofs.Noting.{none_noted, one_noted, vertex_below}
 use Rattle.loops.proofs.climbing.tree_parents.Statement.{statement}
 use Rattle.loops.proofs.climbing.tree_parents.Tie as tie
 
@@ -14,7 +14,7 @@ abbrev decreases-loop : tie.decreases-loop
 decreases-loop tree place₀ led₀ i₀ i-end place led i = tree.found - i
 
 loop-holds : tie.Need-loop-init invariant-loop decreases-loop
-loop-holds c = (omega arith, refl, none-noted c.args.t1 c.requires)
+loop-holds c = (omega arith, refl, none_noted c.args.t1 c.requires)
 
 add-byte : tie.Need-overflow-add-byte invariant-loop decreases-loop
 add-byte c = search rules
@@ -33,8 +33,8 @@ cast-place c = let room = c.before.before.before.before.requires.room in search 
 
 array-write-place : tie.Need-array-write-place invariant-loop decreases-loop
 array-write-place c =
-    let at-loop = c.before.before.before in
-    rw c.byte.ensures (vertex-below at-loop.before.args.t1 at-loop.before.requires at-loop.loop.i (omega arith) at-loop.loop.place at-loop.loop.led at-loop.loop.invariant.2)
+    let at_loop = c.before.before.before in
+    rw c.byte.ensures (vertex_below at_loop.before.args.t1 at_loop.before.requires at_loop.loop.i (omega arith) at_loop.loop.place at_loop.loop.led at_loop.loop.invariant.2)
 
 element-copy-out-led : tie.Need-element-copy-out-led invariant-loop decreases-loop
 element-copy-out-led c = let room = c.before.before.before.before.requires.room in search rules
@@ -52,8 +52,8 @@ loop-again : tie.Need-loop-preserved invariant-loop decreases-loop
 loop-again c = (
   omega arith,
   refl,
-  let at-loop = c.before.before.before.before in
-      rw c.before.byte.ensures (one-noted at-loop.before.args.t1 at-loop.before.requires at-loop.loop.i (omega arith) at-loop.loop.place at-loop.loop.led at-loop.loop.invariant.2),
+  let at_loop = c.before.before.before.before in
+      rw c.before.byte.ensures (one_noted at_loop.before.args.t1 at_loop.before.requires at_loop.loop.i (omega arith) at_loop.loop.place at_loop.loop.led at_loop.loop.invariant.2),
 )
 
 returns : tie.Need-returns invariant-loop decreases-loop
@@ -61,8 +61,8 @@ returns c =
     let past : c.before.loop.i ≡ c.before.before.args.t1.found = omega arith in
     rw past at c.before.loop.invariant.2
 
-pub tree-parents-spec : {M : Type 1} → statement M
-tree-parents-spec =
+pub tree_parents_spec : {M : Type 1} → statement M
+tree_parents_spec =
     tie.close
     (tie.spec
     invariant-loop

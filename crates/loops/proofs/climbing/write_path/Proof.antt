@@ -6,54 +6,54 @@ use lib.ListN.{length}
 use mir.Syntax.{w8}
 use mir.Val.{to_z, of_z}
 use Rattle.mathematics.proofs.Signed.{back8}
-use Rattle.complex.specs.Complex.{complexOf}
+use Rattle.complex.specs.Complex.{complex_of}
 use Rattle.loops.specs.Loops.{path}
-use Rattle.loops.specs.Walks.{edge_of, direction-of}
-use Rattle.loops.proofs.Climbs.{Apart, FirstClimbs, SecondClimbs, led-by, step-read, first_fits, second_fits, first_edge, first-climbs, second-edge, second-climbs, path-some, path-met}
-use Rattle.loops.proofs.Filling.{Filling, nothing-filled, front-filled, back-filled, all-filled}
+use Rattle.loops.specs.Walks.{edge_of, direction_of}
+use Rattle.loops.proofs.Climbs.{Apart, FirstClimbs, SecondClimbs, led_by, step_read, first_fits, second_fits, first_edge, first_climbs, second_edge, second_climbs, path_some, path_met}
+use Rattle.loops.proofs.Filling.{Filling, nothing_filled, front_filled, back_filled, all_filled}
 use Rattle.loops.proofs.climbing.write_path.Statement.{statement}
 use Rattle.loops.proofs.climbing.write_path.Tie as tie
 
 abbrev invariant-loop : tie.invariant-loop
 invariant-loop a b at count edges₀ directions₀ c parents x₀ y₀ front₀ back₀ edges directions x y front back =
-    (x < c.n_vertices) × (y < c.n_vertices) × (back ≡ front + length (path (complexOf c) x y))
-    × Filling edge_of (path (complexOf c) a b) at edges₀ (path (complexOf c) x y) front edges
-    × Filling direction-of (path (complexOf c) a b) at directions₀ (path (complexOf c) x y) front directions
+    (x < c.n_vertices) × (y < c.n_vertices) × (back ≡ front + length (path (complex_of c) x y))
+    × Filling edge_of (path (complex_of c) a b) at edges₀ (path (complex_of c) x y) front edges
+    × Filling direction_of (path (complex_of c) a b) at directions₀ (path (complex_of c) x y) front directions
 
 abbrev decreases-loop : tie.decreases-loop
-decreases-loop a b at count edges₀ directions₀ c parents x₀ y₀ front₀ back₀ edges directions x y front back = length (path (complexOf c) x y)
+decreases-loop a b at count edges₀ directions₀ c parents x₀ y₀ front₀ back₀ edges directions x y front back = length (path (complex_of c) x y)
 
 abbrev Turn : Type 0
 Turn = tie.In-loop invariant-loop decreases-loop
 
-abbrev at-loop : Turn → tie.At-loop invariant-loop decreases-loop
-at-loop c = c.before
+abbrev at_loop : Turn → tie.At-loop invariant-loop decreases-loop
+at_loop c = c.before
 
 abbrev start : Turn → tie.Start invariant-loop decreases-loop
 start c = c.before.before.before
 
-apart : (c : Turn) → Apart (start c).args.t1 (at-loop c).loop.x (at-loop c).loop.y
-apart c = record { first = (at-loop c).loop.invariant.0; second = (at-loop c).loop.invariant.1; apart = c.loop-test.true }
+apart : (c : Turn) → Apart (start c).args.t1 (at_loop c).loop.x (at_loop c).loop.y
+apart c = record { first = (at_loop c).loop.invariant.0; second = (at_loop c).loop.invariant.1; apart = c.loop-test.true }
 
 add_back : tie.Need-overflow-add-back invariant-loop decreases-loop
-add_back c = let is = c.before.requires.3 in let room = c.before.requires.4.edge-room in search rules
+add_back c = let is = c.before.requires.3 in let room = c.before.requires.4.edge_room in search rules
 
 loop-holds : tie.Need-loop-init invariant-loop decreases-loop
 loop-holds c =
     let pre = c.before.requires in
     let is = pre.3 in
-    (pre.1, pre.2, omega arith, nothing-filled edge_of _ _ _ pre.4.edge-room, nothing-filled direction-of _ _ _ pre.4.direction-room)
+    (pre.1, pre.2, omega arith, nothing_filled edge_of _ _ _ pre.4.edge_room, nothing_filled direction_of _ _ _ pre.4.direction_room)
 
 -- a step is left, and both lists have room for it
 record Room (c : Turn) : Type 0 where
-  some : (at-loop c).loop.front < (at-loop c).loop.back
-  edges : (at-loop c).loop.back ≤ length (at-loop c).loop.edges
-  directions : (at-loop c).loop.back ≤ length (at-loop c).loop.directions
+  some : (at_loop c).loop.front < (at_loop c).loop.back
+  edges : (at_loop c).loop.back ≤ length (at_loop c).loop.edges
+  directions : (at_loop c).loop.back ≤ length (at_loop c).loop.directions
 
 room : (c : Turn) → Room c
 room c =
-    let inv = (at-loop c).loop.invariant in
-    let some = path-some (start c).requires.0 (apart c) in
+    let inv = (at_loop c).loop.invariant in
+    let some = path_some (start c).requires.0 (apart c) in
     let is = inv.2 in
     record { some = omega arith; edges = omega (arith, inv.3.room); directions = omega (arith, inv.4.room) }
 
@@ -70,8 +70,8 @@ Up = tie.Then1 invariant-loop decreases-loop
 abbrev up_turn : Up → Turn
 up_turn c = c.before.before.before
 
-up-edge : (c : Up) → led-by (start (up_turn c)).args.t2 (at-loop (up_turn c)).loop.x < 63
-up-edge c = first_edge (start (up_turn c)).pre.0 (apart (up_turn c)) c.if1.true
+up_edge : (c : Up) → led_by (start (up_turn c)).args.t2 (at_loop (up_turn c)).loop.x < 63
+up_edge c = first_edge (start (up_turn c)).pre.0 (apart (up_turn c)) c.if1.true
 
 element-copy-out-e : tie.Need-element-copy-out-e invariant-loop decreases-loop
 element-copy-out-e c = let turn = up_turn c in first_fits (start turn).pre.0 (apart turn)
@@ -83,7 +83,7 @@ byte-requires : tie.Need-byte-requires invariant-loop decreases-loop
 byte-requires c κs = tt
 
 direction-requires : tie.Need-direction-requires invariant-loop decreases-loop
-direction-requires c κs = rw c.byte.ensures (up-edge c.before.before.before.before)
+direction-requires c κs = rw c.byte.ensures (up_edge c.before.before.before.before)
 
 abbrev up-directed : tie.After-direction invariant-loop decreases-loop → Up
 up-directed c = c.before.before.before.before.before
@@ -95,7 +95,7 @@ byte-requires-2 : tie.Need-byte-requires-2 invariant-loop decreases-loop
 byte-requires-2 c κs = tt
 
 across-requires : tie.Need-across-requires invariant-loop decreases-loop
-across-requires c κs = rw c.byte2.ensures (up-edge (up-directed c.before.before.before))
+across-requires c κs = rw c.byte2.ensures (up_edge (up-directed c.before.before.before))
 
 abbrev up_from : tie.After-across invariant-loop decreases-loop → Up
 up_from c = up-directed c.before.before.before.before
@@ -104,10 +104,10 @@ add-front : tie.Need-overflow-add-front invariant-loop decreases-loop
 add-front c = let r = room (up_turn (up_from c)) in search rules
 
 climbed : (c : tie.After-across invariant-loop decreases-loop)
-    → let turn = up_turn (up_from c) in FirstClimbs (start turn).args.t1 (start turn).args.t2 (at-loop turn).loop.x (at-loop turn).loop.y c.across.result
+    → let turn = up_turn (up_from c) in FirstClimbs (start turn).args.t1 (start turn).args.t2 (at_loop turn).loop.x (at_loop turn).loop.y c.across.result
 climbed c =
     let turn = up_turn (up_from c) in
-    first-climbs (start turn).pre.0 (apart turn) (up_from c).if1.true (rw c.before.byte2.ensures at c.across.ensures)
+    first_climbs (start turn).pre.0 (apart turn) (up_from c).if1.true (rw c.before.byte2.ensures at c.across.ensures)
 
 loop-less : tie.Need-loop-smaller invariant-loop decreases-loop
 loop-less c = let q = (climbed c).shorter in omega arith
@@ -115,18 +115,18 @@ loop-less c = let q = (climbed c).shorter in omega arith
 -- the direction is stored as it was found
 way_up : (c : tie.After-direction invariant-loop decreases-loop)
     → let turn = up_turn (up-directed c) in
-    to_z w8 (of_z w8 c.direction.result) ≡ direction-of (step-read (start turn).args.t1 (led-by (start turn).args.t2 (at-loop turn).loop.x) (at-loop turn).loop.x)
+    to_z w8 (of_z w8 c.direction.result) ≡ direction_of (step_read (start turn).args.t1 (led_by (start turn).args.t2 (at_loop turn).loop.x) (at_loop turn).loop.x)
 way_up c = back8 c.direction.result c.direction.type-inv ∙ (rw c.before.byte.ensures at c.direction.ensures)
 
 loop-again : tie.Need-loop-preserved invariant-loop decreases-loop
 loop-again c =
-    let inv = (at-loop (up_turn (up_from c))).loop.inv in
+    let inv = (at_loop (up_turn (up_from c))).loop.inv in
     let q = (climbed c).shorter in (
       (climbed c).below,
       inv.1,
       omega (arith, inv.2),
-      front-filled edge_of _ _ _ _ _ _ _ _ refl (rw (climbed c).path-is at inv.3),
-      front-filled direction-of _ _ _ _ _ _ _ _ (way_up c.before.before.before.before) (rw (climbed c).path-is at inv.4),
+      front_filled edge_of _ _ _ _ _ _ _ _ refl (rw (climbed c).path_is at inv.3),
+      front_filled direction_of _ _ _ _ _ _ _ _ (way_up c.before.before.before.before) (rw (climbed c).path_is at inv.4),
     )
 
 -- ---- the second was
@@ -136,8 +136,8 @@ Down = tie.Else1 invariant-loop decreases-loop
 abbrev down_turn : Down → Turn
 down_turn c = c.before.before.before
 
-down-edge : (c : Down) → led-by (start (down_turn c)).args.t2 (at-loop (down_turn c)).loop.y < 63
-down-edge c = second-edge (start (down_turn c)).pre.0 (apart (down_turn c)) c.if1.false
+down_edge : (c : Down) → led_by (start (down_turn c)).args.t2 (at_loop (down_turn c)).loop.y < 63
+down_edge c = second_edge (start (down_turn c)).pre.0 (apart (down_turn c)) c.if1.false
 
 element-copy-out-e-2 : tie.Need-element-copy-out-e-2 invariant-loop decreases-loop
 element-copy-out-e-2 c = let turn = down_turn c in second_fits (start turn).pre.0 (apart turn)
@@ -146,7 +146,7 @@ byte-requires-3 : tie.Need-byte-requires-3 invariant-loop decreases-loop
 byte-requires-3 c κs = tt
 
 across-requires-2 : tie.Need-across-requires-2 invariant-loop decreases-loop
-across-requires-2 c κs = rw c.byte3.ensures (down-edge c.before.before.before.before)
+across-requires-2 c κs = rw c.byte3.ensures (down_edge c.before.before.before.before)
 
 abbrev down-from : tie.After-across2 invariant-loop decreases-loop → Down
 down-from c = c.before.before.before.before.before
@@ -161,7 +161,7 @@ byte-requires-4 : tie.Need-byte-requires-4 invariant-loop decreases-loop
 byte-requires-4 c κs = tt
 
 direction-requires-2 : tie.Need-direction-requires-2 invariant-loop decreases-loop
-direction-requires-2 c κs = rw c.byte4.ensures (down-edge (down-from c.before.before.before))
+direction-requires-2 c κs = rw c.byte4.ensures (down_edge (down-from c.before.before.before))
 
 abbrev down-directed : tie.After-direction2 invariant-loop decreases-loop → tie.After-across2 invariant-loop decreases-loop
 down-directed c = c.before.before.before.before
@@ -170,35 +170,35 @@ slice-set-from-directions-2 : tie.Need-slice-set-from-directions-2 invariant-loo
 slice-set-from-directions-2 c = let r = room (down_turn (down-from (down-directed c))) in omega (arith, r.some, r.directions)
 
 reached : (c : tie.After-across2 invariant-loop decreases-loop)
-    → let turn = down_turn (down-from c) in SecondClimbs (start turn).args.t1 (start turn).args.t2 (at-loop turn).loop.x (at-loop turn).loop.y c.across2.result
+    → let turn = down_turn (down-from c) in SecondClimbs (start turn).args.t1 (start turn).args.t2 (at_loop turn).loop.x (at_loop turn).loop.y c.across2.result
 reached c =
     let turn = down_turn (down-from c) in
-    second-climbs (start turn).pre.0 (apart turn) (down-from c).if1.false (rw c.before.byte3.ensures at c.across2.ensures)
+    second_climbs (start turn).pre.0 (apart turn) (down-from c).if1.false (rw c.before.byte3.ensures at c.across2.ensures)
 
 loop-less-2 : tie.Need-loop-smaller-2 invariant-loop decreases-loop
 loop-less-2 c = let q = (reached (down-directed c)).shorter in omega arith
 
 way_down : (c : tie.After-direction2 invariant-loop decreases-loop)
     → let turn = down_turn (down-from (down-directed c)) in
-    to_z w8 (of_z w8 c.direction2.result) ≡ direction-of (step-read (start turn).args.t1 (led-by (start turn).args.t2 (at-loop turn).loop.y) (down-directed c).across2.result)
+    to_z w8 (of_z w8 c.direction2.result) ≡ direction_of (step_read (start turn).args.t1 (led_by (start turn).args.t2 (at_loop turn).loop.y) (down-directed c).across2.result)
 way_down c = back8 c.direction2.result c.direction2.type-inv ∙ (rw c.before.byte4.ensures at c.direction2.ensures)
 
 -- the place before back is the one behind the rest of the path
-last-place : (c : tie.After-across2 invariant-loop decreases-loop)
+last_place : (c : tie.After-across2 invariant-loop decreases-loop)
     → let turn = down_turn (down-from c) in
-    (at-loop turn).loop.back - 1 ≡ (at-loop turn).loop.front + length (path (complexOf (start turn).args.t1) (at-loop turn).loop.x c.across2.result)
-last-place c = let q = (reached c).shorter in omega (arith, (at-loop (down_turn (down-from c))).loop.inv.2)
+    (at_loop turn).loop.back - 1 ≡ (at_loop turn).loop.front + length (path (complex_of (start turn).args.t1) (at_loop turn).loop.x c.across2.result)
+last_place c = let q = (reached c).shorter in omega (arith, (at_loop (down_turn (down-from c))).loop.inv.2)
 
 loop-again-2 : tie.Need-loop-preserved-2 invariant-loop decreases-loop
 loop-again-2 c =
     let d = reached (down-directed c) in
-    let k = last-place (down-directed c) in
-    let inv = (at-loop (down_turn (down-from (down-directed c)))).loop.inv in (
+    let k = last_place (down-directed c) in
+    let inv = (at_loop (down_turn (down-from (down-directed c)))).loop.inv in (
       inv.0,
       d.below,
       k,
-      back-filled edge_of _ _ _ _ _ _ _ _ refl (rw d.path-is at inv.3) _ k,
-      back-filled direction-of _ _ _ _ _ _ _ _ (way_down c) (rw d.path-is at inv.4) _ k,
+      back_filled edge_of _ _ _ _ _ _ _ _ refl (rw d.path_is at inv.3) _ k,
+      back_filled direction_of _ _ _ _ _ _ _ _ (way_down c) (rw d.path_is at inv.4) _ k,
     )
 
 same_length : tie.Need-same-length invariant-loop decreases-loop
@@ -210,11 +210,11 @@ same-length-2 c = c.before.loop.invariant.4.long
 returns : tie.Need-returns invariant-loop decreases-loop
 returns c =
     let inv = c.before.loop.invariant in
-    let met = path-met c.before.before.before.requires.0 c.loop-test.false in
-    record { edge-list = all-filled edge_of _ _ _ _ _ (rw met at inv.3); direction-list = all-filled direction-of _ _ _ _ _ (rw met at inv.4) }
+    let met = path_met c.before.before.before.requires.0 c.loop-test.false in
+    record { edge_list = all_filled edge_of _ _ _ _ _ (rw met at inv.3); direction_list = all_filled direction_of _ _ _ _ _ (rw met at inv.4) }
 
-pub write-path-spec : {M : Type 1} → statement M
-write-path-spec =
+pub write_path_spec : {M : Type 1} → statement M
+write_path_spec =
     tie.close
     (tie.spec
     invariant-loop

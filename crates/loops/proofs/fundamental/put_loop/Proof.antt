@@ -3,49 +3,49 @@ use mathlib.Core.Path.{◌≡◌, refl}
 use native.Mathlib.Omega.{arith}
 use borrow.Author.Rules.{rules}
 use lib.ListN.{length}
-use Rattle.complex.specs.Complex.{complexOf}
-use Rattle.loops.specs.Walks.{edge_of, direction-of}
-use Rattle.loops.specs.Loops.{loop-of}
+use Rattle.complex.specs.Complex.{complex_of}
+use Rattle.loops.specs.Walks.{edge_of, direction_of}
+use Rattle.loops.specs.Loops.{loop_of}
 use Rattle.loops.proofs.Climbs.{edges_few}
-use Rattle.loops.proofs.LoopReads.{EndsRead, ends-inside, loop-long, last-room, loop-put}
+use Rattle.loops.proofs.LoopReads.{EndsRead, ends_inside, loop_long, last_room, loop_put}
 use Rattle.loops.proofs.fundamental.put_loop.Statement.{statement}
 use Rattle.loops.proofs.fundamental.put_loop.Tie as tie
 
-edge-start-requires : tie.Need-edge-start-requires
-edge-start-requires c κs = let few = edges_few c.before.before.before.requires.0 in omega (arith, c.before.before.before.requires.1)
+edge_start-requires : tie.Need-edge_start-requires
+edge_start-requires c κs = let few = edges_few c.before.before.before.requires.0 in omega (arith, c.before.before.before.requires.1)
 
-edge-end-requires : tie.Need-edge-end-requires
-edge-end-requires c κs = let few = edges_few c.before.before.before.before.before.before.requires.0 in omega (arith, c.before.before.before.before.before.before.requires.1)
+edge_end-requires : tie.Need-edge_end-requires
+edge_end-requires c κs = let few = edges_few c.before.before.before.before.before.before.requires.0 in omega (arith, c.before.before.before.before.before.before.requires.1)
 
-abbrev start : tie.After-edge-end → tie.Start
+abbrev start : tie.After-edge_end → tie.Start
 start c = c.before.before.before.before.before.before.before
 
-read : (c : tie.After-edge-end) → EndsRead (start c).args.t1 (start c).args.f c.before.before.before.edge-start.result c.edge-end.result
-read c = record { inside = (start c).requires.1; first = c.before.before.before.edge-start.ensures; second = c.edge-end.ensures }
+read : (c : tie.After-edge_end) → EndsRead (start c).args.t1 (start c).args.f c.before.before.before.edge_start.result c.edge_end.result
+read c = record { inside = (start c).requires.1; first = c.before.before.before.edge_start.ensures; second = c.edge_end.ensures }
 
-path-length-requires : tie.Need-path-length-requires
-path-length-requires c κs = let e = ends-inside (start c).requires.0 (read c) in ((start c).requires.0, e.0, e.1)
+path_length-requires : tie.Need-path_length-requires
+path_length-requires c κs = let e = ends_inside (start c).requires.0 (read c) in ((start c).requires.0, e.0, e.1)
 
 -- the loop has one step more than the path
-longer : (c : tie.After-path-length) → length (loop-of (complexOf (start c.before).args.t1) (start c.before).args.f) ≡ c.path-length.result + 1
-longer c = rw c.path-length.ensures (loop-long (start c.before).requires.0 (read c.before))
+longer : (c : tie.After-path_length) → length (loop_of (complex_of (start c.before).args.t1) (start c.before).args.f) ≡ c.path_length.result + 1
+longer c = rw c.path_length.ensures (loop_long (start c.before).requires.0 (read c.before))
 
-write-path-requires : tie.Need-write-path-requires
-write-path-requires c κs =
+write_path-requires : tie.Need-write_path-requires
+write_path-requires c κs =
     let counted = c.before.before in
     let pre = (start counted.before).requires in
-    let e = ends-inside pre.0 (read counted.before) in
-    let l = loop-long pre.0 (read counted.before) in
-    (pre.0, e.0, e.1, counted.path-length.ensures, record { edge-room = omega (arith, pre.2.edge-room); direction-room = omega (arith, pre.2.direction-room) })
+    let e = ends_inside pre.0 (read counted.before) in
+    let l = loop_long pre.0 (read counted.before) in
+    (pre.0, e.0, e.1, counted.path_length.ensures, record { edge_room = omega (arith, pre.2.edge_room); direction_room = omega (arith, pre.2.direction_room) })
 
-abbrev counted : tie.After-directions → tie.After-path-length
+abbrev counted : tie.After-directions → tie.After-path_length
 counted c = c.before.before.before.before.before.before
 
-abbrev ends : tie.After-directions → tie.After-edge-end
+abbrev ends : tie.After-directions → tie.After-edge_end
 ends c = (counted c).before
 
 add-last : tie.Need-overflow-add-last
-add-last c = let l = longer (counted c) in let room = (start (ends c)).requires.2.edge-room in search rules
+add-last c = let l = longer (counted c) in let room = (start (ends c)).requires.2.edge_room in search rules
 
 cast-edges : tie.Need-overflow-cast-edges
 cast-edges c = let few = edges_few (start (ends c)).requires.0 in let inside = (start (ends c)).requires.1 in search rules
@@ -53,15 +53,15 @@ cast-edges c = let few = edges_few (start (ends c)).requires.0 in let inside = (
 slice-write-edges : tie.Need-slice-write-edges
 slice-write-edges c =
     let pre = (start (ends c)).requires in
-    last-room pre.0 (read (ends c)) edge_of refl _ _ (counted c).path-length.ensures c.before.before.before.write-path.ensures.edge-list pre.2.edge-room
+    last_room pre.0 (read (ends c)) edge_of refl _ _ (counted c).path_length.ensures c.before.before.before.write_path.ensures.edge_list pre.2.edge_room
 
 slice-set-of-directions : tie.Need-slice-set-of-directions
 slice-set-of-directions c =
     let pre = (start (ends c)).requires in
-    last-room pre.0 (read (ends c)) direction-of refl _ _ (counted c).path-length.ensures c.before.before.before.write-path.ensures.direction-list pre.2.direction-room
+    last_room pre.0 (read (ends c)) direction_of refl _ _ (counted c).path_length.ensures c.before.before.before.write_path.ensures.direction_list pre.2.direction_room
 
 add-result : tie.Need-overflow-add-result
-add-result c = let l = longer (counted c) in let room = (start (ends c)).requires.2.edge-room in search rules
+add-result c = let l = longer (counted c) in let room = (start (ends c)).requires.2.edge_room in search rules
 
 same_length : tie.Need-same-length
 same_length c = search rules
@@ -73,24 +73,24 @@ returns : tie.Need-returns
 returns c =
     let pre = (start (ends c)).requires in
     let l = longer (counted c) in
-    let written = c.before.before.before.write-path.ensures in
+    let written = c.before.before.before.write_path.ensures in
     record {
       next_place = omega arith;
       steps =
           record {
-            edge-list = loop-put pre.0 (read (ends c)) edge_of refl _ _ (counted c).path-length.ensures written.edge-list pre.2.edge-room;
-            direction-list = loop-put pre.0 (read (ends c)) direction-of refl _ _ (counted c).path-length.ensures written.direction-list pre.2.direction-room;
+            edge_list = loop_put pre.0 (read (ends c)) edge_of refl _ _ (counted c).path_length.ensures written.edge_list pre.2.edge_room;
+            direction_list = loop_put pre.0 (read (ends c)) direction_of refl _ _ (counted c).path_length.ensures written.direction_list pre.2.direction_room;
           };
     }
 
-pub put-loop-spec : {M : Type 1} → statement M
-put-loop-spec =
+pub put_loop_spec : {M : Type 1} → statement M
+put_loop_spec =
     tie.close
     (tie.spec
-    edge-start-requires
-    edge-end-requires
-    path-length-requires
-    write-path-requires
+    edge_start-requires
+    edge_end-requires
+    path_length-requires
+    write_path-requires
     add-last
     cast-edges
     slice-write-edges

@@ -3,21 +3,21 @@ use mathlib.Core.Path.{◌≡◌, refl}
 use native.Mathlib.Omega.{arith}
 use borrow.Author.Rules.{rules}
 use lib.ListN.{length}
-use Rattle.complex.specs.Complex.{complexOf}
-use Rattle.loops.specs.Loops.{loop-steps}
-use Rattle.loops.proofs.LoopLists.{no_steps, steps-count}
-use Rattle.loops.proofs.LoopReads.{FreeRead, steps-fit, next-free, edge-inside}
+use Rattle.complex.specs.Complex.{complex_of}
+use Rattle.loops.specs.Loops.{loop_steps}
+use Rattle.loops.proofs.LoopLists.{no_steps, steps_count}
+use Rattle.loops.proofs.LoopReads.{FreeRead, steps_fit, next_free, edge_inside}
 use Rattle.loops.proofs.fundamental.total_steps.Statement.{statement}
 use Rattle.loops.proofs.fundamental.total_steps.Tie as tie
 
 abbrev invariant-loop : tie.invariant-loop
-invariant-loop c parents free total₀ j₀ j-end total j = (j ≤ free.count) × (j-end ≡ free.count) × (total ≡ length (loop-steps (complexOf c) j))
+invariant-loop c parents free total₀ j₀ j-end total j = (j ≤ free.count) × (j-end ≡ free.count) × (total ≡ length (loop_steps (complex_of c) j))
 
 abbrev decreases-loop : tie.decreases-loop
 decreases-loop c parents free total₀ j₀ j-end total j = free.count - j
 
 loop-holds : tie.Need-loop-init invariant-loop decreases-loop
-loop-holds c = (omega arith, refl, rw (no_steps (complexOf c.args.c)))
+loop-holds c = (omega arith, refl, rw (no_steps (complex_of c.args.c)))
 
 element-copy-out-byte : tie.Need-element-copy-out-byte invariant-loop decreases-loop
 element-copy-out-byte c = let few = c.before.before.requires.1.few in omega arith
@@ -25,27 +25,27 @@ element-copy-out-byte c = let few = c.before.before.requires.1.few in omega arit
 byte-requires : tie.Need-byte-requires invariant-loop decreases-loop
 byte-requires c κs = tt
 
-abbrev at-loop : tie.After-byte invariant-loop decreases-loop → tie.At-loop invariant-loop decreases-loop
-at-loop c = c.before.before.before
+abbrev at_loop : tie.After-byte invariant-loop decreases-loop → tie.At-loop invariant-loop decreases-loop
+at_loop c = c.before.before.before
 
 abbrev start : tie.After-byte invariant-loop decreases-loop → tie.Start invariant-loop decreases-loop
 start c = c.before.before.before.before
 
-read : (c : tie.After-byte invariant-loop decreases-loop) → FreeRead (start c).args.t3 (at-loop c).loop.j c.byte.result
+read : (c : tie.After-byte invariant-loop decreases-loop) → FreeRead (start c).args.t3 (at_loop c).loop.j c.byte.result
 read c = record { more = omega arith; is = c.byte.ensures }
 
-loop-length-requires : tie.Need-loop-length-requires invariant-loop decreases-loop
-loop-length-requires c κs = ((start c).requires.0, edge-inside (start c).requires.0 (start c).requires.1 (read c))
+loop_length-requires : tie.Need-loop_length-requires invariant-loop decreases-loop
+loop_length-requires c κs = ((start c).requires.0, edge_inside (start c).requires.0 (start c).requires.1 (read c))
 
 -- the steps of one loop more
-next : (c : tie.After-loop-length invariant-loop decreases-loop)
+next : (c : tie.After-loop_length invariant-loop decreases-loop)
     → let read = c.before in
-    ((at-loop read).loop.total + c.loop-length.result ≡ length (loop-steps (complexOf (start read).args.c) ((at-loop read).loop.j + 1)))
-    × (length (loop-steps (complexOf (start read).args.c) ((at-loop read).loop.j + 1)) ≤ 3969)
+    ((at_loop read).loop.total + c.loop_length.result ≡ length (loop_steps (complex_of (start read).args.c) ((at_loop read).loop.j + 1)))
+    × (length (loop_steps (complex_of (start read).args.c) ((at_loop read).loop.j + 1)) ≤ 3969)
 next c =
     let pre = (start c.before).pre in
-    let count = steps-count (next-free pre.0 pre.1 (read c.before)) in
-    (omega (arith, (at-loop c.before).loop.inv.2, c.loop-length.ensures), steps-fit pre.0 pre.1 (omega arith))
+    let count = steps_count (next_free pre.0 pre.1 (read c.before)) in
+    (omega (arith, (at_loop c.before).loop.inv.2, c.loop_length.ensures), steps_fit pre.0 pre.1 (omega arith))
 
 add_total : tie.Need-overflow-add-total invariant-loop decreases-loop
 add_total c = let n = next c in search rules
@@ -65,8 +65,8 @@ returns c =
     let past : c.before.loop.j ≡ c.before.before.args.t3.count = omega arith in
     rw (past, of.count) at c.before.loop.invariant.2
 
-pub total-steps-spec : {M : Type 1} → statement M
-total-steps-spec =
+pub total_steps_spec : {M : Type 1} → statement M
+total_steps_spec =
     tie.close
     (tie.spec
     invariant-loop
@@ -74,7 +74,7 @@ total-steps-spec =
     loop-holds
     element-copy-out-byte
     byte-requires
-    loop-length-requires
+    loop_length-requires
     add_total
     add-j
     loop-less

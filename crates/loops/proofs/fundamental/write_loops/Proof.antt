@@ -3,33 +3,33 @@ use mathlib.Core.Path.{◌≡◌, refl, sym, ◌∙◌}
 use native.Mathlib.Omega.{arith}
 use borrow.Author.Rules.{rules}
 use lib.ListN.{length, length-set}
-use Rattle.complex.specs.Complex.{complexOf}
-use Rattle.loops.specs.Walks.{edge_of, direction-of}
-use Rattle.loops.specs.Loops.{loop-steps}
-use Rattle.loops.proofs.LoopLists.{no_steps, steps-count, Laid, none-laid, laid-room, one-laid, all_laid, Started, none-started, one-started, all-started}
-use Rattle.loops.proofs.LoopReads.{FreeRead, steps-fit, next-free, edge-inside}
+use Rattle.complex.specs.Complex.{complex_of}
+use Rattle.loops.specs.Walks.{edge_of, direction_of}
+use Rattle.loops.specs.Loops.{loop_steps}
+use Rattle.loops.proofs.LoopLists.{no_steps, steps_count, Laid, none_laid, laid_room, one_laid, all_laid, Started, none_started, one_started, all_started}
+use Rattle.loops.proofs.LoopReads.{FreeRead, steps_fit, next_free, edge_inside}
 use Rattle.loops.proofs.fundamental.write_loops.Statement.{statement}
 use Rattle.loops.proofs.fundamental.write_loops.Tie as tie
 
 abbrev invariant-loop : tie.invariant-loop
 invariant-loop c parents starts₀ edges₀ directions₀ free at₀ j₀ j-end starts edges directions at j =
-    (j ≤ free.count) × (j-end ≡ free.count) × (at ≡ length (loop-steps (complexOf c) j)) × (length starts ≡ length starts₀)
-    × Started (complexOf c) starts₀ j starts
-    × Laid (complexOf c) edge_of edges₀ j edges
-    × Laid (complexOf c) direction-of directions₀ j directions
+    (j ≤ free.count) × (j-end ≡ free.count) × (at ≡ length (loop_steps (complex_of c) j)) × (length starts ≡ length starts₀)
+    × Started (complex_of c) starts₀ j starts
+    × Laid (complex_of c) edge_of edges₀ j edges
+    × Laid (complex_of c) direction_of directions₀ j directions
 
 abbrev decreases-loop : tie.decreases-loop
 decreases-loop c parents starts₀ edges₀ directions₀ free at₀ j₀ j-end starts edges directions at j = free.count - j
 
 loop-holds : tie.Need-loop-init invariant-loop decreases-loop
-loop-holds c = let K = complexOf c.before.before.args.c in (omega arith, refl, rw (no_steps K), refl, none-started K _, none-laid K edge_of _, none-laid K direction-of _)
+loop-holds c = let K = complex_of c.before.before.args.c in (omega arith, refl, rw (no_steps K), refl, none_started K _, none_laid K edge_of _, none_laid K direction_of _)
 
 abbrev start : tie.At-loop invariant-loop decreases-loop → tie.Start invariant-loop decreases-loop
 start c = c.before.before.before
 
 -- a start is small, and there is room for it
 small : (c : tie.At-loop invariant-loop decreases-loop) → c.loop.at ≤ 3969
-small c = rw c.loop.invariant.2 (steps-fit (start c).requires.0 (start c).requires.1 c.loop.invariant.0)
+small c = rw c.loop.invariant.2 (steps_fit (start c).requires.0 (start c).requires.1 c.loop.invariant.0)
 
 room : (c : tie.At-loop invariant-loop decreases-loop) → c.loop.j < length (start c).args.starts.now
 room c = let is = (start c).requires.1.count in let long = (start c).requires.2 in omega (arith, c.loop.invariant.0)
@@ -49,21 +49,21 @@ element-copy-out-byte c = let few = (start c.before).pre.1.few in omega arith
 byte-requires : tie.Need-byte-requires invariant-loop decreases-loop
 byte-requires c κs = tt
 
-abbrev at-loop : tie.After-byte invariant-loop decreases-loop → tie.At-loop invariant-loop decreases-loop
-at-loop c = c.before.before.before
+abbrev at_loop : tie.After-byte invariant-loop decreases-loop → tie.At-loop invariant-loop decreases-loop
+at_loop c = c.before.before.before
 
-read : (c : tie.After-byte invariant-loop decreases-loop) → FreeRead (start (at-loop c)).args.t3 (at-loop c).loop.j c.byte.result
+read : (c : tie.After-byte invariant-loop decreases-loop) → FreeRead (start (at_loop c)).args.t3 (at_loop c).loop.j c.byte.result
 read c = record { more = omega arith; is = c.byte.ensures }
 
-put-loop-requires : tie.Need-put-loop-requires invariant-loop decreases-loop
-put-loop-requires c κs =
-    let read-it = c.before.before in
-    let pre = (start (at-loop read-it)).pre in
-    let inv = (at-loop read-it).loop.invariant in
-    let n = next-free pre.0 pre.1 (read read-it) in (
+put_loop-requires : tie.Need-put_loop-requires invariant-loop decreases-loop
+put_loop-requires c κs =
+    let read_it = c.before.before in
+    let pre = (start (at_loop read_it)).pre in
+    let inv = (at_loop read_it).loop.invariant in
+    let n = next_free pre.0 pre.1 (read read_it) in (
       pre.0,
-      edge-inside pre.0 pre.1 (read read-it),
-      record { edge-room = laid-room n inv.2 inv.5 pre.3.edge-room; direction-room = laid-room n inv.2 inv.6 pre.3.direction-room },
+      edge_inside pre.0 pre.1 (read read_it),
+      record { edge_room = laid_room n inv.2 inv.5 pre.3.edge_room; direction_room = laid_room n inv.2 inv.6 pre.3.direction_room },
     )
 
 add-j : tie.Need-overflow-add-j invariant-loop decreases-loop
@@ -74,20 +74,20 @@ loop-less c = search rules
 
 loop-again : tie.Need-loop-preserved invariant-loop decreases-loop
 loop-again c =
-    let read-it = c.before.before.before.before.before.before in
-    let loop = (at-loop read-it).loop in
-    let pre = (start (at-loop read-it)).pre in
+    let read_it = c.before.before.before.before.before.before in
+    let loop = (at_loop read_it).loop in
+    let pre = (start (at_loop read_it)).pre in
     let inv = loop.inv in
-    let n = next-free pre.0 pre.1 (read read-it) in
-    let written = c.before.before.before.put-loop.ensures in
-    let count = steps-count n in (
+    let n = next_free pre.0 pre.1 (read read_it) in
+    let written = c.before.before.before.put_loop.ensures in
+    let count = steps_count n in (
       omega arith,
       refl,
       omega (arith, written.next_place, inv.2),
       length-set loop.starts loop.j loop.at ∙ inv.3,
-      one-started inv.4 inv.2 (room (at-loop read-it)),
-      one-laid n inv.2 inv.5 pre.3.edge-room written.steps.edge-list,
-      one-laid n inv.2 inv.6 pre.3.direction-room written.steps.direction-list,
+      one_started inv.4 inv.2 (room (at_loop read_it)),
+      one_laid n inv.2 inv.5 pre.3.edge_room written.steps.edge_list,
+      one_laid n inv.2 inv.6 pre.3.direction_room written.steps.direction_list,
     )
 
 cast-starts-2 : tie.Need-overflow-cast-starts-2 invariant-loop decreases-loop
@@ -115,13 +115,13 @@ returns c =
     let past : begun.args.t3.count ≡ c.before.loop.j = omega arith in
     let end = sym past ∙ begun.pre.1.count in
     record {
-      start-list = rw past (all-started (one-started inv.4 inv.2 (room c.before)) end);
-      edge-list = all_laid inv.5 end;
-      direction-list = all_laid inv.6 end;
+      start_list = rw past (all_started (one_started inv.4 inv.2 (room c.before)) end);
+      edge_list = all_laid inv.5 end;
+      direction_list = all_laid inv.6 end;
     }
 
-pub write-loops-spec : {M : Type 1} → statement M
-write-loops-spec =
+pub write_loops_spec : {M : Type 1} → statement M
+write_loops_spec =
     tie.close
     (tie.spec
     invariant-loop
@@ -132,7 +132,7 @@ write-loops-spec =
     slice-write-starts
     element-copy-out-byte
     byte-requires
-    put-loop-requires
+    put_loop-requires
     add-j
     loop-less
     loop-again

@@ -1,15 +1,15 @@
 use mathlib.Core.Path.{refl}
 use Rattle.matrices.specs.Coupling.{float_of}
-use Rattle.matrices.proofs.Squares.{whole-held}
+use Rattle.matrices.proofs.Squares.{whole_held}
 use Rattle.matrices.proofs.electric.energy.Statement.{statement}
 use Rattle.matrices.proofs.electric.energy.Tie as tie
 
 int-to-float-result : tie.Need-int-to-float-result
-int-to-float-result c = whole-held _ c.before.requires
+int-to-float-result c = whole_held _ c.before.requires
 
 returns : tie.Need-returns
 unfolding float_of
 returns c = refl
 
-pub energy-spec : {M : Type 1} → statement M
-energy-spec = tie.close (tie.spec int-to-float-result returns)
+pub energy_spec : {M : Type 1} → statement M
+energy_spec = tie.close (tie.spec int-to-float-result returns)

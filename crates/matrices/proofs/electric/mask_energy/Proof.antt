@@ -13,5 +13,5 @@ energy-requires c κs = let few = ones-le 64 c.args.mask c.ranges.mask.fits in o
 returns : tie.Need-returns
 returns c = search rules
 
-pub mask-energy-spec : {M : Type 1} → statement M
-mask-energy-spec = tie.close (tie.spec cast-energy energy-requires returns)
+pub mask_energy_spec : {M : Type 1} → statement M
+mask_energy_spec = tie.close (tie.spec cast-energy energy-requires returns)

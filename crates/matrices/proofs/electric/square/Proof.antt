@@ -4,26 +4,26 @@ use native.Mathlib.Omega.{arith}
 use lib.IntN.{pos, nat_abs, ◌*ℤ◌}
 use mir.Syntax.{w32}
 use mir.Val.{to_z, of_z}
-use Rattle.mathematics.proofs.Signed.{back32, small-back, size_fits}
-use Rattle.matrices.proofs.Squares.{square-is, square-small}
+use Rattle.mathematics.proofs.Signed.{back32, small_back, size_fits}
+use Rattle.matrices.proofs.Squares.{square_is, square_small}
 use borrow.Author.Rules.{rules}
 use Rattle.matrices.proofs.electric.square.Statement.{statement}
 use Rattle.matrices.proofs.electric.square.Tie as tie
 
 is : (c : tie.Start) → to_z w32 (of_z w32 c.args.x) *ℤ to_z w32 (of_z w32 c.args.x) ≡ pos (nat_abs c.args.x * nat_abs c.args.x)
-is c = let back = back32 c.args.x c.ranges.x.sfits in ap₂ ◌*ℤ◌ back back ∙ square-is c.args.x
+is c = let back = back32 c.args.x c.ranges.x.sfits in ap₂ ◌*ℤ◌ back back ∙ square_is c.args.x
 
 made : (c : tie.Start) → to_z w32 (of_z w32 (pos (nat_abs c.args.x * nat_abs c.args.x))) ≡ pos (nat_abs c.args.x * nat_abs c.args.x)
-made c = small-back (pos (nat_abs c.args.x * nat_abs c.args.x)) (omega (arith, square-small c.args.x c.requires))
+made c = small_back (pos (nat_abs c.args.x * nat_abs c.args.x)) (omega (arith, square_small c.args.x c.requires))
 
 mul-result : tie.Need-overflow-mul-result
-mul-result c = let small = square-small c.args.x c.requires in rw (is c) (size_fits w32 (pos (nat_abs c.args.x * nat_abs c.args.x)) (omega (arith, small)))
+mul-result c = let small = square_small c.args.x c.requires in rw (is c) (size_fits w32 (pos (nat_abs c.args.x * nat_abs c.args.x)) (omega (arith, small)))
 
 cast-result : tie.Need-overflow-cast-result
-cast-result c = rw (is c, made c) (tt, record { fits = omega (arith, square-small c.args.x c.requires) })
+cast-result c = rw (is c, made c) (tt, record { fits = omega (arith, square_small c.args.x c.requires) })
 
 returns : tie.Need-returns
 returns c = rw (is c, made c)
 
-pub square-spec : {M : Type 1} → statement M
-square-spec = tie.close (tie.spec mul-result cast-result returns)
+pub square_spec : {M : Type 1} → statement M
+square_spec = tie.close (tie.spec mul-result cast-result returns)

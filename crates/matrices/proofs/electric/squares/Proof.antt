@@ -7,7 +7,7 @@ use lib.Seq.{take-length}
 use Rattle.mathematics.proofs.Front.{take_next}
 use Rattle.mathematics.proofs.Signed.{back32}
 use Rattle.matrices.specs.Squares.{squares}
-use Rattle.matrices.proofs.Squares.{square-small, squares-last}
+use Rattle.matrices.proofs.Squares.{square_small, squares_last}
 use borrow.Author.Rules.{rules}
 use Rattle.matrices.proofs.electric.squares.Statement.{statement}
 use Rattle.matrices.proofs.electric.squares.Tie as tie
@@ -27,10 +27,10 @@ squared : (c : tie.After-square invariant-loop decreases-loop)
     → (c.square.result ≡ nat_abs (get_or c.before.before.before.before.args.state.now c.before.before.before.loop.e (pos 0)) * nat_abs (get_or c.before.before.before.before.args.state.now c.before.before.before.loop.e (pos 0)))
     × (c.square.result ≤ 1000000)
 squared c =
-    let at-loop = c.before.before.before in
-    let x = get_or at-loop.before.args.state.now at-loop.loop.e (pos 0) in
+    let at_loop = c.before.before.before in
+    let x = get_or at_loop.before.args.state.now at_loop.loop.e (pos 0) in
     let is : c.square.result ≡ nat_abs x * nat_abs x = c.square.ensures ∙ rw (back32 x c.before.square-arg.given) in
-    (is, rw is (square-small x (at-loop.before.requires.1 at-loop.loop.e (omega arith))))
+    (is, rw is (square_small x (at_loop.before.requires.1 at_loop.loop.e (omega arith))))
 
 mul-square : tie.Need-overflow-mul-square invariant-loop decreases-loop
 mul-square c = search rules
@@ -52,14 +52,14 @@ loop-less c = search rules
 
 loop-again : tie.Need-loop-preserved invariant-loop decreases-loop
 loop-again c =
-    let at-loop = c.before.before.before in
-    let s = at-loop.before.args.state.now in
-    let e = at-loop.loop.e in
+    let at_loop = c.before.before.before in
+    let s = at_loop.before.args.state.now in
+    let e = at_loop.loop.e in
     let h = squared c in (
       omega arith,
       refl,
-      rw (take_next s e (pos 0) (omega arith), squares-last (take e s) (get_or s e (pos 0)), ← h.0, ← at-loop.loop.invariant.2),
-      omega (arith, h.1, at-loop.loop.invariant.3),
+      rw (take_next s e (pos 0) (omega arith), squares_last (take e s) (get_or s e (pos 0)), ← h.0, ← at_loop.loop.invariant.2),
+      omega (arith, h.1, at_loop.loop.invariant.3),
     )
 
 cast-result : tie.Need-overflow-cast-result invariant-loop decreases-loop
@@ -71,8 +71,8 @@ returns c =
     let past : c.before.loop.e ≡ length s = omega arith in
     ((rw past at c.before.loop.invariant.2) ∙ ap squares (take-length s), omega (arith, c.before.loop.invariant.3, c.before.before.requires.0))
 
-pub squares-spec : {M : Type 1} → statement M
-squares-spec =
+pub squares_spec : {M : Type 1} → statement M
+squares_spec =
     tie.close
     (tie.spec
     invariant-loop

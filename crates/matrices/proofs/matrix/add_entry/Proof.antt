@@ -2,7 +2,7 @@ use Prim.Native.Nat.{◌+◌, ◌*◌, ◌<◌, ◌≤◌, ◌^◌}
 use native.Mathlib.Nat.{mul-le-mul}
 use native.Mathlib.Omega.{arith}
 use lib.ListN.{length}
-use Rattle.matrices.proofs.Matrices.{in-matrix}
+use Rattle.matrices.proofs.Matrices.{in_matrix}
 use borrow.Author.Rules.{rules}
 use Rattle.matrices.proofs.matrix.add_entry.Statement.{statement}
 use Rattle.matrices.proofs.matrix.add_entry.Tie as tie
@@ -10,7 +10,7 @@ use Rattle.matrices.proofs.matrix.add_entry.Tie as tie
 -- the entry is in the matrix, and the matrix in the list
 here : (c : tie.Start) → (c.args.i * c.args.n + c.args.j < length c.args.h.now) × (c.args.i * c.args.n + c.args.j < 2 ^ 40)
 here c =
-    let inside = in-matrix c.args.n c.args.i c.args.j c.requires.2 c.requires.3 in
+    let inside = in_matrix c.args.n c.args.i c.args.j c.requires.2 c.requires.3 in
     (omega (arith, inside, c.requires.1), omega (arith, inside, mul-le-mul c.requires.0 c.requires.0))
 
 mul_at : tie.Need-overflow-mul-at
@@ -37,6 +37,6 @@ same_length c = search rules
 returns : tie.Need-returns
 returns c = search rules
 
-pub add-entry-spec : {M : Type 1} → statement M
-add-entry-spec =
+pub add_entry_spec : {M : Type 1} → statement M
+add_entry_spec =
     tie.close (tie.spec mul_at add_at mul-h slice-read-h mul-h-2 slice-write-h same_length returns)

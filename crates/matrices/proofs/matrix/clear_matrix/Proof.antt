@@ -3,7 +3,7 @@ use mathlib.Core.Path.{◌≡◌, refl}
 use native.Mathlib.Nat.{mul-le-mul}
 use native.Mathlib.Omega.{arith}
 use Rattle.matrices.proofs.Literals.{zero}
-use Rattle.matrices.proofs.Matrices.{Cleared, cleared-none, cleared_more, cleared-matrix}
+use Rattle.matrices.proofs.Matrices.{Cleared, cleared_none, cleared_more, cleared_matrix}
 use borrow.Author.Rules.{rules}
 use Rattle.matrices.proofs.matrix.clear_matrix.Statement.{statement}
 use Rattle.matrices.proofs.matrix.clear_matrix.Tie as tie
@@ -18,7 +18,7 @@ mul-k-end : tie.Need-overflow-mul-k-end invariant-loop decreases-loop
 mul-k-end c = let small = mul-le-mul c.requires.0 c.requires.0 in search rules
 
 loop-holds : tie.Need-loop-init invariant-loop decreases-loop
-loop-holds c = (omega arith, refl, cleared-none c.args.h.now)
+loop-holds c = (omega arith, refl, cleared_none c.args.h.now)
 
 mul-h : tie.Need-overflow-mul-h invariant-loop decreases-loop
 mul-h c = let small = mul-le-mul c.before.before.requires.0 c.before.before.requires.0 in search rules
@@ -34,8 +34,8 @@ loop-less c = search rules
 
 loop-again : tie.Need-loop-preserved invariant-loop decreases-loop
 loop-again c =
-    let at-loop = c.before in
-    (omega arith, refl, rw zero (cleared_more _ _ _ at-loop.loop.invariant.2 (omega (arith, at-loop.before.requires.1))))
+    let at_loop = c.before in
+    (omega arith, refl, rw zero (cleared_more _ _ _ at_loop.loop.invariant.2 (omega (arith, at_loop.before.requires.1))))
 
 same_length : tie.Need-same-length invariant-loop decreases-loop
 same_length c = c.before.loop.invariant.2.long
@@ -44,10 +44,10 @@ returns : tie.Need-returns invariant-loop decreases-loop
 returns c =
     let n = c.before.before.args.n in
     let past : c.before.loop.k ≡ n * n = omega arith in
-    cleared-matrix n _ _ (rw past at c.before.loop.invariant.2)
+    cleared_matrix n _ _ (rw past at c.before.loop.invariant.2)
 
-pub clear-matrix-spec : {M : Type 1} → statement M
-clear-matrix-spec =
+pub clear_matrix_spec : {M : Type 1} → statement M
+clear_matrix_spec =
     tie.close
     (tie.spec
     invariant-loop

@@ -4,8 +4,8 @@ use native.Mathlib.Omega.{arith}
 use lib.Ieee.{nan}
 use lib.ListN.{length, take}
 use lib.Seq.{take-length}
-use Rattle.mathematics.specs.Tests.{every-entry}
-use Rattle.mathematics.proofs.Tests.{all-last}
+use Rattle.mathematics.specs.Tests.{every_entry}
+use Rattle.mathematics.proofs.Tests.{all_last}
 use Rattle.mathematics.proofs.Front.{take_next}
 use Rattle.matrices.specs.Weights.{bounded}
 use borrow.Author.Rules.{rules}
@@ -13,13 +13,13 @@ use Rattle.matrices.proofs.weights.all_bounded.Statement.{statement}
 use Rattle.matrices.proofs.weights.all_bounded.Tie as tie
 
 abbrev invariant-loop : tie.invariant-loop
-invariant-loop list so-far₀ i₀ i-end so_far i = (i ≤ length list) × (i-end ≡ length list) × (so_far ≡ every-entry bounded (take i list))
+invariant-loop list so-far₀ i₀ i-end so_far i = (i ≤ length list) × (i-end ≡ length list) × (so_far ≡ every_entry bounded (take i list))
 
 abbrev decreases-loop : tie.decreases-loop
 decreases-loop list so-far₀ i₀ i-end so_far i = length list - i
 
 loop-holds : tie.Need-loop-init invariant-loop decreases-loop
-unfolding every-entry
+unfolding every_entry
 loop-holds c = (omega arith, refl, refl)
 
 mul-bounded : tie.Need-overflow-mul-bounded invariant-loop decreases-loop
@@ -39,18 +39,18 @@ loop-less c = search rules
 
 loop-again : tie.Need-loop-preserved invariant-loop decreases-loop
 loop-again c =
-    let at-loop = c.before.before.before in
-    let list = at-loop.before.before.args.list.now in
-    (omega arith, refl, rw (take_next list at-loop.loop.i nan (omega arith), all-last, ← at-loop.loop.invariant.2, c.bounded.ensures))
+    let at_loop = c.before.before.before in
+    let list = at_loop.before.before.args.list.now in
+    (omega arith, refl, rw (take_next list at_loop.loop.i nan (omega arith), all_last, ← at_loop.loop.invariant.2, c.bounded.ensures))
 
 returns : tie.Need-returns invariant-loop decreases-loop
 returns c =
     let list = c.before.before.before.args.list.now in
     let past : c.before.loop.i ≡ length list = omega arith in
-    (rw past at c.before.loop.invariant.2) ∙ ap (every-entry bounded) (take-length list)
+    (rw past at c.before.loop.invariant.2) ∙ ap (every_entry bounded) (take-length list)
 
-pub all-bounded-spec : {M : Type 1} → statement M
-all-bounded-spec =
+pub all_bounded_spec : {M : Type 1} → statement M
+all_bounded_spec =
     tie.close
     (tie.spec
     invariant-loop

@@ -1,27 +1,27 @@
-use Rattle.matrices.proofs.Vectors.{number-told, range-told, right-told}
+use Rattle.matrices.proofs.Vectors.{number_told, range_told, right_told}
 use borrow.Author.Rules.{rules}
 use Rattle.matrices.proofs.weights.judge_vector.Statement.{statement}
 use Rattle.matrices.proofs.weights.judge_vector.Tie as tie
 
-judge-weights-requires : tie.Need-judge-weights-requires
-judge-weights-requires c κs = search rules
+judge_weights-requires : tie.Need-judge_weights-requires
+judge_weights-requires c κs = search rules
 
 returns : tie.Need-returns
-returns c = number-told _ _ _ _ _ _ _ c.before.judge-weights.ensures c.if1.true
+returns c = number_told _ _ _ _ _ _ _ c.before.judge_weights.ensures c.if1.true
 
-all-bounded-requires : tie.Need-all-bounded-requires
-all-bounded-requires c κs = search rules
+all_bounded-requires : tie.Need-all_bounded-requires
+all_bounded-requires c κs = search rules
 
 returns-2 : tie.Need-returns-2
 returns-2 c =
     let fitting = c.before.before in
-    range-told _ _ _ _ _ _ _ fitting.before.judge-weights.ensures fitting.if1.false (rw c.before.all-bounded.ensures at c.if2.true)
+    range_told _ _ _ _ _ _ _ fitting.before.judge_weights.ensures fitting.if1.false (rw c.before.all_bounded.ensures at c.if2.true)
 
 returns-3 : tie.Need-returns-3
 returns-3 c =
     let fitting = c.before.before in
-    right-told _ _ _ _ _ _ _ fitting.before.judge-weights.ensures fitting.if1.false (rw c.before.all-bounded.ensures at c.if2.false)
+    right_told _ _ _ _ _ _ _ fitting.before.judge_weights.ensures fitting.if1.false (rw c.before.all_bounded.ensures at c.if2.false)
 
-pub judge-vector-spec : {M : Type 1} → statement M
-judge-vector-spec =
-    tie.close (tie.spec judge-weights-requires returns all-bounded-requires returns-2 returns-3)
+pub judge_vector_spec : {M : Type 1} → statement M
+judge_vector_spec =
+    tie.close (tie.spec judge_weights-requires returns all_bounded-requires returns-2 returns-3)

@@ -19,5 +19,5 @@ returns-2 : tie.Need-returns-2
 unfolding weight
 returns-2 c = rw (c.if1.false, one)
 
-pub weight-of-spec : {M : Type 1} → statement M
-weight-of-spec = tie.close (tie.spec mul-result shared-slice-read-result returns returns-2)
+pub weight_of_spec : {M : Type 1} → statement M
+weight_of_spec = tie.close (tie.spec mul-result shared-slice-read-result returns returns-2)

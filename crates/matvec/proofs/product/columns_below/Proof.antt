@@ -4,21 +4,21 @@ use native.Mathlib.Omega.{arith}
 use lib.Dec.{ltb}
 use lib.ListN.{length, take}
 use lib.Seq.{take-length}
-use Rattle.mathematics.specs.Tests.{every-entry}
-use Rattle.matvec.specs.Product.{columns-right}
-use Rattle.matvec.proofs.Judging.{all-next}
+use Rattle.mathematics.specs.Tests.{every_entry}
+use Rattle.matvec.specs.Product.{columns_right}
+use Rattle.matvec.proofs.Judging.{all_next}
 use borrow.Author.Rules.{rules}
 use Rattle.matvec.proofs.product.columns_below.Statement.{statement}
 use Rattle.matvec.proofs.product.columns_below.Tie as tie
 
 abbrev invariant-loop : tie.invariant-loop
-invariant-loop columns limit so-far₀ k₀ k-end so_far k = (k ≤ length columns) × (k-end ≡ length columns) × (so_far ≡ columns-right (take k columns) limit)
+invariant-loop columns limit so-far₀ k₀ k-end so_far k = (k ≤ length columns) × (k-end ≡ length columns) × (so_far ≡ columns_right (take k columns) limit)
 
 abbrev decreases-loop : tie.decreases-loop
 decreases-loop columns limit so-far₀ k₀ k-end so_far k = length columns - k
 
 loop-holds : tie.Need-loop-init invariant-loop decreases-loop
-unfolding columns-right every-entry
+unfolding columns_right every_entry
 loop-holds c = (omega arith, refl, refl)
 
 mul-so-far : tie.Need-overflow-mul-so-far invariant-loop decreases-loop
@@ -34,20 +34,20 @@ loop-less : tie.Need-loop-smaller invariant-loop decreases-loop
 loop-less c = search rules
 
 loop-again : tie.Need-loop-preserved invariant-loop decreases-loop
-unfolding columns-right
+unfolding columns_right
 loop-again c =
-    let at-loop = c.before.before in
-    let a = at-loop.before.args in
-    (omega arith, refl, rw at-loop.loop.invariant.2 (sym (all-next (λ j. ltb j a.limit) 0 a.columns.now at-loop.loop.k (omega arith))))
+    let at_loop = c.before.before in
+    let a = at_loop.before.args in
+    (omega arith, refl, rw at_loop.loop.invariant.2 (sym (all_next (λ j. ltb j a.limit) 0 a.columns.now at_loop.loop.k (omega arith))))
 
 returns : tie.Need-returns invariant-loop decreases-loop
 returns c =
     let a = c.before.before.args in
     let past : c.before.loop.k ≡ length a.columns.now = omega arith in
-    (rw past at c.before.loop.invariant.2) ∙ ap (λ l. columns-right l a.limit) (take-length a.columns.now)
+    (rw past at c.before.loop.invariant.2) ∙ ap (λ l. columns_right l a.limit) (take-length a.columns.now)
 
-pub columns-below-spec : {M : Type 1} → statement M
-columns-below-spec =
+pub columns_below_spec : {M : Type 1} → statement M
+columns_below_spec =
     tie.close
     (tie.spec
     invariant-loop

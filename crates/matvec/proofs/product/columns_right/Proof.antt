@@ -4,7 +4,7 @@ use borrow.Author.Tests.{lt-ltb}
 use lib.Dec.{ltb}
 use lib.ListN.{get_or}
 use Rattle.mathematics.proofs.Tests.{at_all}
-use Rattle.matvec.specs.Product.{columns-right}
+use Rattle.matvec.specs.Product.{columns_right}
 use borrow.Author.Rules.{rules}
 use Rattle.matvec.proofs.product.columns_right.Statement.{statement}
 use Rattle.matvec.proofs.product.columns_right.Tie as tie
@@ -12,19 +12,19 @@ use Rattle.matvec.proofs.product.columns_right.Tie as tie
 cast-columns-below : tie.Need-overflow-cast-columns-below
 cast-columns-below c = search rules
 
-columns-below-requires : tie.Need-columns-below-requires
-columns-below-requires c κs = search rules
+columns_below-requires : tie.Need-columns_below-requires
+columns_below-requires c κs = search rules
 
 returns : tie.Need-returns
 returns c = search rules
 
 -- all columns are below 2^32
 returns-2 : tie.Need-returns-2
-unfolding columns-right
+unfolding columns_right
 returns-2 c =
     let a = c.before.before.args in
     sym (at_all (λ j. ltb j a.n) 0 a.columns.now (λ k h. lt-ltb (get_or a.columns.now k 0) a.n (omega (arith, c.before.shared-slice-known.given k))))
 
-pub columns-right-spec : {M : Type 1} → statement M
-columns-right-spec =
-    tie.close (tie.spec cast-columns-below columns-below-requires returns returns-2)
+pub columns_right_spec : {M : Type 1} → statement M
+columns_right_spec =
+    tie.close (tie.spec cast-columns-below columns_below-requires returns returns-2)

@@ -2,8 +2,8 @@ use mathlib.Core.Bool.{false}
 use mathlib.Core.Path.{◌≡◌, refl}
 use borrow.Author.Tests.{lt-ltb, le-ltb}
 use Rattle.mathematics.proofs.Calls.{none, here, past, refuses, ends}
-use Rattle.matvec.specs.Product.{places-wrong, numbers-wrong, Valid, productAnswer, product-call}
-use Rattle.matvec.proofs.Validity.{lengths-fit, fit-valid}
+use Rattle.matvec.specs.Product.{places_wrong, numbers_wrong, Valid, product_answer, product_call}
+use Rattle.matvec.proofs.Validity.{lengths_fit, fit_valid}
 use borrow.Author.Rules.{rules}
 use Rattle.matvec.proofs.product.matvec.Statement.{statement}
 use Rattle.matvec.proofs.product.matvec.Tie as tie
@@ -11,52 +11,52 @@ use Rattle.matvec.proofs.product.matvec.Tie as tie
 abbrev at-start : tie.Else2 → tie.Start
 at-start c = c.before.before.before.before.before.before.before.before.before
 
-places-fit : (c : tie.Else2) → places-wrong (at-start c).args.starts.now (at-start c).args.columns.now (at-start c).args.vector.now ≡ false
-places-fit c = rw (c.before.before.starts-right.ensures, c.before.columns-right.ensures) at c.if2.false
+places_fit : (c : tie.Else2) → places_wrong (at-start c).args.starts.now (at-start c).args.columns.now (at-start c).args.vector.now ≡ false
+places_fit c = rw (c.before.before.starts_right.ensures, c.before.columns_right.ensures) at c.if2.false
 
-numbers_fit : (c : tie.Else3) → numbers-wrong (at-start c.before.before.before).args.values.now (at-start c.before.before.before).args.vector.now ≡ false
-numbers_fit c = rw (c.before.before.values-right.ensures, c.before.all-bounded.ensures) at c.if3.false
+numbers_fit : (c : tie.Else3) → numbers_wrong (at-start c.before.before.before).args.values.now (at-start c.before.before.before).args.vector.now ≡ false
+numbers_fit c = rw (c.before.before.values_right.ensures, c.before.all_bounded.ensures) at c.if3.false
 
 valid : (c : tie.Else3) → Valid (at-start c.before.before.before).args.starts.now (at-start c.before.before.before).args.columns.now (at-start c.before.before.before).args.values.now (at-start c.before.before.before).args.vector.now
-valid c = fit-valid _ _ _ _ c.before.before.before.before.before.before.if1.false (places-fit c.before.before.before) (numbers_fit c)
+valid c = fit_valid _ _ _ _ c.before.before.before.before.before.before.if1.false (places_fit c.before.before.before) (numbers_fit c)
 
 add-if1 : tie.Need-overflow-add-if1
 add-if1 c = search rules
 
 returns : tie.Need-returns
-unfolding product-call productAnswer
+unfolding product_call product_answer
 returns c = refuses _ (here c.if1.true) refl
 
-starts-right-requires : tie.Need-starts-right-requires
-starts-right-requires c κs =
+starts_right-requires : tie.Need-starts_right-requires
+starts_right-requires c κs =
     let a = c.before.before.before.before.before.before.args in
-    (lengths-fit a.starts.now a.columns.now a.values.now a.vector.now c.if1.false).0
+    (lengths_fit a.starts.now a.columns.now a.values.now a.vector.now c.if1.false).0
 
-columns-right-requires : tie.Need-columns-right-requires
-columns-right-requires c κs = search rules
+columns_right-requires : tie.Need-columns_right-requires
+columns_right-requires c κs = search rules
 
 returns-2 : tie.Need-returns-2
-unfolding product-call productAnswer
-returns-2 c = refuses _ (past c.before.before.before.if1.false (here (rw (c.before.before.starts-right.ensures, c.before.columns-right.ensures) at c.if2.true))) refl
+unfolding product_call product_answer
+returns-2 c = refuses _ (past c.before.before.before.if1.false (here (rw (c.before.before.starts_right.ensures, c.before.columns_right.ensures) at c.if2.true))) refl
 
-values-right-requires : tie.Need-values-right-requires
-values-right-requires c κs = search rules
+values_right-requires : tie.Need-values_right-requires
+values_right-requires c κs = search rules
 
-all-bounded-requires : tie.Need-all-bounded-requires
-all-bounded-requires c κs = search rules
+all_bounded-requires : tie.Need-all_bounded-requires
+all_bounded-requires c κs = search rules
 
 returns-3 : tie.Need-returns-3
-unfolding product-call productAnswer
+unfolding product_call product_answer
 returns-3 c =
     let placed = c.before.before.before in
-    refuses _ (past placed.before.before.before.if1.false (past (places-fit placed) (here (rw (c.before.before.values-right.ensures, c.before.all-bounded.ensures) at c.if3.true)))) refl
+    refuses _ (past placed.before.before.before.if1.false (past (places_fit placed) (here (rw (c.before.before.values_right.ensures, c.before.all_bounded.ensures) at c.if3.true)))) refl
 
 returns-4 : tie.Need-returns-4
-unfolding product-call productAnswer
+unfolding product_call product_answer
 returns-4 c =
     let right = c.before in
     let placed = right.before.before.before in
-    refuses _ (past placed.before.before.before.if1.false (past (places-fit placed) (past (numbers_fit right) (here (lt-ltb _ _ c.if4.true))))) refl
+    refuses _ (past placed.before.before.before.if1.false (past (places_fit placed) (past (numbers_fit right) (here (lt-ltb _ _ c.if4.true))))) refl
 
 multiply-requires : tie.Need-multiply-requires
 multiply-requires c κs = (valid c.before.before, c.before.if4.false)
@@ -65,25 +65,25 @@ same_length : tie.Need-same-length
 same_length c = search rules
 
 returns-5 : tie.Need-returns-5
-unfolding product-call productAnswer
+unfolding product_call product_answer
 returns-5 c =
     let enough = c.before.before.before.before in
     let right = enough.before in
     let placed = right.before.before.before in
     let a = (at-start placed).args in
-    ends (product-call a.starts.now a.columns.now a.values.now a.vector.now a.result.now) (past placed.before.before.before.if1.false (past (places-fit placed) (past (numbers_fit right) (past (le-ltb _ _ enough.if4.false) none)))) refl c.before.before.multiply.ensures (valid right)
+    ends (product_call a.starts.now a.columns.now a.values.now a.vector.now a.result.now) (past placed.before.before.before.if1.false (past (places_fit placed) (past (numbers_fit right) (past (le-ltb _ _ enough.if4.false) none)))) refl c.before.before.multiply.ensures (valid right)
 
-pub matvec-spec : {M : Type 1} → statement M
-matvec-spec =
+pub matvec_spec : {M : Type 1} → statement M
+matvec_spec =
     tie.close
     (tie.spec
     add-if1
     returns
-    starts-right-requires
-    columns-right-requires
+    starts_right-requires
+    columns_right-requires
     returns-2
-    values-right-requires
-    all-bounded-requires
+    values_right-requires
+    all_bounded-requires
     returns-3
     returns-4
     multiply-requires

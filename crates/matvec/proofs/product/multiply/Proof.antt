@@ -4,7 +4,7 @@ use mathlib.Core.Path.{◌≡◌, refl, ◌∙◌}
 use native.Mathlib.Omega.{arith}
 use lib.ListN.{length, drop, length-set}
 use Rattle.mathematics.specs.Counting.{below}
-use Rattle.matvec.proofs.Summing.{sums, store-turn, all-stored}
+use Rattle.matvec.proofs.Summing.{sums, store_turn, all_stored}
 use borrow.Author.Rules.{rules}
 use Rattle.matvec.proofs.product.multiply.Statement.{statement}
 use Rattle.matvec.proofs.product.multiply.Tie as tie
@@ -40,12 +40,12 @@ shared-slice-read-to c = search rules
 cast-to : tie.Need-overflow-cast-to invariant-loop decreases-loop
 cast-to c = omega (arith, c.shared-slice-known6.given (c.before.before.before.loop.i + 1))
 
-row-sum-requires : tie.Need-row-sum-requires invariant-loop decreases-loop
-row-sum-requires c κs =
-    let at-loop = c.before.before.before in
-    let valid = at-loop.before.before.before.before.before.before.requires.0 in
-    let i = at-loop.loop.i in
-    (valid.in_order i (i + 1) (omega arith) (omega arith), rw (← valid.last-start) (valid.in_order (i + 1) _ (omega arith) (omega arith)), valid.same_length, valid.columns-below)
+row_sum-requires : tie.Need-row_sum-requires invariant-loop decreases-loop
+row_sum-requires c κs =
+    let at_loop = c.before.before.before in
+    let valid = at_loop.before.before.before.before.before.before.requires.0 in
+    let i = at_loop.loop.i in
+    (valid.in_order i (i + 1) (omega arith) (omega arith), rw (← valid.last_start) (valid.in_order (i + 1) _ (omega arith) (omega arith)), valid.same_length, valid.columns_below)
 
 mul-result : tie.Need-overflow-mul-result invariant-loop decreases-loop
 mul-result c = search rules
@@ -61,13 +61,13 @@ loop-less c = search rules
 
 loop-again : tie.Need-loop-preserved invariant-loop decreases-loop
 loop-again c =
-    let at-loop = c.before.before.before.before in
-    let a = at-loop.before.before.before.before.before.before.args in
-    let room : at-loop.loop.i < length a.result.now = omega arith in (
+    let at_loop = c.before.before.before.before in
+    let a = at_loop.before.before.before.before.before.before.args in
+    let room : at_loop.loop.i < length a.result.now = omega arith in (
       omega arith,
       refl,
-      rw length-set at-loop.loop.invariant.2,
-      store-turn a.starts.now a.columns.now a.values.now a.vector.now a.result.now at-loop.loop.result at-loop.loop.i c.row-sum.result room at-loop.loop.invariant.3 c.row-sum.ensures,
+      rw length-set at_loop.loop.invariant.2,
+      store_turn a.starts.now a.columns.now a.values.now a.vector.now a.result.now at_loop.loop.result at_loop.loop.i c.row_sum.result room at_loop.loop.invariant.3 c.row_sum.ensures,
     )
 
 same_length : tie.Need-same-length invariant-loop decreases-loop
@@ -75,13 +75,13 @@ same_length c = search rules
 
 returns : tie.Need-returns invariant-loop decreases-loop
 returns c =
-    let at-loop = c.before in
-    let a = at-loop.before.before.before.before.before.before.args in
-    let past : at-loop.loop.i ≡ length a.vector.now = omega arith in
-    (rw past at at-loop.loop.invariant.3) ∙ all-stored a.starts.now a.columns.now a.values.now a.vector.now a.result.now
+    let at_loop = c.before in
+    let a = at_loop.before.before.before.before.before.before.args in
+    let past : at_loop.loop.i ≡ length a.vector.now = omega arith in
+    (rw past at at_loop.loop.invariant.3) ∙ all_stored a.starts.now a.columns.now a.values.now a.vector.now a.result.now
 
-pub multiply-spec : {M : Type 1} → statement M
-multiply-spec =
+pub multiply_spec : {M : Type 1} → statement M
+multiply_spec =
     tie.close
     (tie.spec
     invariant-loop
@@ -94,7 +94,7 @@ multiply-spec =
     mul-to
     shared-slice-read-to
     cast-to
-    row-sum-requires
+    row_sum-requires
     mul-result
     slice-write-result
     add-i

@@ -2,20 +2,20 @@ use Prim.Native.Nat.{◌≤◌, ◌-◌}
 use mathlib.Core.Path.{◌≡◌, refl, sym}
 use native.Mathlib.Omega.{arith}
 use Rattle.mathematics.specs.Tests.{every}
-use Rattle.matvec.specs.Product.{never-falls}
-use Rattle.matvec.proofs.Judging.{falls-next}
+use Rattle.matvec.specs.Product.{never_falls}
+use Rattle.matvec.proofs.Judging.{falls_next}
 use borrow.Author.Rules.{rules}
 use Rattle.matvec.proofs.product.never_falls.Statement.{statement}
 use Rattle.matvec.proofs.product.never_falls.Tie as tie
 
 abbrev invariant-loop : tie.invariant-loop
-invariant-loop starts n so-far₀ i₀ so_far i = (i ≤ n) × (so_far ≡ never-falls starts i)
+invariant-loop starts n so-far₀ i₀ so_far i = (i ≤ n) × (so_far ≡ never_falls starts i)
 
 abbrev decreases-loop : tie.decreases-loop
 decreases-loop starts n so-far₀ i₀ so_far i = n - i
 
 loop-holds : tie.Need-loop-init invariant-loop decreases-loop
-unfolding never-falls every
+unfolding never_falls every
 loop-holds c = (omega arith, refl)
 
 mul-so-far : tie.Need-overflow-mul-so-far invariant-loop decreases-loop
@@ -41,16 +41,16 @@ loop-less c = search rules
 
 loop-again : tie.Need-loop-preserved invariant-loop decreases-loop
 loop-again c =
-    let at-loop = c.before.before.before in
-    (omega arith, rw at-loop.loop.invariant.1 (sym (falls-next at-loop.before.args.starts.now at-loop.loop.i)))
+    let at_loop = c.before.before.before in
+    (omega arith, rw at_loop.loop.invariant.1 (sym (falls_next at_loop.before.args.starts.now at_loop.loop.i)))
 
 returns : tie.Need-returns invariant-loop decreases-loop
 returns c =
     let past : c.before.loop.i ≡ c.before.before.args.n = omega arith in
     rw past at c.before.loop.invariant.1
 
-pub never-falls-spec : {M : Type 1} → statement M
-never-falls-spec =
+pub never_falls_spec : {M : Type 1} → statement M
+never_falls_spec =
     tie.close
     (tie.spec
     invariant-loop

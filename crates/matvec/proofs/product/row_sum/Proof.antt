@@ -4,20 +4,20 @@ use native.Mathlib.Omega.{arith}
 use lib.Seq.{slice}
 use Rattle.matrices.proofs.Literals.{zero}
 use Rattle.rows.specs.Entries.{pairs}
-use Rattle.matvec.specs.Product.{with-products, row-sum}
-use Rattle.matvec.proofs.Summing.{sum-turn, sum-end}
+use Rattle.matvec.specs.Product.{with_products, row_sum}
+use Rattle.matvec.proofs.Summing.{sum_turn, sum_end}
 use borrow.Author.Rules.{rules}
 use Rattle.matvec.proofs.product.row_sum.Statement.{statement}
 use Rattle.matvec.proofs.product.row_sum.Tie as tie
 
 abbrev invariant-loop : tie.invariant-loop
-invariant-loop columns values vector from to sum₀ k₀ sum k = (k ≤ to) × (with-products vector sum (slice k to (pairs columns values)) ≡ row-sum vector (slice from to (pairs columns values)))
+invariant-loop columns values vector from to sum₀ k₀ sum k = (k ≤ to) × (with_products vector sum (slice k to (pairs columns values)) ≡ row_sum vector (slice from to (pairs columns values)))
 
 abbrev decreases-loop : tie.decreases-loop
 decreases-loop columns values vector from to sum₀ k₀ sum k = to - k
 
 loop-holds : tie.Need-loop-init invariant-loop decreases-loop
-unfolding row-sum
+unfolding row_sum
 loop-holds c = (omega arith, rw zero)
 
 mul-sum : tie.Need-overflow-mul-sum invariant-loop decreases-loop
@@ -49,18 +49,18 @@ loop-less c = search rules
 
 loop-again : tie.Need-loop-preserved invariant-loop decreases-loop
 loop-again c =
-    let at-loop = c.before.before.before.before in
-    let a = at-loop.before.args in
-    (omega arith, sum-turn a.columns.now a.values.now a.vector.now at-loop.loop.sum at-loop.loop.k a.to (omega arith) (omega arith) (omega arith) ∙ at-loop.loop.invariant.1)
+    let at_loop = c.before.before.before.before in
+    let a = at_loop.before.args in
+    (omega arith, sum_turn a.columns.now a.values.now a.vector.now at_loop.loop.sum at_loop.loop.k a.to (omega arith) (omega arith) (omega arith) ∙ at_loop.loop.invariant.1)
 
 returns : tie.Need-returns invariant-loop decreases-loop
 returns c =
-    let at-loop = c.before in
-    let a = at-loop.before.args in
-    sym (sum-end (pairs a.columns.now a.values.now) a.vector.now at-loop.loop.sum at-loop.loop.k a.to (omega arith)) ∙ at-loop.loop.invariant.1
+    let at_loop = c.before in
+    let a = at_loop.before.args in
+    sym (sum_end (pairs a.columns.now a.values.now) a.vector.now at_loop.loop.sum at_loop.loop.k a.to (omega arith)) ∙ at_loop.loop.invariant.1
 
-pub row-sum-spec : {M : Type 1} → statement M
-row-sum-spec =
+pub row_sum_spec : {M : Type 1} → statement M
+row_sum_spec =
     tie.close
     (tie.spec
     invariant-loop

@@ -1,5 +1,5 @@
 use native.Mathlib.Omega.{arith}
-use Rattle.matvec.specs.Product.{starts-right}
+use Rattle.matvec.specs.Product.{starts_right}
 use borrow.Author.Rules.{rules}
 use Rattle.matvec.proofs.product.starts_right.Statement.{statement}
 use Rattle.matvec.proofs.product.starts_right.Tie as tie
@@ -16,20 +16,20 @@ shared-slice-read-result-2 c = search rules
 cast-result : tie.Need-overflow-cast-result
 cast-result c = omega (arith, c.shared-slice-known3.given c.before.before.before.args.n)
 
-never-falls-requires : tie.Need-never-falls-requires
-never-falls-requires c κs = search rules
+never_falls-requires : tie.Need-never_falls-requires
+never_falls-requires c κs = search rules
 
 returns : tie.Need-returns
-unfolding starts-right
-returns c = rw c.never-falls.ensures
+unfolding starts_right
+returns c = rw c.never_falls.ensures
 
-pub starts-right-spec : {M : Type 1} → statement M
-starts-right-spec =
+pub starts_right_spec : {M : Type 1} → statement M
+starts_right_spec =
     tie.close
     (tie.spec
     shared-slice-read-result
     mul-result
     shared-slice-read-result-2
     cast-result
-    never-falls-requires
+    never_falls-requires
     returns)

@@ -4,7 +4,7 @@ use mir.Syntax.{w32}
 use mir.Val.{to_z, of_z}
 use mir.Facts.{to_z-of_z}
 use native.Mathlib.Omega.{arith}
-use Rattle.mathematics.proofs.Signed.{size_fits, size-neg, back32}
+use Rattle.mathematics.proofs.Signed.{size_fits, size_neg, back32}
 use Rattle.moves.proofs.row.opposite.Statement.{statement}
 use Rattle.moves.proofs.row.opposite.Tie as tie
 
@@ -12,10 +12,10 @@ is : (c : tie.Start) → pos 0 -ℤ to_z w32 (of_z w32 c.args.unit) ≡ neg_ℤ 
 is c = rw (back32 c.args.unit c.ranges.unit.sfits) (+ℤ_idl _)
 
 sub-result : tie.Need-overflow-sub-result
-sub-result c = rw (is c) (size_fits w32 (neg_ℤ c.args.unit) (omega (arith, c.requires, size-neg c.args.unit)))
+sub-result c = rw (is c) (size_fits w32 (neg_ℤ c.args.unit) (omega (arith, c.requires, size_neg c.args.unit)))
 
 returns : tie.Need-returns
 returns c = to_z-of_z (sub-result c) ∙ is c
 
-pub opposite-spec : {M : Type 1} → statement M
-opposite-spec = tie.close (tie.spec sub-result returns)
+pub opposite_spec : {M : Type 1} → statement M
+opposite_spec = tie.close (tie.spec sub-result returns)

@@ -3,13 +3,13 @@ use mathlib.Core.List.{append-nil}
 use mathlib.Core.Path.{◌≡◌, refl, sym, ap, ◌∙◌}
 use native.Mathlib.Omega.{arith}
 use borrow.Author.Tests.{not-true, not-false}
-use Rattle.moves.proofs.Collecting.{move-left, move_taken}
+use Rattle.moves.proofs.Collecting.{move_left, move_taken}
 use borrow.Author.Rules.{rules}
 use Rattle.moves.proofs.row.push_move.Statement.{statement}
 use Rattle.moves.proofs.row.push_move.Tie as tie
 
 returns : tie.Need-returns
-returns c = move-left _ _ _ _ _ _ _ _ (not-true _ c.if1.taken)
+returns c = move_left _ _ _ _ _ _ _ _ (not-true _ c.if1.taken)
 
 mul-seek : tie.Need-mul-seek
 mul-seek c = search rules
@@ -35,8 +35,8 @@ slice-write-pointers c = search rules
 cast-push-entry : tie.Need-cast-push-entry
 cast-push-entry c = search rules
 
-push-entry-requires : tie.Need-push-entry-requires
-push-entry-requires c κs = search rules
+push_entry-requires : tie.Need-push_entry-requires
+push_entry-requires c κs = search rules
 
 same_length : tie.Need-same-length
 same_length c = search rules
@@ -50,10 +50,10 @@ same-length-3 c = search rules
 returns-2 : tie.Need-returns-2
 returns-2 c =
     let found = c.before.before.before.before.before.before.before.before.seek in
-    move_taken _ _ _ _ _ _ _ _ (not-false _ c.before.before.before.before.before.before.before.before.before.before.if1.left) _ _ _ _ found.ensures.0 c.before.before.before.before.push-entry.ensures c.before.before.before.before.before.before.before.smaller.ensures
+    move_taken _ _ _ _ _ _ _ _ (not-false _ c.before.before.before.before.before.before.before.before.before.before.if1.left) _ _ _ _ found.ensures.0 c.before.before.before.before.push_entry.ensures c.before.before.before.before.before.before.before.smaller.ensures
 
-pub push-move-spec : {M : Type 1} → statement M
-push-move-spec =
+pub push_move_spec : {M : Type 1} → statement M
+push_move_spec =
     tie.close
     (tie.spec
     returns
@@ -65,7 +65,7 @@ push-move-spec =
     mul-pointers
     slice-write-pointers
     cast-push-entry
-    push-entry-requires
+    push_entry-requires
     same_length
     same-length-2
     same-length-3

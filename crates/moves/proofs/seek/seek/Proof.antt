@@ -3,7 +3,7 @@ use mathlib.Core.Path.{◌≡◌, refl, sym, ◌∙◌}
 use native.Mathlib.Omega.{arith}
 use borrow.Author.Tests.{ltb-true, ltb-false}
 use Rattle.moves.specs.Numbers.{sought, number_in}
-use Rattle.moves.proofs.Seeking.{sought-next, sought-here, sought-end}
+use Rattle.moves.proofs.Seeking.{sought_next, sought_here, sought_end}
 use borrow.Author.Rules.{rules}
 use Rattle.moves.proofs.seek.seek.Statement.{statement}
 use Rattle.moves.proofs.seek.seek.Tie as tie
@@ -37,29 +37,29 @@ loop-less c = search rules
 
 loop-again : tie.Need-loop-preserved invariant-loop decreases-loop
 loop-again c =
-    let at-loop = c.before.before.before.before in
-    let s = at-loop.before.before.args in
-    let inside : at-loop.loop.place < s.n = omega arith in
-    let less : number_in s.words.now at-loop.loop.place + 1048576 < s.wanted = omega (arith, c.before.lower.ensures.0, ltb-true (c.before.lower.result + 1048576) s.wanted c.if1.true) in
-    (omega arith, sym (sought-next (number_in s.words.now) s.wanted at-loop.loop.place s.n inside less) ∙ at-loop.loop.invariant.1)
+    let at_loop = c.before.before.before.before in
+    let s = at_loop.before.before.args in
+    let inside : at_loop.loop.place < s.n = omega arith in
+    let less : number_in s.words.now at_loop.loop.place + 1048576 < s.wanted = omega (arith, c.before.lower.ensures.0, ltb-true (c.before.lower.result + 1048576) s.wanted c.if1.true) in
+    (omega arith, sym (sought_next (number_in s.words.now) s.wanted at_loop.loop.place s.n inside less) ∙ at_loop.loop.invariant.1)
 
 returns : tie.Need-returns invariant-loop decreases-loop
 returns c =
-    let at-loop = c.before.before.before.before in
-    let s = at-loop.before.before.args in
-    let inside : at-loop.loop.place < s.n = omega arith in
-    let not-less : s.wanted ≤ number_in s.words.now at-loop.loop.place + 1048576 = omega (arith, c.before.lower.ensures.0, ltb-false (c.before.lower.result + 1048576) s.wanted c.if1.false) in
-    (sym (sought-here (number_in s.words.now) s.wanted at-loop.loop.place s.n inside not-less) ∙ at-loop.loop.invariant.1, at-loop.loop.invariant.0)
+    let at_loop = c.before.before.before.before in
+    let s = at_loop.before.before.args in
+    let inside : at_loop.loop.place < s.n = omega arith in
+    let not_less : s.wanted ≤ number_in s.words.now at_loop.loop.place + 1048576 = omega (arith, c.before.lower.ensures.0, ltb-false (c.before.lower.result + 1048576) s.wanted c.if1.false) in
+    (sym (sought_here (number_in s.words.now) s.wanted at_loop.loop.place s.n inside not_less) ∙ at_loop.loop.invariant.1, at_loop.loop.invariant.0)
 
 returns-2 : tie.Need-returns-2 invariant-loop decreases-loop
 returns-2 c =
-    let at-loop = c.before in
-    let s = at-loop.before.before.args in
-    let past : s.n ≤ at-loop.loop.place = omega arith in
-    (sym (sought-end (number_in s.words.now) s.wanted at-loop.loop.place s.n past) ∙ at-loop.loop.invariant.1, at-loop.loop.invariant.0)
+    let at_loop = c.before in
+    let s = at_loop.before.before.args in
+    let past : s.n ≤ at_loop.loop.place = omega arith in
+    (sym (sought_end (number_in s.words.now) s.wanted at_loop.loop.place s.n past) ∙ at_loop.loop.invariant.1, at_loop.loop.invariant.0)
 
-pub seek-spec : {M : Type 1} → statement M
-seek-spec =
+pub seek_spec : {M : Type 1} → statement M
+seek_spec =
     tie.close
     (tie.spec
     invariant-loop

@@ -3,35 +3,35 @@ use mathlib.Core.Path.{◌≡◌, refl, sym, ap, ◌∙◌}
 use lib.IntN.{neg_ℤ, neg_ℤ-neg_ℤ}
 use native.Mathlib.Omega.{arith}
 use borrow.Author.Tests.{not-true, not-false}
-use Rattle.mathematics.proofs.Signed.{back32, size-neg}
+use Rattle.mathematics.proofs.Signed.{back32, size_neg}
 use Rattle.plaquettes.specs.Pairs.{row_stays}
 use borrow.Author.Rules.{rules}
 use Rattle.plaquettes.proofs.pairs.find_pair.Statement.{statement}
 use Rattle.plaquettes.proofs.pairs.find_pair.Tie as tie
 
-tested : (c : tie.After-row-stays)
+tested : (c : tie.After-row_stays)
     → c.row_stays.result ≡ row_stays c.before.args.list.now c.before.args.s c.before.args.sides c.before.args.by c.before.args.place
 tested c = rw (back32 c.before.args.by c.before.ranges.by.sfits) at c.row_stays.ensures
 
-row-stays-requires : tie.Need-row-stays-requires
-row-stays-requires c κs = search rules
+row_stays-requires : tie.Need-row_stays-requires
+row_stays-requires c κs = search rules
 
 returns : tie.Need-returns
 returns c = record { paired = λ h. absurd (true≢false (sym h ∙ sym (tested c.before) ∙ not-true _ c.if1.true)); alone = λ h. refl }
 
-next-staying-requires : tie.Need-next-staying-requires
-next-staying-requires c κs =
+next_staying-requires : tie.Need-next_staying-requires
+next_staying-requires c κs =
     let s = c.before.before in
     rw (back32 s.args.by s.ranges.by.sfits, back32 s.args.back s.ranges.back.sfits)
-    (s.requires.0, rw s.requires.2 (omega (arith, size-neg s.args.by, s.requires.1)), sym (ap neg_ℤ s.requires.2 ∙ neg_ℤ-neg_ℤ s.args.by), s.requires.4)
+    (s.requires.0, rw s.requires.2 (omega (arith, size_neg s.args.by, s.requires.1)), sym (ap neg_ℤ s.requires.2 ∙ neg_ℤ-neg_ℤ s.args.by), s.requires.4)
 
 returns-2 : tie.Need-returns-2
 returns-2 c =
     let s = c.before.before.before in
     record {
-      paired = λ h. rw (back32 s.args.back s.ranges.back.sfits, s.requires.2) at c.next-staying.ensures;
+      paired = λ h. rw (back32 s.args.back s.ranges.back.sfits, s.requires.2) at c.next_staying.ensures;
       alone = λ h. absurd (true≢false (sym (sym (tested c.before.before) ∙ not-false _ c.before.if1.false) ∙ h));
     }
 
-pub find-pair-spec : {M : Type 1} → statement M
-find-pair-spec = tie.close (tie.spec row-stays-requires returns next-staying-requires returns-2)
+pub find_pair_spec : {M : Type 1} → statement M
+find_pair_spec = tie.close (tie.spec row_stays-requires returns next_staying-requires returns-2)

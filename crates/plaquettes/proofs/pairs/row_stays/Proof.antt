@@ -1,9 +1,9 @@
 use Prim.Native.Nat.{◌+◌, ◌*◌, ◌≤◌}
 use lib.ListN.{length}
 use Rattle.mathematics.proofs.Signed.{back32}
-use Rattle.hilbert.proofs.Searching.{row-part}
+use Rattle.hilbert.proofs.Searching.{row_part}
 use Rattle.plaquettes.proofs.Listed.{row_room}
-use Rattle.plaquettes.proofs.Pairing.{row-movable}
+use Rattle.plaquettes.proofs.Pairing.{row_movable}
 use borrow.Author.Rules.{rules}
 use Rattle.plaquettes.proofs.pairs.row_stays.Statement.{statement}
 use Rattle.plaquettes.proofs.pairs.row_stays.Tie as tie
@@ -33,16 +33,16 @@ part-stays-end c = let h = room c in search rules
 stays-requires : tie.Need-stays-requires
 stays-requires c κs =
     let s = c.before in
-    rw (row-part s.args.list.now s.args.s.edges s.args.place, back32 s.args.by s.ranges.by.sfits, back32 s.args.back s.ranges.back.sfits)
-    (row-movable _ _ _ s.requires.0 s.args.place s.requires.3, s.requires.0.truncation, s.requires.1, s.requires.2)
+    rw (row_part s.args.list.now s.args.s.edges s.args.place, back32 s.args.by s.ranges.by.sfits, back32 s.args.back s.ranges.back.sfits)
+    (row_movable _ _ _ s.requires.0 s.args.place s.requires.3, s.requires.0.truncation, s.requires.1, s.requires.2)
 
 returns : tie.Need-returns
 returns c =
     let s = c.before.before in
-    rw (row-part s.args.list.now s.args.s.edges s.args.place, back32 s.args.by s.ranges.by.sfits) at c.stays.ensures
+    rw (row_part s.args.list.now s.args.s.edges s.args.place, back32 s.args.by s.ranges.by.sfits) at c.stays.ensures
 
-pub row-stays-spec : {M : Type 1} → statement M
-row-stays-spec =
+pub row_stays_spec : {M : Type 1} → statement M
+row_stays_spec =
     tie.close
     (tie.spec
     mul_at

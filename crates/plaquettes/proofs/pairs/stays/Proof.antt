@@ -2,7 +2,7 @@ use native.Mathlib.Omega.{arith}
 use Prim.Native.Nat.{◌≤◌}
 use lib.IntN.{pos, nat_abs}
 use lib.ListN.{get_or}
-use Rattle.mathematics.proofs.Signed.{back32, size-neg}
+use Rattle.mathematics.proofs.Signed.{back32, size_neg}
 use Rattle.plaquettes.specs.Pairs.{stays}
 use borrow.Author.Rules.{rules}
 use Rattle.plaquettes.proofs.pairs.stays.Statement.{statement}
@@ -14,8 +14,8 @@ mul-value-stays c = search rules
 shared-slice-copy-out-value-stays : tie.Need-shared-slice-copy-out-value-stays
 shared-slice-copy-out-value-stays c = search rules
 
-value-stays-requires : tie.Need-value-stays-requires
-value-stays-requires c κs =
+value_stays-requires : tie.Need-value_stays-requires
+value_stays-requires c κs =
     let s = c.before in
     let m = s.requires.0 in
     rw (back32 _ c.value-stays-arg.given, back32 _ s.ranges.by.sfits) (m.small _ m.first_below, s.requires.2, s.requires.1)
@@ -26,11 +26,11 @@ mul-value-stays-2 c = search rules
 shared-slice-copy-out-value-stays-2 : tie.Need-shared-slice-copy-out-value-stays-2
 shared-slice-copy-out-value-stays-2 c = search rules
 
-value-stays-requires-2 : tie.Need-value-stays-requires-2
-value-stays-requires-2 c κs =
+value_stays-requires-2 : tie.Need-value_stays-requires-2
+value_stays-requires-2 c κs =
     let s = c.before.before.before in
     let m = s.requires.0 in
-    let small : nat_abs s.args.back ≤ 1 = rw s.requires.3 (omega (arith, size-neg s.args.by, s.requires.2)) in
+    let small : nat_abs s.args.back ≤ 1 = rw s.requires.3 (omega (arith, size_neg s.args.by, s.requires.2)) in
     rw (back32 _ c.value-stays-arg2.given, back32 _ s.ranges.back.sfits) (m.small _ m.second_below, small, s.requires.1)
 
 mul-value-stays-3 : tie.Need-overflow-mul-value-stays-3
@@ -39,11 +39,11 @@ mul-value-stays-3 c = search rules
 shared-slice-copy-out-value-stays-3 : tie.Need-shared-slice-copy-out-value-stays-3
 shared-slice-copy-out-value-stays-3 c = search rules
 
-value-stays-requires-3 : tie.Need-value-stays-requires-3
-value-stays-requires-3 c κs =
+value_stays-requires-3 : tie.Need-value_stays-requires-3
+value_stays-requires-3 c κs =
     let s = c.before.before.before.before.before in
     let m = s.requires.0 in
-    rw (back32 _ c.value-stays-arg3.given, back32 _ s.ranges.by.sfits) (m.small _ m.third-below, s.requires.2, s.requires.1)
+    rw (back32 _ c.value-stays-arg3.given, back32 _ s.ranges.by.sfits) (m.small _ m.third_below, s.requires.2, s.requires.1)
 
 returns : tie.Need-returns
 unfolding stays
@@ -63,17 +63,17 @@ returns c =
       s.requires.3,
     )
 
-pub stays-spec : {M : Type 1} → statement M
-stays-spec =
+pub stays_spec : {M : Type 1} → statement M
+stays_spec =
     tie.close
     (tie.spec
     mul-value-stays
     shared-slice-copy-out-value-stays
-    value-stays-requires
+    value_stays-requires
     mul-value-stays-2
     shared-slice-copy-out-value-stays-2
-    value-stays-requires-2
+    value_stays-requires-2
     mul-value-stays-3
     shared-slice-copy-out-value-stays-3
-    value-stays-requires-3
+    value_stays-requires-3
     returns)

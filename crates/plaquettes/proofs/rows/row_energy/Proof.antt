@@ -3,10 +3,10 @@ use mathlib.Core.Path.{ap, ◌∙◌}
 use native.Mathlib.Omega.{arith}
 use lib.Ieee.{binary64, mul}
 use lib.ListN.{length, length-take}
-use Rattle.hilbert.proofs.Searching.{row-part}
+use Rattle.hilbert.proofs.Searching.{row_part}
 use Rattle.matrices.specs.Coupling.{float_of}
 use Rattle.plaquettes.proofs.Listed.{row_room}
-use Rattle.plaquettes.specs.Rows.{electric-term}
+use Rattle.plaquettes.specs.Rows.{electric_term}
 use borrow.Author.Rules.{rules}
 use Rattle.plaquettes.proofs.rows.row_energy.Statement.{statement}
 use Rattle.plaquettes.proofs.rows.row_energy.Tie as tie
@@ -37,20 +37,20 @@ squares-requires : tie.Need-squares-requires
 squares-requires c κs =
     let s = c.before in
     let small = s.requires.1 in
-    rw (row-part s.args.list.now s.args.m s.args.i)
+    rw (row_part s.args.list.now s.args.m s.args.i)
     (rw length-take (omega (arith, small.edges_few)), λ e h. small.small s.args.i s.requires.2 e (omega (arith, rw length-take at h)))
 
 energy-requires : tie.Need-energy-requires
 energy-requires c κs = search rules
 
 returns : tie.Need-returns
-unfolding electric-term
+unfolding electric_term
 returns c =
     let s = c.before.before.before in
-    c.energy.ensures ∙ ap (λ (k : ℕ). mul binary64 s.args.factor (float_of k)) (rw (row-part s.args.list.now s.args.m s.args.i) at c.before.squares.ensures.0)
+    c.energy.ensures ∙ ap (λ (k : ℕ). mul binary64 s.args.factor (float_of k)) (rw (row_part s.args.list.now s.args.m s.args.i) at c.before.squares.ensures.0)
 
-pub row-energy-spec : {M : Type 1} → statement M
-row-energy-spec =
+pub row_energy_spec : {M : Type 1} → statement M
+row_energy_spec =
     tie.close
     (tie.spec
     mul_at

@@ -32,7 +32,7 @@ returns c =
     back32 c.sum.result c.sum.type-inv ∙ c.sum.ensures ∙ rw (back32 (get_or start.args.row.now start.args.edge (pos 0)) c.before.sum-arg.given, back32 start.args.by start.ranges.by.sfits) in
     rw v
 
-pub move-edge-spec : {M : Type 1} → statement M
-move-edge-spec =
+pub move_edge_spec : {M : Type 1} → statement M
+move_edge_spec =
     tie.close
     (tie.spec mul-sum element-copy-out-sum sum-requires mul-t9 element-set-from-row returns)

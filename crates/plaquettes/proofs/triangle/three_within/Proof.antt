@@ -45,8 +45,8 @@ returns c =
       back32 _ c.before.within-arg3.given,
     )
 
-pub three-within-spec : {M : Type 1} → statement M
-three-within-spec =
+pub three_within_spec : {M : Type 1} → statement M
+three_within_spec =
     tie.close
     (tie.spec
     mul-within

@@ -21,8 +21,8 @@ loop-holds c = read_none 8 float_of _ _ c.smaller.ensures
 mul-float-at : tie.Need-overflow-mul-float-at invariant-loop decreases-loop
 mul-float-at c = search rules
 
-float-at-requires : tie.Need-float-at-requires invariant-loop decreases-loop
-float-at-requires c κs = search rules
+float_at-requires : tie.Need-float_at-requires invariant-loop decreases-loop
+float_at-requires c κs = search rules
 
 mul-out : tie.Need-overflow-mul-out invariant-loop decreases-loop
 mul-out c = search rules
@@ -45,8 +45,8 @@ same_length c = c.before.loop.invariant.long
 returns : tie.Need-returns invariant-loop decreases-loop
 returns c = read_all c.before.loop.invariant (search rules)
 
-pub floats-spec : {M : Type 1} → statement M
-floats-spec =
+pub floats_spec : {M : Type 1} → statement M
+floats_spec =
     tie.close
     (tie.spec
     invariant-loop
@@ -54,7 +54,7 @@ floats-spec =
     smaller-requires
     loop-holds
     mul-float-at
-    float-at-requires
+    float_at-requires
     mul-out
     slice-write-out
     add-i

@@ -25,8 +25,8 @@ loop-holds c = read_none 4 (to_z w32) _ _ c.smaller.ensures
 mul-i32-at : tie.Need-overflow-mul-i32-at invariant-loop decreases-loop
 mul-i32-at c = search rules
 
-i32-at-requires : tie.Need-i32-at-requires invariant-loop decreases-loop
-i32-at-requires c κs = search rules
+i32_at-requires : tie.Need-i32_at-requires invariant-loop decreases-loop
+i32_at-requires c κs = search rules
 
 mul-t11 : tie.Need-overflow-mul-t11 invariant-loop decreases-loop
 mul-t11 c = search rules
@@ -41,7 +41,7 @@ loop-less : tie.Need-loop-smaller invariant-loop decreases-loop
 loop-less c = search rules
 
 loop-again : tie.Need-loop-preserved invariant-loop decreases-loop
-loop-again c = read_next 4 (to_z w32) _ (pos 0) c.before.before.loop.invariant (search rules) (back32 _ c.i32-at.type-inv ∙ c.i32-at.ensures)
+loop-again c = read_next 4 (to_z w32) _ (pos 0) c.before.before.loop.invariant (search rules) (back32 _ c.i32_at.type-inv ∙ c.i32_at.ensures)
 
 same_length : tie.Need-same-length invariant-loop decreases-loop
 same_length c = c.before.loop.invariant.long
@@ -49,8 +49,8 @@ same_length c = c.before.loop.invariant.long
 returns : tie.Need-returns invariant-loop decreases-loop
 returns c = read_all c.before.loop.invariant (search rules)
 
-pub i32s-spec : {M : Type 1} → statement M
-i32s-spec =
+pub i32s_spec : {M : Type 1} → statement M
+i32s_spec =
     tie.close
     (tie.spec
     invariant-loop
@@ -58,7 +58,7 @@ i32s-spec =
     smaller-requires
     loop-holds
     mul-i32-at
-    i32-at-requires
+    i32_at-requires
     mul-t11
     slice-set-from-out
     add-i

@@ -20,8 +20,8 @@ loop-holds c = read_none 4 (λ n. n) _ _ c.smaller.ensures
 mul-u32-at : tie.Need-overflow-mul-u32-at invariant-loop decreases-loop
 mul-u32-at c = search rules
 
-u32-at-requires : tie.Need-u32-at-requires invariant-loop decreases-loop
-u32-at-requires c κs = search rules
+u32_at-requires : tie.Need-u32_at-requires invariant-loop decreases-loop
+u32_at-requires c κs = search rules
 
 mul-out : tie.Need-overflow-mul-out invariant-loop decreases-loop
 mul-out c = search rules
@@ -36,7 +36,7 @@ loop-less : tie.Need-loop-smaller invariant-loop decreases-loop
 loop-less c = search rules
 
 loop-again : tie.Need-loop-preserved invariant-loop decreases-loop
-loop-again c = read_next 4 (λ n. n) _ 0 c.before.before.loop.invariant (search rules) c.u32-at.ensures
+loop-again c = read_next 4 (λ n. n) _ 0 c.before.before.loop.invariant (search rules) c.u32_at.ensures
 
 same_length : tie.Need-same-length invariant-loop decreases-loop
 same_length c = c.before.loop.invariant.long
@@ -44,8 +44,8 @@ same_length c = c.before.loop.invariant.long
 returns : tie.Need-returns invariant-loop decreases-loop
 returns c = read_all c.before.loop.invariant (search rules)
 
-pub u32s-spec : {M : Type 1} → statement M
-u32s-spec =
+pub u32s_spec : {M : Type 1} → statement M
+u32s_spec =
     tie.close
     (tie.spec
     invariant-loop
@@ -53,7 +53,7 @@ u32s-spec =
     smaller-requires
     loop-holds
     mul-u32-at
-    u32-at-requires
+    u32_at-requires
     mul-out
     slice-write-out
     add-i

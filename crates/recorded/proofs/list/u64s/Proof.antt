@@ -20,8 +20,8 @@ loop-holds c = read_none 8 (λ n. n) _ _ c.smaller.ensures
 mul-u64-at : tie.Need-overflow-mul-u64-at invariant-loop decreases-loop
 mul-u64-at c = search rules
 
-u64-at-requires : tie.Need-u64-at-requires invariant-loop decreases-loop
-u64-at-requires c κs = search rules
+u64_at-requires : tie.Need-u64_at-requires invariant-loop decreases-loop
+u64_at-requires c κs = search rules
 
 mul-out : tie.Need-overflow-mul-out invariant-loop decreases-loop
 mul-out c = search rules
@@ -36,7 +36,7 @@ loop-less : tie.Need-loop-smaller invariant-loop decreases-loop
 loop-less c = search rules
 
 loop-again : tie.Need-loop-preserved invariant-loop decreases-loop
-loop-again c = read_next 8 (λ n. n) _ 0 c.before.before.loop.invariant (search rules) c.u64-at.ensures
+loop-again c = read_next 8 (λ n. n) _ 0 c.before.before.loop.invariant (search rules) c.u64_at.ensures
 
 same_length : tie.Need-same-length invariant-loop decreases-loop
 same_length c = c.before.loop.invariant.long
@@ -44,8 +44,8 @@ same_length c = c.before.loop.invariant.long
 returns : tie.Need-returns invariant-loop decreases-loop
 returns c = read_all c.before.loop.invariant (search rules)
 
-pub u64s-spec : {M : Type 1} → statement M
-u64s-spec =
+pub u64s_spec : {M : Type 1} → statement M
+u64s_spec =
     tie.close
     (tie.spec
     invariant-loop
@@ -53,7 +53,7 @@ u64s-spec =
     smaller-requires
     loop-holds
     mul-u64-at
-    u64-at-requires
+    u64_at-requires
     mul-out
     slice-write-out
     add-i

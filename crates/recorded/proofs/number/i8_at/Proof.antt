@@ -3,18 +3,18 @@ use mathlib.Core.Path.{ap, ◌∙◌}
 use borrow.Author.Rules.{rules}
 use mir.Syntax.{w8}
 use mir.Val.{to_z}
-use Rattle.recorded.proofs.Numbers.{negative_fits, negative-is}
+use Rattle.recorded.proofs.Numbers.{negative_fits, negative_is}
 use Rattle.recorded.proofs.number.i8_at.Statement.{statement}
 use Rattle.recorded.proofs.number.i8_at.Tie as tie
 
-u8-at-requires : tie.Need-u8-at-requires
-u8-at-requires c κs = search rules
+u8_at-requires : tie.Need-u8_at-requires
+u8_at-requires c κs = search rules
 
 cast-result : tie.Need-overflow-cast-result
 cast-result c = search rules
 
 returns : tie.Need-returns
-returns c = ap (to_z w8) c.before.u8-at.ensures
+returns c = ap (to_z w8) c.before.u8_at.ensures
 
 sub-result : tie.Need-overflow-sub-result
 sub-result c = search rules
@@ -23,12 +23,12 @@ cast-result-2 : tie.Need-overflow-cast-result-2
 cast-result-2 c = search rules
 
 sub-result-2 : tie.Need-overflow-sub-result-2
-sub-result-2 c = negative_fits w8 (255 - c.before.u8-at.result) c.before.u8-at.result (search rules) (search rules) (search rules)
+sub-result-2 c = negative_fits w8 (255 - c.before.u8_at.result) c.before.u8_at.result (search rules) (search rules) (search rules)
 
 returns-2 : tie.Need-returns-2
-returns-2 c = negative-is w8 (255 - c.before.u8-at.result) c.before.u8-at.result (search rules) (search rules) (search rules) ∙ ap (to_z w8) c.before.u8-at.ensures
+returns-2 c = negative_is w8 (255 - c.before.u8_at.result) c.before.u8_at.result (search rules) (search rules) (search rules) ∙ ap (to_z w8) c.before.u8_at.ensures
 
-pub i8-at-spec : {M : Type 1} → statement M
-i8-at-spec =
+pub i8_at_spec : {M : Type 1} → statement M
+i8_at_spec =
     tie.close
-    (tie.spec u8-at-requires cast-result returns sub-result cast-result-2 sub-result-2 returns-2)
+    (tie.spec u8_at-requires cast-result returns sub-result cast-result-2 sub-result-2 returns-2)

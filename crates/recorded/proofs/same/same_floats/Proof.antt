@@ -4,7 +4,7 @@ use borrow.Author.Tests.{not-true, not-false}
 use borrow.Author.Rules.{rules}
 use lib.Ieee.{nan}
 use Rattle.recorded.specs.Bytes.{float_is}
-use Rattle.recorded.proofs.Holding.{Holding, hold-not, hold-none, hold-next, hold-all}
+use Rattle.recorded.proofs.Holding.{Holding, hold_not, hold_none, hold_next, hold_all}
 use Rattle.recorded.proofs.same.same_floats.Statement.{statement}
 use Rattle.recorded.proofs.same.same_floats.Tie as tie
 
@@ -18,10 +18,10 @@ whole-requires : tie.Need-whole-requires invariant-loop decreases-loop
 whole-requires c κs = search rules
 
 returns : tie.Need-returns invariant-loop decreases-loop
-returns c = hold-not _ _ _ _ _ (sym c.before.whole.ensures ∙ not-true _ c.if1.true)
+returns c = hold_not _ _ _ _ _ (sym c.before.whole.ensures ∙ not-true _ c.if1.true)
 
 loop-holds : tie.Need-loop-init invariant-loop decreases-loop
-loop-holds c = hold-none _ _ _ _ _ (sym c.before.whole.ensures ∙ not-false _ c.if1.false)
+loop-holds c = hold_none _ _ _ _ _ (sym c.before.whole.ensures ∙ not-false _ c.if1.false)
 
 mul-same-bits : tie.Need-overflow-mul-same-bits invariant-loop decreases-loop
 mul-same-bits c = search rules
@@ -32,11 +32,11 @@ shared-slice-read-same-bits c = search rules
 mul-u64-at : tie.Need-overflow-mul-u64-at invariant-loop decreases-loop
 mul-u64-at c = search rules
 
-u64-at-requires : tie.Need-u64-at-requires invariant-loop decreases-loop
-u64-at-requires c κs = search rules
+u64_at-requires : tie.Need-u64_at-requires invariant-loop decreases-loop
+u64_at-requires c κs = search rules
 
-same-bits-requires : tie.Need-same-bits-requires invariant-loop decreases-loop
-same-bits-requires c κs = search rules
+same_bits-requires : tie.Need-same_bits-requires invariant-loop decreases-loop
+same_bits-requires c κs = search rules
 
 add-i : tie.Need-overflow-add-i invariant-loop decreases-loop
 add-i c = search rules
@@ -45,13 +45,13 @@ loop-less : tie.Need-loop-smaller invariant-loop decreases-loop
 loop-less c = search rules
 
 loop-again : tie.Need-loop-preserved invariant-loop decreases-loop
-loop-again c = hold-next _ _ _ _ _ c.before.before.before.before.loop.invariant (search rules) (c.same_bits.ensures ∙ ap (float_is _) c.before.u64-at.ensures)
+loop-again c = hold_next _ _ _ _ _ c.before.before.before.before.loop.invariant (search rules) (c.same_bits.ensures ∙ ap (float_is _) c.before.u64_at.ensures)
 
 returns-2 : tie.Need-returns-2 invariant-loop decreases-loop
-returns-2 c = hold-all _ _ _ _ _ c.before.loop.invariant (search rules)
+returns-2 c = hold_all _ _ _ _ _ c.before.loop.invariant (search rules)
 
-pub same-floats-spec : {M : Type 1} → statement M
-same-floats-spec =
+pub same_floats_spec : {M : Type 1} → statement M
+same_floats_spec =
     tie.close
     (tie.spec
     invariant-loop
@@ -62,8 +62,8 @@ same-floats-spec =
     mul-same-bits
     shared-slice-read-same-bits
     mul-u64-at
-    u64-at-requires
-    same-bits-requires
+    u64_at-requires
+    same_bits-requires
     add-i
     loop-less
     loop-again

@@ -7,8 +7,8 @@ use mir.Syntax.{w8}
 use mir.Val.{to_z}
 use Rattle.mathematics.specs.Integers.{equal}
 use Rattle.mathematics.proofs.Signed.{back8}
-use Rattle.recorded.proofs.Numbers.{byte-number}
-use Rattle.recorded.proofs.Holding.{Holding, hold-not, hold-none, hold-next, hold-all}
+use Rattle.recorded.proofs.Numbers.{byte_number}
+use Rattle.recorded.proofs.Holding.{Holding, hold_not, hold_none, hold_next, hold_all}
 use Rattle.recorded.proofs.same.same_i8s.Statement.{statement}
 use Rattle.recorded.proofs.same.same_i8s.Tie as tie
 
@@ -22,19 +22,19 @@ whole-requires : tie.Need-whole-requires invariant-loop decreases-loop
 whole-requires c κs = search rules
 
 returns : tie.Need-returns invariant-loop decreases-loop
-returns c = hold-not _ _ _ _ _ (sym c.before.whole.ensures ∙ not-true _ c.if1.true)
+returns c = hold_not _ _ _ _ _ (sym c.before.whole.ensures ∙ not-true _ c.if1.true)
 
 loop-holds : tie.Need-loop-init invariant-loop decreases-loop
-loop-holds c = hold-none _ _ _ _ _ (sym c.before.whole.ensures ∙ not-false _ c.if1.false)
+loop-holds c = hold_none _ _ _ _ _ (sym c.before.whole.ensures ∙ not-false _ c.if1.false)
 
 shared-slice-copy-out-same-i8 : tie.Need-shared-slice-copy-out-same-i8 invariant-loop decreases-loop
 shared-slice-copy-out-same-i8 c = search rules
 
-i8-at-requires : tie.Need-i8-at-requires invariant-loop decreases-loop
-i8-at-requires c κs = search rules
+i8_at-requires : tie.Need-i8_at-requires invariant-loop decreases-loop
+i8_at-requires c κs = search rules
 
-same-i8-requires : tie.Need-same-i8-requires invariant-loop decreases-loop
-same-i8-requires c κs = search rules
+same_i8-requires : tie.Need-same_i8-requires invariant-loop decreases-loop
+same_i8-requires c κs = search rules
 
 add-i : tie.Need-overflow-add-i invariant-loop decreases-loop
 add-i c = search rules
@@ -43,13 +43,13 @@ loop-less : tie.Need-loop-smaller invariant-loop decreases-loop
 loop-less c = search rules
 
 loop-again : tie.Need-loop-preserved invariant-loop decreases-loop
-loop-again c = hold-next _ _ _ _ _ c.before.before.before.before.loop.invariant (search rules) (c.same-i8.ensures ∙ rw (back8 _ c.before.before.same-i8-arg.given, back8 _ c.before.i8-at.type-inv, c.before.i8-at.ensures, byte-number _ _))
+loop-again c = hold_next _ _ _ _ _ c.before.before.before.before.loop.invariant (search rules) (c.same_i8.ensures ∙ rw (back8 _ c.before.before.same-i8-arg.given, back8 _ c.before.i8_at.type-inv, c.before.i8_at.ensures, byte_number _ _))
 
 returns-2 : tie.Need-returns-2 invariant-loop decreases-loop
-returns-2 c = hold-all _ _ _ _ _ c.before.loop.invariant (search rules)
+returns-2 c = hold_all _ _ _ _ _ c.before.loop.invariant (search rules)
 
-pub same-i8s-spec : {M : Type 1} → statement M
-same-i8s-spec =
+pub same_i8s_spec : {M : Type 1} → statement M
+same_i8s_spec =
     tie.close
     (tie.spec
     invariant-loop
@@ -58,8 +58,8 @@ same-i8s-spec =
     returns
     loop-holds
     shared-slice-copy-out-same-i8
-    i8-at-requires
-    same-i8-requires
+    i8_at-requires
+    same_i8-requires
     add-i
     loop-less
     loop-again

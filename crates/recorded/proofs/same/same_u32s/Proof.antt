@@ -3,7 +3,7 @@ use mathlib.Core.Path.{sym, ap, ◌∙◌}
 use borrow.Author.Tests.{not-true, not-false}
 use borrow.Author.Rules.{rules}
 use lib.Dec.{eqb}
-use Rattle.recorded.proofs.Holding.{Holding, hold-not, hold-none, hold-next, hold-all}
+use Rattle.recorded.proofs.Holding.{Holding, hold_not, hold_none, hold_next, hold_all}
 use Rattle.recorded.proofs.same.same_u32s.Statement.{statement}
 use Rattle.recorded.proofs.same.same_u32s.Tie as tie
 
@@ -17,10 +17,10 @@ whole-requires : tie.Need-whole-requires invariant-loop decreases-loop
 whole-requires c κs = search rules
 
 returns : tie.Need-returns invariant-loop decreases-loop
-returns c = hold-not _ _ _ _ _ (sym c.before.whole.ensures ∙ not-true _ c.if1.true)
+returns c = hold_not _ _ _ _ _ (sym c.before.whole.ensures ∙ not-true _ c.if1.true)
 
 loop-holds : tie.Need-loop-init invariant-loop decreases-loop
-loop-holds c = hold-none _ _ _ _ _ (sym c.before.whole.ensures ∙ not-false _ c.if1.false)
+loop-holds c = hold_none _ _ _ _ _ (sym c.before.whole.ensures ∙ not-false _ c.if1.false)
 
 mul-so-far : tie.Need-overflow-mul-so-far invariant-loop decreases-loop
 mul-so-far c = search rules
@@ -31,8 +31,8 @@ shared-slice-read-so-far c = search rules
 mul-u32-at : tie.Need-overflow-mul-u32-at invariant-loop decreases-loop
 mul-u32-at c = search rules
 
-u32-at-requires : tie.Need-u32-at-requires invariant-loop decreases-loop
-u32-at-requires c κs = search rules
+u32_at-requires : tie.Need-u32_at-requires invariant-loop decreases-loop
+u32_at-requires c κs = search rules
 
 add-i : tie.Need-overflow-add-i invariant-loop decreases-loop
 add-i c = search rules
@@ -41,13 +41,13 @@ loop-less : tie.Need-loop-smaller invariant-loop decreases-loop
 loop-less c = search rules
 
 loop-again : tie.Need-loop-preserved invariant-loop decreases-loop
-loop-again c = hold-next _ _ _ _ _ c.before.before.before.loop.invariant (search rules) (ap (eqb _) c.u32-at.ensures)
+loop-again c = hold_next _ _ _ _ _ c.before.before.before.loop.invariant (search rules) (ap (eqb _) c.u32_at.ensures)
 
 returns-2 : tie.Need-returns-2 invariant-loop decreases-loop
-returns-2 c = hold-all _ _ _ _ _ c.before.loop.invariant (search rules)
+returns-2 c = hold_all _ _ _ _ _ c.before.loop.invariant (search rules)
 
-pub same-u32s-spec : {M : Type 1} → statement M
-same-u32s-spec =
+pub same_u32s_spec : {M : Type 1} → statement M
+same_u32s_spec =
     tie.close
     (tie.spec
     invariant-loop
@@ -58,7 +58,7 @@ same-u32s-spec =
     mul-so-far
     shared-slice-read-so-far
     mul-u32-at
-    u32-at-requires
+    u32_at-requires
     add-i
     loop-less
     loop-again

@@ -3,7 +3,7 @@ use mathlib.Core.Path.{sym, ap, ◌∙◌}
 use borrow.Author.Tests.{not-true, not-false}
 use borrow.Author.Rules.{rules}
 use lib.Dec.{eqb}
-use Rattle.recorded.proofs.Holding.{Holding, hold-not, hold-none, hold-next, hold-all}
+use Rattle.recorded.proofs.Holding.{Holding, hold_not, hold_none, hold_next, hold_all}
 use Rattle.recorded.proofs.same.same_u64s.Statement.{statement}
 use Rattle.recorded.proofs.same.same_u64s.Tie as tie
 
@@ -17,10 +17,10 @@ whole-requires : tie.Need-whole-requires invariant-loop decreases-loop
 whole-requires c κs = search rules
 
 returns : tie.Need-returns invariant-loop decreases-loop
-returns c = hold-not _ _ _ _ _ (sym c.before.whole.ensures ∙ not-true _ c.if1.true)
+returns c = hold_not _ _ _ _ _ (sym c.before.whole.ensures ∙ not-true _ c.if1.true)
 
 loop-holds : tie.Need-loop-init invariant-loop decreases-loop
-loop-holds c = hold-none _ _ _ _ _ (sym c.before.whole.ensures ∙ not-false _ c.if1.false)
+loop-holds c = hold_none _ _ _ _ _ (sym c.before.whole.ensures ∙ not-false _ c.if1.false)
 
 mul-so-far : tie.Need-overflow-mul-so-far invariant-loop decreases-loop
 mul-so-far c = search rules
@@ -31,8 +31,8 @@ shared-slice-read-so-far c = search rules
 mul-u64-at : tie.Need-overflow-mul-u64-at invariant-loop decreases-loop
 mul-u64-at c = search rules
 
-u64-at-requires : tie.Need-u64-at-requires invariant-loop decreases-loop
-u64-at-requires c κs = search rules
+u64_at-requires : tie.Need-u64_at-requires invariant-loop decreases-loop
+u64_at-requires c κs = search rules
 
 add-i : tie.Need-overflow-add-i invariant-loop decreases-loop
 add-i c = search rules
@@ -41,13 +41,13 @@ loop-less : tie.Need-loop-smaller invariant-loop decreases-loop
 loop-less c = search rules
 
 loop-again : tie.Need-loop-preserved invariant-loop decreases-loop
-loop-again c = hold-next _ _ _ _ _ c.before.before.before.loop.invariant (search rules) (ap (eqb _) c.u64-at.ensures)
+loop-again c = hold_next _ _ _ _ _ c.before.before.before.loop.invariant (search rules) (ap (eqb _) c.u64_at.ensures)
 
 returns-2 : tie.Need-returns-2 invariant-loop decreases-loop
-returns-2 c = hold-all _ _ _ _ _ c.before.loop.invariant (search rules)
+returns-2 c = hold_all _ _ _ _ _ c.before.loop.invariant (search rules)
 
-pub same-u64s-spec : {M : Type 1} → statement M
-same-u64s-spec =
+pub same_u64s_spec : {M : Type 1} → statement M
+same_u64s_spec =
     tie.close
     (tie.spec
     invariant-loop
@@ -58,7 +58,7 @@ same-u64s-spec =
     mul-so-far
     shared-slice-read-so-far
     mul-u64-at
-    u64-at-requires
+    u64_at-requires
     add-i
     loop-less
     loop-again

@@ -14,5 +14,5 @@ returns : tie.Need-returns
 unfolding is_whole
 returns c = refl
 
-pub whole-spec : {M : Type 1} → statement M
-whole-spec = tie.close (tie.spec rem-result div-result returns)
+pub whole_spec : {M : Type 1} → statement M
+whole_spec = tie.close (tie.spec rem-result div-result returns)

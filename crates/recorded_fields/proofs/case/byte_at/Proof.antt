@@ -17,5 +17,5 @@ returns c = (c.byte.ensures, omega (arith, c.byte.ensures, c.before.shared-slice
 returns-2 : tie.Need-returns-2
 returns-2 c = (sym (get_or-eq_default c.before.before.args.list.now 0 c.if1.false), omega arith)
 
-pub byte-at-spec : {M : Type 1} → statement M
-byte-at-spec = tie.close (tie.spec shared-slice-read-byte byte-requires returns returns-2)
+pub byte_at_spec : {M : Type 1} → statement M
+byte_at_spec = tie.close (tie.spec shared-slice-read-byte byte-requires returns returns-2)

@@ -4,14 +4,14 @@ use borrow.Author.Rules.{rules}
 use Rattle.recorded_fields.proofs.case.word_at.Statement.{statement}
 use Rattle.recorded_fields.proofs.case.word_at.Tie as tie
 
-byte-at-requires : tie.Need-byte-at-requires
-byte-at-requires c κs = search rules
+byte_at-requires : tie.Need-byte_at-requires
+byte_at-requires c κs = search rules
 
 add-byte-at : tie.Need-overflow-add-byte-at
 add-byte-at c = search rules
 
-byte-at-requires-2 : tie.Need-byte-at-requires-2
-byte-at-requires-2 c κs = search rules
+byte_at-requires-2 : tie.Need-byte_at-requires-2
+byte_at-requires-2 c κs = search rules
 
 mul-result : tie.Need-overflow-mul-result
 mul-result c = search rules
@@ -23,7 +23,7 @@ returns : tie.Need-returns
 unfolding word
 returns c = (rw (c.before.byte_at.ensures.0, c.byte-at2.ensures.0), omega (arith, c.before.byte_at.ensures.1, c.byte-at2.ensures.1))
 
-pub word-at-spec : {M : Type 1} → statement M
-word-at-spec =
+pub word_at_spec : {M : Type 1} → statement M
+word_at_spec =
     tie.close
-    (tie.spec byte-at-requires add-byte-at byte-at-requires-2 mul-result add-result returns)
+    (tie.spec byte_at-requires add-byte-at byte_at-requires-2 mul-result add-result returns)

@@ -8,12 +8,12 @@ use Rattle.recorded_fields.proofs.inputs.delta.Tie as tie
 field-requires : tie.Need-field-requires
 field-requires c κs = search rules
 
-i32-at-requires : tie.Need-i32-at-requires
-i32-at-requires c κs = search rules
+i32_at-requires : tie.Need-i32_at-requires
+i32_at-requires c κs = search rules
 
 returns : tie.Need-returns
 unfolding case_at
-returns c = back32 _ c.i32-at.type-inv ∙ c.i32-at.ensures ∙ rw c.before.field.ensures.0
+returns c = back32 _ c.i32_at.type-inv ∙ c.i32_at.ensures ∙ rw c.before.field.ensures.0
 
-pub delta-spec : {M : Type 1} → statement M
-delta-spec = tie.close (tie.spec field-requires i32-at-requires returns)
+pub delta_spec : {M : Type 1} → statement M
+delta_spec = tie.close (tie.spec field-requires i32_at-requires returns)

@@ -9,12 +9,12 @@ field-requires c κs = search rules
 mul-u64-at : tie.Need-overflow-mul-u64-at
 mul-u64-at c = search rules
 
-u64-at-requires : tie.Need-u64-at-requires
-u64-at-requires c κs = search rules
+u64_at-requires : tie.Need-u64_at-requires
+u64_at-requires c κs = search rules
 
 returns : tie.Need-returns
 unfolding case_at
-returns c = rw (c.u64-at.ensures, c.before.field.ensures.0)
+returns c = rw (c.u64_at.ensures, c.before.field.ensures.0)
 
-pub number-spec : {M : Type 1} → statement M
-number-spec = tie.close (tie.spec field-requires mul-u64-at u64-at-requires returns)
+pub number_spec : {M : Type 1} → statement M
+number_spec = tie.close (tie.spec field-requires mul-u64-at u64_at-requires returns)

@@ -5,51 +5,51 @@ use borrow.Author.Rules.{rules}
 use Rattle.replay.proofs.compare.case_same.Statement.{statement}
 use Rattle.replay.proofs.compare.case_same.Tie as tie
 
-byte-at-requires : tie.Need-byte-at-requires
-byte-at-requires c κs = search rules
+byte_at-requires : tie.Need-byte_at-requires
+byte_at-requires c κs = search rules
 
-complexes-same-requires : tie.Need-complexes-same-requires
-complexes-same-requires c κs = search rules
+complexes_same-requires : tie.Need-complexes_same-requires
+complexes_same-requires c κs = search rules
 
 returns : tie.Need-returns
 unfolding agreed case_at
 returns c =
     let chose = c.before in
     let k = chose.before.byte_at.ensures.0 in
-    rw (up_to k 5 chose.if1.true) c.complexes-same.ensures
+    rw (up_to k 5 chose.if1.true) c.complexes_same.ensures
 
-states-same-requires : tie.Need-states-same-requires
-states-same-requires c κs = search rules
+states_same-requires : tie.Need-states_same-requires
+states_same-requires c κs = search rules
 
 returns-2 : tie.Need-returns-2
 unfolding agreed case_at
 returns-2 c =
     let chose = c.before in
     let k = chose.before.before.byte_at.ensures.0 in
-    rw (above k 5 chose.before.if1.false, up_to k 11 chose.if2.true) c.states-same.ensures
+    rw (above k 5 chose.before.if1.false, up_to k 11 chose.if2.true) c.states_same.ensures
 
-matrices-same-requires : tie.Need-matrices-same-requires
-matrices-same-requires c κs = search rules
+matrices_same-requires : tie.Need-matrices_same-requires
+matrices_same-requires c κs = search rules
 
 returns-3 : tie.Need-returns-3
 unfolding agreed case_at
 returns-3 c =
     let chose = c.before in
     let k = chose.before.before.before.byte_at.ensures.0 in
-    rw (above k 5 chose.before.before.if1.false, above k 11 chose.before.if2.false, up_to k 17 chose.if3.true) c.matrices-same.ensures
+    rw (above k 5 chose.before.before.if1.false, above k 11 chose.before.if2.false, up_to k 17 chose.if3.true) c.matrices_same.ensures
 
-z2-same-requires : tie.Need-z2-same-requires
-z2-same-requires c κs = search rules
+z2_same-requires : tie.Need-z2_same-requires
+z2_same-requires c κs = search rules
 
 returns-4 : tie.Need-returns-4
 unfolding agreed case_at
 returns-4 c =
     let chose = c.before in
     let k = chose.before.before.before.before.byte_at.ensures.0 in
-    rw (above k 5 chose.before.before.before.if1.false, above k 11 chose.before.before.if2.false, above k 17 chose.before.if3.false, up_to k 24 chose.if4.true) c.z2-same.ensures
+    rw (above k 5 chose.before.before.before.if1.false, above k 11 chose.before.before.if2.false, above k 17 chose.before.if3.false, up_to k 24 chose.if4.true) c.z2_same.ensures
 
-rows-same-requires : tie.Need-rows-same-requires
-rows-same-requires c κs = search rules
+rows_same-requires : tie.Need-rows_same-requires
+rows_same-requires c κs = search rules
 
 returns-5 : tie.Need-returns-5
 unfolding agreed case_at
@@ -58,18 +58,18 @@ returns-5 c =
     let k = chose.before.before.before.before.byte_at.ensures.0 in
     rw (above k 5 chose.before.before.before.if1.false, above k 11 chose.before.before.if2.false, above k 17 chose.before.if3.false, above k 24 chose.if4.false) c.rows_same.ensures
 
-pub case-same-spec : {M : Type 1} → statement M
-case-same-spec =
+pub case_same_spec : {M : Type 1} → statement M
+case_same_spec =
     tie.close
     (tie.spec
-    byte-at-requires
-    complexes-same-requires
+    byte_at-requires
+    complexes_same-requires
     returns
-    states-same-requires
+    states_same-requires
     returns-2
-    matrices-same-requires
+    matrices_same-requires
     returns-3
-    z2-same-requires
+    z2_same-requires
     returns-4
-    rows-same-requires
+    rows_same-requires
     returns-5)

@@ -7,7 +7,7 @@ use lib.ListN.{length}
 use Rattle.replay.specs.declared.walk.Replayed.TheVariants.{Cases, Malformed}
 use Rattle.recorded_fields.specs.Layout.{Whole}
 use Rattle.replay.specs.Cases.{ends, replayed}
-use Rattle.recorded_fields.proofs.Fields.{later, case-inside, whole_of}
+use Rattle.recorded_fields.proofs.Fields.{later, case_inside, whole_of}
 use Rattle.replay.proofs.Walking.{Walked, walked_none, walked_next, walked_all, one_more, none_more}
 use Rattle.replay.proofs.walk.replay.Statement.{statement}
 use Rattle.replay.proofs.walk.replay.Tie as tie
@@ -28,14 +28,14 @@ stands-requires c κs = c.loop.invariant.inside
 fits : (c : tie.Then1 invariant-loop decreases-loop) → Whole c.before.before.before.before.args.list.now c.before.before.loop.at
 fits c = whole_of _ _ (sym c.before.stands.ensures ∙ c.if1.true)
 
-case-same-requires : tie.Need-case-same-requires invariant-loop decreases-loop
-case-same-requires c κs = fits c
+case_same-requires : tie.Need-case_same-requires invariant-loop decreases-loop
+case_same-requires c κs = fits c
 
 add-differ : tie.Need-overflow-add-differ invariant-loop decreases-loop
-add-differ c = omega (arith, case-inside _ _ (fits c.before.before))
+add-differ c = omega (arith, case_inside _ _ (fits c.before.before))
 
 add-cases : tie.Need-overflow-add-cases invariant-loop decreases-loop
-add-cases c = omega (arith, case-inside _ _ (fits c.before.before))
+add-cases c = omega (arith, case_inside _ _ (fits c.before.before))
 
 place-requires : tie.Need-place-requires invariant-loop decreases-loop
 place-requires c κs = (c.before.before.before.before.loop.invariant.inside, omega arith)
@@ -58,27 +58,27 @@ loop-again c =
     c.before.if2.branch)
 
 -- no case is left
-all-walked : (c : tie.Else1 invariant-loop decreases-loop) → replayed c.before.before.before.before.args.list.now ≡ cond (ends c.before.before.before.before.args.list.now c.before.before.loop.at) (Cases c.before.before.loop.cases c.before.before.loop.differ) (Malformed c.before.before.loop.at)
-all-walked c = walked_all _ _ _ _ c.before.before.loop.invariant (sym c.before.stands.ensures ∙ c.if1.false)
+all_walked : (c : tie.Else1 invariant-loop decreases-loop) → replayed c.before.before.before.before.args.list.now ≡ cond (ends c.before.before.before.before.args.list.now c.before.before.loop.at) (Cases c.before.before.loop.cases c.before.before.loop.differ) (Malformed c.before.before.loop.at)
+all_walked c = walked_all _ _ _ _ c.before.before.loop.invariant (sym c.before.stands.ensures ∙ c.if1.false)
 
 ends-requires : tie.Need-ends-requires invariant-loop decreases-loop
 ends-requires c κs = c.before.before.loop.invariant.inside
 
 returns : tie.Need-returns invariant-loop decreases-loop
-returns c = sym (all-walked c.before.before ∙ rw (sym c.before.ends.ensures ∙ c.if3.true))
+returns c = sym (all_walked c.before.before ∙ rw (sym c.before.ends.ensures ∙ c.if3.true))
 
 returns-2 : tie.Need-returns-2 invariant-loop decreases-loop
-returns-2 c = sym (all-walked c.before.before ∙ rw (sym c.before.ends.ensures ∙ c.if3.false))
+returns-2 c = sym (all_walked c.before.before ∙ rw (sym c.before.ends.ensures ∙ c.if3.false))
 
-pub replay-spec : {M : Type 1} → statement M
-replay-spec =
+pub replay_spec : {M : Type 1} → statement M
+replay_spec =
     tie.close
     (tie.spec
     invariant-loop
     decreases-loop
     loop-holds
     stands-requires
-    case-same-requires
+    case_same-requires
     add-differ
     add-cases
     place-requires

@@ -7,8 +7,8 @@ use Rattle.rows.proofs.lists.append_row.Lts as lts
 use Rattle.rows.proofs.lists.copy_row.Reads as copy-row-reads
 
 -- src/lists.rt:65:5
-copy-row-requires : tie.Need-copy-row-requires
-copy-row-requires c κs = search rules
+copy_row-requires : tie.Need-copy_row-requires
+copy_row-requires c κs = search rules
 
 -- src/lists.rt:66:16
 add-next : tie.Need-overflow-add-next
@@ -45,15 +45,15 @@ same-length-3 c = search rules
 -- src/lists.rt:52:1
 returns : tie.Need-returns
 returns c =
-    let called = c.before.before.before.before.copy-row.ensures in
+    let called = c.before.before.before.before.copy_row.ensures in
     let start = c.before.before.before.before.before.before.before.before.before.before.before.before in
     rw (called.0, called.1) (row_copied _ _ _ _ _ _ _ _ start.requires.0 start.requires.1)
 
-pub append-row-spec : {M : Type 1} → statement M
-append-row-spec =
+pub append_row_spec : {M : Type 1} → statement M
+append_row_spec =
     tie.close
     (tie.spec
-    copy-row-requires
+    copy_row-requires
     add-next
     cast-starts
     add-starts

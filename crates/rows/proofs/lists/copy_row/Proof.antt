@@ -4,7 +4,7 @@ use native.Mathlib.Omega.{arith}
 use lib.Ieee.{nan}
 use lib.ListN.{length, length-set}
 use lib.Seq.{paste, paste-zero}
-use Rattle.rows.proofs.RowsWritten.{paste-turn}
+use Rattle.rows.proofs.RowsWritten.{paste_turn}
 use borrow.Author.Rules.{rules}
 use Rattle.rows.proofs.lists.copy_row.Statement.{statement}
 use Rattle.rows.proofs.lists.copy_row.Tie as tie
@@ -12,14 +12,14 @@ use Rattle.rows.proofs.lists.copy_row.Reads as reads
 use Rattle.rows.proofs.lists.copy_row.Lts as lts
 
 abbrev invariant-loop : tie.invariant-loop
-invariant-loop row-columns row-values m at columns₀ values₀ k₀ columns values k = (k ≤ m) × (length columns ≡ length columns₀) × (length values ≡ length values₀) × (columns ≡ paste columns₀ at row-columns k) × (values ≡ paste values₀ at row-values k)
+invariant-loop row_columns row_values m at columns₀ values₀ k₀ columns values k = (k ≤ m) × (length columns ≡ length columns₀) × (length values ≡ length values₀) × (columns ≡ paste columns₀ at row_columns k) × (values ≡ paste values₀ at row_values k)
 
 abbrev decreases-loop : tie.decreases-loop
-decreases-loop row-columns row-values m at columns₀ values₀ k₀ columns values k = m - k
+decreases-loop row_columns row_values m at columns₀ values₀ k₀ columns values k = m - k
 
 -- src/lists.rt:45:5
 loop-holds : tie.Need-loop-init invariant-loop decreases-loop
-loop-holds c = (omega arith, refl, refl, paste-zero c.args.columns.now c.args.at c.args.row-columns.now, paste-zero c.args.values.now c.args.at c.args.row-values.now)
+loop-holds c = (omega arith, refl, refl, paste-zero c.args.columns.now c.args.at c.args.row_columns.now, paste-zero c.args.values.now c.args.at c.args.row_values.now)
 
 -- src/lists.rt:46:27
 mul-columns : tie.Need-overflow-mul-columns invariant-loop decreases-loop
@@ -72,14 +72,14 @@ loop-less c = search rules
 -- src/lists.rt:45:5
 loop-again : tie.Need-loop-preserved invariant-loop decreases-loop
 loop-again c =
-    let at-loop = c.before.before.before in
-    let a = at-loop.before.args in
-    let k = at-loop.loop.k in (
+    let at_loop = c.before.before.before in
+    let a = at_loop.before.args in
+    let k = at_loop.loop.k in (
       omega arith,
-      rw length-set at-loop.loop.invariant.1,
-      rw length-set at-loop.loop.invariant.2,
-      paste-turn _ a.at _ _ k 0 (omega arith) (omega arith) at-loop.loop.invariant.3,
-      paste-turn _ a.at _ _ k nan (omega arith) (omega arith) at-loop.loop.invariant.4,
+      rw length-set at_loop.loop.invariant.1,
+      rw length-set at_loop.loop.invariant.2,
+      paste_turn _ a.at _ _ k 0 (omega arith) (omega arith) at_loop.loop.invariant.3,
+      paste_turn _ a.at _ _ k nan (omega arith) (omega arith) at_loop.loop.invariant.4,
     )
 
 -- src/lists.rt:34:1
@@ -96,8 +96,8 @@ returns c =
     let past : c.before.loop.k ≡ c.before.before.args.m = omega arith in
     (rw past at c.before.loop.invariant.3, rw past at c.before.loop.invariant.4)
 
-pub copy-row-spec : {M : Type 1} → statement M
-copy-row-spec =
+pub copy_row_spec : {M : Type 1} → statement M
+copy_row_spec =
     tie.close
     (tie.spec
     invariant-loop

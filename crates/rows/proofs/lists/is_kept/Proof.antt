@@ -7,5 +7,5 @@ returns : tie.Need-returns
 unfolding kept
 returns c = rw zero
 
-pub is-kept-spec : {M : Type 1} → statement M
-is-kept-spec = tie.close (tie.spec returns)
+pub is_kept_spec : {M : Type 1} → statement M
+is_kept_spec = tie.close (tie.spec returns)

@@ -1,4 +1,4 @@
-use Rattle.rows.proofs.RowsWritten.{entry-taken, entry-left}
+use Rattle.rows.proofs.RowsWritten.{entry_taken, entry_left}
 use borrow.Author.Rules.{rules}
 use Rattle.rows.proofs.lists.push_entry.Statement.{statement}
 use Rattle.rows.proofs.lists.push_entry.Tie as tie
@@ -35,7 +35,7 @@ same-length-2 c = search rules
 
 -- src/lists.rt:17:1
 returns : tie.Need-returns
-returns c = entry-taken _ _ _ _ _ c.before.requires.0 c.before.requires.1 _ c.if1.true
+returns c = entry_taken _ _ _ _ _ c.before.requires.0 c.before.requires.1 _ c.if1.true
 
 -- src/lists.rt:17:1
 same-length-3 : tie.Need-same-length-3
@@ -47,10 +47,10 @@ same-length-4 c = search rules
 
 -- src/lists.rt:17:1
 returns-2 : tie.Need-returns-2
-returns-2 c = entry-left _ _ _ _ _ c.before.requires.0 c.before.requires.1 _ c.if1.false
+returns-2 c = entry_left _ _ _ _ _ c.before.requires.0 c.before.requires.1 _ c.if1.false
 
-pub push-entry-spec : {M : Type 1} → statement M
-push-entry-spec =
+pub push_entry_spec : {M : Type 1} → statement M
+push_entry_spec =
     tie.close
     (tie.spec
     mul-columns

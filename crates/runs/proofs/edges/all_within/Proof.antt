@@ -7,7 +7,7 @@ use lib.ListN.{length, get_or}
 use borrow.Author.Count.{below_more}
 use borrow.Author.Tests.{leb-true, not-true, not-false}
 use Rattle.mathematics.proofs.Signed.{back32}
-use Rattle.runs.proofs.EdgeLists.{judged-out, judged-in}
+use Rattle.runs.proofs.EdgeLists.{judged_out, judged_in}
 use borrow.Author.Rules.{rules}
 use Rattle.runs.proofs.edges.all_within.Statement.{statement}
 use Rattle.runs.proofs.edges.all_within.Tie as tie
@@ -21,14 +21,14 @@ decreases-loop config list count lambda q₀ q = count - q
 -- a listed edge is an edge
 place : (c : tie.After-byte invariant-loop decreases-loop) → c.byte.result < length c.before.before.before.before.args.config.now
 place c =
-    let at-loop = c.before.before.before in
-    rw c.byte.ensures (at-loop.before.requires.0.inside at-loop.loop.q (omega arith))
+    let at_loop = c.before.before.before in
+    rw c.byte.ensures (at_loop.before.requires.0.inside at_loop.loop.q (omega arith))
 
 test : (c : tie.After-within invariant-loop decreases-loop)
     → leb (nat_abs (get_or c.before.before.before.before.before.before.args.config.now (get_or c.before.before.before.before.before.before.args.list.now c.before.before.before.before.before.loop.q 0) (pos 0))) c.before.before.before.before.before.before.args.lambda ≡ c.within.result
 test c =
-    let at-loop = c.before.before.before.before.before in
-    let s = at-loop.before.args in
+    let at_loop = c.before.before.before.before.before in
+    let s = at_loop.before.args in
     sym (c.within.ensures ∙ ap (λ x. leb (nat_abs x) s.lambda) (back32 _ c.before.Within-arg.given ∙ ap (λ e. get_or s.config.now e (pos 0)) c.before.before.byte.ensures))
 
 loop-holds : tie.Need-loop-init invariant-loop decreases-loop
@@ -51,8 +51,8 @@ within-requires c κs = c.before.before.before.before.before.requires.1
 
 returns : tie.Need-returns invariant-loop decreases-loop
 returns c =
-    let at-loop = c.before.before.before.before.before.before in
-    judged-out _ _ _ _ at-loop.loop.q (omega arith) (test c.before ∙ not-true _ c.if1.true)
+    let at_loop = c.before.before.before.before.before.before in
+    judged_out _ _ _ _ at_loop.loop.q (omega arith) (test c.before ∙ not-true _ c.if1.true)
 
 add-q : tie.Need-overflow-add-q invariant-loop decreases-loop
 add-q c = search rules
@@ -62,17 +62,17 @@ loop-less c = search rules
 
 loop-again : tie.Need-loop-preserved invariant-loop decreases-loop
 loop-again c =
-    let at-loop = c.before.before.before.before.before.before in
-    (omega arith, below_more _ _ at-loop.loop.invariant.1 (leb-true _ _ (test c.before ∙ not-false _ c.if1.false)))
+    let at_loop = c.before.before.before.before.before.before in
+    (omega arith, below_more _ _ at_loop.loop.invariant.1 (leb-true _ _ (test c.before ∙ not-false _ c.if1.false)))
 
 returns-2 : tie.Need-returns-2 invariant-loop decreases-loop
 returns-2 c =
-    let at-loop = c.before in
-    let past : at-loop.loop.q ≡ at-loop.before.args.count = omega arith in
-    judged-in _ _ _ _ (λ i h. at-loop.loop.invariant.1 i (omega arith))
+    let at_loop = c.before in
+    let past : at_loop.loop.q ≡ at_loop.before.args.count = omega arith in
+    judged_in _ _ _ _ (λ i h. at_loop.loop.invariant.1 i (omega arith))
 
-pub all-within-spec : {M : Type 1} → statement M
-all-within-spec =
+pub all_within_spec : {M : Type 1} → statement M
+all_within_spec =
     tie.close
     (tie.spec
     invariant-loop

@@ -5,11 +5,11 @@ use borrow.Author.Rules.{rules}
 use Rattle.runs.proofs.edges.kind.Statement.{statement}
 use Rattle.runs.proofs.edges.kind.Tie as tie
 
-is-zero-requires : tie.Need-is-zero-requires
-is-zero-requires c κs = search rules
+is_zero-requires : tie.Need-is_zero-requires
+is_zero-requires c κs = search rules
 
-is-zero-requires-2 : tie.Need-is-zero-requires-2
-is-zero-requires-2 c κs = search rules
+is_zero-requires-2 : tie.Need-is_zero-requires-2
+is_zero-requires-2 c κs = search rules
 
 returns : tie.Need-returns
 unfolding kind
@@ -34,5 +34,5 @@ returns-3 c =
     let one = rw (back8 s.args.first s.ranges.first.sfits) at (sym c.before.is_zero.ensures ∙ c.if1.false) in
     rw one
 
-pub kind-spec : {M : Type 1} → statement M
-kind-spec = tie.close (tie.spec is-zero-requires is-zero-requires-2 returns returns-2 returns-3)
+pub kind_spec : {M : Type 1} → statement M
+kind_spec = tie.close (tie.spec is_zero-requires is_zero-requires-2 returns returns-2 returns-3)

@@ -3,8 +3,8 @@ use mathlib.Core.Path.{◌≡◌, ap, ap₂, sym, ◌∙◌}
 use lib.Dec.{eqb}
 use borrow.Author.Tests.{eq-eqb, ne_eqb}
 use Rattle.mathematics.proofs.Signed.{back8}
-use Rattle.runs.specs.Edges.{kind, of-kind}
-use Rattle.runs.proofs.EdgeLists.{edges-same, edges_more}
+use Rattle.runs.specs.Edges.{kind, of_kind}
+use Rattle.runs.proofs.EdgeLists.{edges_same, edges_more}
 use borrow.Author.Rules.{rules}
 use Rattle.runs.proofs.edges.note_edge.Statement.{statement}
 use Rattle.runs.proofs.edges.note_edge.Tie as tie
@@ -14,8 +14,8 @@ use Rattle.runs.proofs.edges.kind.Reads as kind-reads
 
 -- the test of the code
 test : (c : tie.After-kind) (b : Bool) → eqb c.kind.result c.before.before.before.args.k ≡ b
-    → of-kind c.before.before.before.args.first.now c.before.before.before.args.second.now c.before.before.before.args.k c.before.before.before.args.e ≡ b
-unfolding of-kind
+    → of_kind c.before.before.before.args.first.now c.before.before.before.args.second.now c.before.before.before.args.k c.before.before.before.args.e ≡ b
+unfolding of_kind
 test c b t =
     sym (ap (λ n. eqb n c.before.before.before.args.k) (c.kind.ensures ∙ ap₂ kind (back8 _ c.before.before.kind-arg.given) (back8 _ c.before.kind-arg2.given))) ∙ t
 
@@ -45,10 +45,10 @@ returns c =
 returns-2 : tie.Need-returns-2
 returns-2 c =
     let s = c.before.before.before.before in
-    edges-same _ _ _ _ _ _ s.requires.3 (test c.before _ (ne_eqb _ _ c.if1.false))
+    edges_same _ _ _ _ _ _ s.requires.3 (test c.before _ (ne_eqb _ _ c.if1.false))
 
-pub note-edge-spec : {M : Type 1} → statement M
-note-edge-spec =
+pub note_edge_spec : {M : Type 1} → statement M
+note_edge_spec =
     tie.close
     (tie.spec
     shared-slice-copy-out-kind

@@ -17,5 +17,5 @@ add-result c = let pre = c.requires in rw (is c) (size_fits w32 (c.args.x +ℤ c
 returns : tie.Need-returns
 returns c = to_z-of_z (add-result c) ∙ is c
 
-pub plus-amount-spec : {M : Type 1} → statement M
-plus-amount-spec = tie.close (tie.spec add-result returns)
+pub plus_amount_spec : {M : Type 1} → statement M
+plus_amount_spec = tie.close (tie.spec add-result returns)

@@ -10,8 +10,8 @@ use mir.Syntax.{w32}
 use mir.Val.{to_z, of_z}
 use Rattle.mathematics.proofs.Signed.{back32}
 use Rattle.runs.specs.Rows.{raised}
-use Rattle.mathematics.proofs.Puts.{paste-put}
-use Rattle.mathematics.proofs.Pasted.{paste-outside}
+use Rattle.mathematics.proofs.Puts.{paste_put}
+use Rattle.mathematics.proofs.Pasted.{paste_outside}
 use Rattle.runs.proofs.Raising.{raised_long, raised_at}
 use borrow.Author.Rules.{rules}
 use Rattle.runs.proofs.rows.raise.Statement.{statement}
@@ -30,20 +30,20 @@ readable c = let h = c.requires in omega (arith, h.before, h.apart, h.room)
 abbrev In : Type 0
 In = tie.After-plus-amount-arg2 invariant-loop decreases-loop
 
-abbrev loop-of : In → tie.At-loop invariant-loop decreases-loop
-loop-of c = c.before.before.before
+abbrev loop_of : In → tie.At-loop invariant-loop decreases-loop
+loop_of c = c.before.before.before
 
-x-back : (c : In) → to_z w32 (of_z w32 (get_or (loop-of c).loop.states ((loop-of c).before.args.at - (loop-of c).before.args.back + (loop-of c).loop.i) (pos 0)))
-    ≡ get_or (loop-of c).before.args.states.now ((loop-of c).before.args.at - (loop-of c).before.args.back + (loop-of c).loop.i) (pos 0)
-x-back c =
-    let s = (loop-of c).before in
+x_back : (c : In) → to_z w32 (of_z w32 (get_or (loop_of c).loop.states ((loop_of c).before.args.at - (loop_of c).before.args.back + (loop_of c).loop.i) (pos 0)))
+    ≡ get_or (loop_of c).before.args.states.now ((loop_of c).before.args.at - (loop_of c).before.args.back + (loop_of c).loop.i) (pos 0)
+x_back c =
+    let s = (loop_of c).before in
     let h = s.pre in
     back32 _ c.before.plus-amount-arg.given
-    ∙ ap (λ l. get_or l (s.args.at - s.args.back + (loop-of c).loop.i) (pos 0)) (loop-of c).loop.invariant.4
-    ∙ paste-outside s.args.states.now s.args.at _ (loop-of c).loop.i (pos 0) (omega (arith, h.room)) (omega (arith, raised_long s.args.states.now (s.args.at - s.args.back) s.args.amounts.now (readable s))) (s.args.at - s.args.back + (loop-of c).loop.i) (inl (omega (arith, h.before, h.apart)))
+    ∙ ap (λ l. get_or l (s.args.at - s.args.back + (loop_of c).loop.i) (pos 0)) (loop_of c).loop.invariant.4
+    ∙ paste_outside s.args.states.now s.args.at _ (loop_of c).loop.i (pos 0) (omega (arith, h.room)) (omega (arith, raised_long s.args.states.now (s.args.at - s.args.back) s.args.amounts.now (readable s))) (s.args.at - s.args.back + (loop_of c).loop.i) (inl (omega (arith, h.before, h.apart)))
 
-y-back : (c : In) → to_z w32 (of_z w32 (get_or (loop-of c).before.args.amounts.now (loop-of c).loop.i (pos 0))) ≡ get_or (loop-of c).before.args.amounts.now (loop-of c).loop.i (pos 0)
-y-back c = back32 _ c.plus-amount-arg2.given
+y_back : (c : In) → to_z w32 (of_z w32 (get_or (loop_of c).before.args.amounts.now (loop_of c).loop.i (pos 0))) ≡ get_or (loop_of c).before.args.amounts.now (loop_of c).loop.i (pos 0)
+y_back c = back32 _ c.plus-amount-arg2.given
 
 sub-from : tie.Need-overflow-sub-from invariant-loop decreases-loop
 sub-from c = let h = c.requires.before in search rules
@@ -66,12 +66,12 @@ mul-plus-amount-2 c = search rules
 shared-slice-copy-out-plus-amount : tie.Need-shared-slice-copy-out-plus-amount invariant-loop decreases-loop
 shared-slice-copy-out-plus-amount c = search rules
 
-plus-amount-requires : tie.Need-plus-amount-requires invariant-loop decreases-loop
-plus-amount-requires c κs =
-    let at-loop = loop-of c in
-    let s = at-loop.before in
-    rw (x-back c, y-back c, ← (raised_at s.args.states.now (s.args.at - s.args.back) s.args.amounts.now (readable s) at-loop.loop.i (omega arith)))
-    (s.pre.small at-loop.loop.i)
+plus_amount-requires : tie.Need-plus_amount-requires invariant-loop decreases-loop
+plus_amount-requires c κs =
+    let at_loop = loop_of c in
+    let s = at_loop.before in
+    rw (x_back c, y_back c, ← (raised_at s.args.states.now (s.args.at - s.args.back) s.args.amounts.now (readable s) at_loop.loop.i (omega arith)))
+    (s.pre.small at_loop.loop.i)
 
 add-t17 : tie.Need-overflow-add-t17 invariant-loop decreases-loop
 add-t17 c = let room = c.before.before.before.before.before.requires.room in search rules
@@ -90,21 +90,21 @@ loop-less c = search rules
 
 loop-again : tie.Need-loop-preserved invariant-loop decreases-loop
 loop-again c =
-    let at-loop = c.before.before.before.before in
-    let s = at-loop.before in
+    let at_loop = c.before.before.before.before in
+    let s = at_loop.before in
     let room = s.requires.room in
-    let i = at-loop.loop.i in
+    let i = at_loop.loop.i in
     let old = s.args.states.now in
     let from = s.args.at - s.args.back in
     let new = raised old from s.args.amounts.now in
-    let v : to_z w32 (of_z w32 c.plus-amount.result) ≡ get_or new i (pos 0) =
-    back32 c.plus-amount.result c.plus-amount.type-inv ∙ c.plus-amount.ensures
-    ∙ ap₂ ◌+ℤ◌ (x-back c.before) (y-back c.before) ∙ sym (raised_at old from s.args.amounts.now (readable s) i (omega arith)) in (
+    let v : to_z w32 (of_z w32 c.plus_amount.result) ≡ get_or new i (pos 0) =
+    back32 c.plus_amount.result c.plus_amount.type-inv ∙ c.plus_amount.ensures
+    ∙ ap₂ ◌+ℤ◌ (x_back c.before) (y_back c.before) ∙ sym (raised_at old from s.args.amounts.now (readable s) i (omega arith)) in (
       omega arith,
       refl,
       refl,
-      simp length-set at-loop.loop.invariant.3,
-      rw (at-loop.loop.invariant.4, v, add-one i) (paste-suc old s.args.at new i (pos 0) (omega arith) (omega (arith, raised_long old from s.args.amounts.now (readable s)))),
+      simp length-set at_loop.loop.invariant.3,
+      rw (at_loop.loop.invariant.4, v, add-one i) (paste-suc old s.args.at new i (pos 0) (omega arith) (omega (arith, raised_long old from s.args.amounts.now (readable s)))),
     )
 
 same_length : tie.Need-same-length invariant-loop decreases-loop
@@ -116,10 +116,10 @@ returns c =
     let old = s.args.states.now in
     let from = s.args.at - s.args.back in
     let past : c.before.loop.i ≡ length (raised old from s.args.amounts.now) = omega (arith, raised_long old from s.args.amounts.now (readable s)) in
-    (rw past at c.before.loop.invariant.4) ∙ paste-put old s.args.at (raised old from s.args.amounts.now)
+    (rw past at c.before.loop.invariant.4) ∙ paste_put old s.args.at (raised old from s.args.amounts.now)
 
-pub raise-spec : {M : Type 1} → statement M
-raise-spec =
+pub raise_spec : {M : Type 1} → statement M
+raise_spec =
     tie.close
     (tie.spec
     invariant-loop
@@ -131,7 +131,7 @@ raise-spec =
     slice-copy-out-plus-amount
     mul-plus-amount-2
     shared-slice-copy-out-plus-amount
-    plus-amount-requires
+    plus_amount-requires
     add-t17
     mul-t18
     slice-set-from-states

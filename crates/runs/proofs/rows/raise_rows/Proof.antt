@@ -5,7 +5,7 @@ use native.Mathlib.Nat.{sub-zero, mul-le-mul_right, add-mul}
 use lib.ListN.{length, take}
 use Rattle.mathematics.specs.Writing.{put}
 use Rattle.runs.specs.Rows.{repeated, raised}
-use Rattle.runs.proofs.Raising.{repeated-long, nothing-raised, may-raise-more, raised-more}
+use Rattle.runs.proofs.Raising.{repeated_long, nothing_raised, may_raise_more, raised_more}
 use borrow.Author.Rules.{rules}
 use Rattle.runs.proofs.rows.raise_rows.Statement.{statement}
 use Rattle.runs.proofs.rows.raise_rows.Tie as tie
@@ -22,7 +22,7 @@ loop-holds : tie.Need-loop-init invariant-loop decreases-loop
 loop-holds c =
     let s = c.args in
     let none : s.number - s.number ≡ 0 = omega arith in
-    rw none (refl, omega arith, omega arith, refl, nothing-raised s.cycle.now s.states.now s.at (s.at - s.back))
+    rw none (refl, omega arith, omega arith, refl, nothing_raised s.cycle.now s.states.now s.at (s.at - s.back))
 
 smaller-requires : tie.Need-smaller-requires invariant-loop decreases-loop
 smaller-requires c κs = tt
@@ -38,9 +38,9 @@ few c = (omega (arith, c.smaller.ensures), omega (arith, c.smaller.ensures))
 part_room : (c : tie.After-smaller invariant-loop decreases-loop) → c.smaller.result * length c.before.before.before.args.cycle.now ≤ 256
 part_room c = let fits = c.before.before.before.requires.3 in omega (arith, mul-le-mul_right (length c.before.before.before.args.cycle.now) (few c).0)
 
-part-is : (c : tie.After-smaller invariant-loop decreases-loop)
+part_is : (c : tie.After-smaller invariant-loop decreases-loop)
     → take (c.smaller.result * length c.before.before.before.args.cycle.now - 0) c.before.before.before.args.beside.now ≡ repeated c.before.before.before.args.cycle.now c.smaller.result
-part-is c = rw (sub-zero (c.smaller.result * length c.before.before.before.args.cycle.now)) (c.before.before.before.requires.1.is c.smaller.result (few c).0)
+part_is c = rw (sub-zero (c.smaller.result * length c.before.before.before.args.cycle.now)) (c.before.before.before.requires.1.is c.smaller.result (few c).0)
 
 mul-raise : tie.Need-overflow-mul-raise invariant-loop decreases-loop
 mul-raise c = let h = part_room c.before in search rules
@@ -56,13 +56,13 @@ part-raise-end c = let long = c.before.before.before.before.requires.1.long in l
 
 raise-requires : tie.Need-raise-requires invariant-loop decreases-loop
 raise-requires c κs =
-    let at-loop = c.before.before.before.before in
-    let start = at-loop.before in
+    let at_loop = c.before.before.before.before in
+    let start = at_loop.before in
     let s = start.args in
     let sized = c.before.before in
-    let left = at-loop.loop.left in
-    rw (part-is sized, at-loop.loop.invariant.2)
-    (may-raise-more s.cycle.now s.states.now at-loop.loop.states s.at s.back s.number (s.number - left) sized.smaller.result start.requires.0 (omega (arith, (few sized).1, at-loop.loop.invariant.1)) at-loop.loop.invariant.4 at-loop.loop.invariant.3)
+    let left = at_loop.loop.left in
+    rw (part_is sized, at_loop.loop.invariant.2)
+    (may_raise_more s.cycle.now s.states.now at_loop.loop.states s.at s.back s.number (s.number - left) sized.smaller.result start.requires.0 (omega (arith, (few sized).1, at_loop.loop.invariant.1)) at_loop.loop.invariant.4 at_loop.loop.invariant.3)
 
 mul-place : tie.Need-overflow-mul-place invariant-loop decreases-loop
 mul-place c = let h = part_room c.before.before.before.before in search rules
@@ -70,14 +70,14 @@ mul-place c = let h = part_room c.before.before.before.before in search rules
 add-place : tie.Need-overflow-add-place invariant-loop decreases-loop
 add-place c =
     let sized = c.before.before.before.before in
-    let at-loop = sized.before.before in
-    let start = at-loop.before in
+    let at_loop = sized.before.before in
+    let start = at_loop.before in
     let s = start.args in
     let y = s.cycle.now in
     let h = part_room sized in
-    let place = at-loop.loop.invariant.2 in
-    let fewer : s.number - at-loop.loop.left ≤ s.number = omega arith in
-    let inside : at-loop.loop.place ≤ length s.states.now = omega (arith, place, start.requires.0.room, repeated-long y s.number, mul-le-mul_right (length y) fewer) in
+    let place = at_loop.loop.invariant.2 in
+    let fewer : s.number - at_loop.loop.left ≤ s.number = omega arith in
+    let inside : at_loop.loop.place ≤ length s.states.now = omega (arith, place, start.requires.0.room, repeated_long y s.number, mul-le-mul_right (length y) fewer) in
     search rules
 
 sub-left : tie.Need-overflow-sub-left invariant-loop decreases-loop
@@ -89,22 +89,22 @@ loop-less c = let some = c.before.before.before.before.before.before.before.requ
 loop-again : tie.Need-loop-preserved invariant-loop decreases-loop
 loop-again c =
     let sized = c.before.before.before.before in
-    let at-loop = sized.before.before in
-    let start = at-loop.before in
+    let at_loop = sized.before.before in
+    let start = at_loop.before in
     let s = start.args in
     let u = s.cycle.now in
-    let left = at-loop.loop.left in
+    let left = at_loop.loop.left in
     let more = sized.smaller.result in
     let done = s.number - left in
-    let now-done : s.number - (left - more) ≡ done + more = omega (arith, (few sized).1, at-loop.loop.invariant.1) in
+    let now_done : s.number - (left - more) ≡ done + more = omega (arith, (few sized).1, at_loop.loop.invariant.1) in
     let raise = c.before.raise in
-    let made = rw (part-is sized, at-loop.loop.invariant.2) at raise.ensures in
-    rw now-done (
+    let made = rw (part_is sized, at_loop.loop.invariant.2) at raise.ensures in
+    rw now_done (
       refl,
-      omega (arith, at-loop.loop.invariant.1),
-      omega (arith, at-loop.loop.invariant.2, add-mul done more (length u)),
-      raise.auto.0 ∙ at-loop.loop.invariant.3,
-      raised-more u s.states.now at-loop.loop.states s.at s.back s.number done more start.requires.0 (omega (arith, (few sized).1, at-loop.loop.invariant.1)) at-loop.loop.invariant.4 raise.new.0 made,
+      omega (arith, at_loop.loop.invariant.1),
+      omega (arith, at_loop.loop.invariant.2, add-mul done more (length u)),
+      raise.auto.0 ∙ at_loop.loop.invariant.3,
+      raised_more u s.states.now at_loop.loop.states s.at s.back s.number done more start.requires.0 (omega (arith, (few sized).1, at_loop.loop.invariant.1)) at_loop.loop.invariant.4 raise.new.0 made,
     )
 
 same_length : tie.Need-same-length invariant-loop decreases-loop
@@ -112,12 +112,12 @@ same_length c = c.before.loop.invariant.3
 
 returns : tie.Need-returns invariant-loop decreases-loop
 returns c =
-    let at-loop = c.before in
-    let all : at-loop.before.args.number - at-loop.loop.left ≡ at-loop.before.args.number = omega arith in
-    rw all at at-loop.loop.invariant.4
+    let at_loop = c.before in
+    let all : at_loop.before.args.number - at_loop.loop.left ≡ at_loop.before.args.number = omega arith in
+    rw all at at_loop.loop.invariant.4
 
-pub raise-rows-spec : {M : Type 1} → statement M
-raise-rows-spec =
+pub raise_rows_spec : {M : Type 1} → statement M
+raise_rows_spec =
     tie.close
     (tie.spec
     invariant-loop

@@ -23,5 +23,5 @@ returns-3 c =
     let fewer : c.smaller.result ≤ 256 / n = omega (arith, c.smaller.ensures) in
     (omega (arith, mul-le-mul_right n fewer, div-mul-le_self 256 n), omega (arith, div-le_self 256 n))
 
-pub rows-at-once-spec : {M : Type 1} → statement M
-rows-at-once-spec = tie.close (tie.spec returns returns-2 div-smaller smaller-requires returns-3)
+pub rows_at_once_spec : {M : Type 1} → statement M
+rows_at_once_spec = tie.close (tie.spec returns returns-2 div-smaller smaller-requires returns-3)

@@ -6,11 +6,11 @@ use native.Mathlib.Nat.{mul-le-mul_right}
 use lib.IntN.{ℤ, pos}
 use lib.ListN.{length, take, replicate, length-replicate}
 use Rattle.mathematics.specs.Writing.{put}
-use Rattle.mathematics.proofs.Puts.{put-none}
-use Rattle.cycles.specs.Cycles.{with-cycle}
+use Rattle.mathematics.proofs.Puts.{put_none}
+use Rattle.cycles.specs.Cycles.{with_cycle}
 use Rattle.walker.specs.Steps.{Addable}
 use Rattle.runs.specs.Rows.{repeated}
-use Rattle.runs.proofs.Raising.{repeated-more, added-to-zeros, zero-part, zeros-addable, beside-is}
+use Rattle.runs.proofs.Raising.{repeated_more, added_to_zeros, zero_part, zeros_addable, beside_is}
 use borrow.Author.Rules.{rules}
 use Rattle.runs.proofs.rows.rows_beside.Statement.{statement}
 use Rattle.runs.proofs.rows.rows_beside.Tie as tie
@@ -26,8 +26,8 @@ abbrev Loop : Type 0
 Loop = tie.At-loop invariant-loop decreases-loop
 
 -- the first entries of the zeros
-zeros-are : (c : Loop) → take (length c.before.args.cycle.now - 0) (replicate 63 (pos 0)) ≡ replicate (length c.before.args.cycle.now) (pos 0)
-zeros-are c = zero-part (length c.before.args.cycle.now) c.before.requires.2
+zeros_are : (c : Loop) → take (length c.before.args.cycle.now - 0) (replicate 63 (pos 0)) ≡ replicate (length c.before.args.cycle.now) (pos 0)
+zeros_are c = zero_part (length c.before.args.cycle.now) c.before.requires.2
 
 -- one row more has room
 room : (c : Loop) → c.loop.i < c.before.args.rows → c.loop.i * length c.before.args.cycle.now + length c.before.args.cycle.now ≤ 256
@@ -38,7 +38,7 @@ room c h =
 
 loop-holds : tie.Need-loop-init invariant-loop decreases-loop
 unfolding repeated
-loop-holds c = (refl, omega arith, omega arith, refl, sym (put-none (replicate 256 (pos 0)) 0))
+loop-holds c = (refl, omega arith, omega arith, refl, sym (put_none (replicate 256 (pos 0)) 0))
 
 slice-aggregate-write-row : tie.Need-slice-aggregate-write-row invariant-loop decreases-loop
 slice-aggregate-write-row c = search rules
@@ -52,16 +52,16 @@ part-write-row-start c = search rules
 part-write-row-end : tie.Need-slice-bounds-write-row-end invariant-loop decreases-loop
 part-write-row-end c = search rules
 
-write-row-requires : tie.Need-write-row-requires invariant-loop decreases-loop
-write-row-requires c κs =
-    let at-loop = c.before.before.before.before in
-    let s = at-loop.before in
+write_row-requires : tie.Need-write_row-requires invariant-loop decreases-loop
+write_row-requires c κs =
+    let at_loop = c.before.before.before.before in
+    let s = at_loop.before in
     let z = s.args.cycle.now in
-    let more = room at-loop (omega arith) in
+    let more = room at_loop (omega arith) in
     let long = length-replicate (length z) (pos 0) in
-    let fits : at-loop.loop.place + length (replicate (length z) (pos 0)) ≤ length at-loop.loop.beside = omega arith in
-    subst (λ (l : List ℤ). Addable l (pos 1) z × (1 ≤ 1048576) × (at-loop.loop.place + length l ≤ length at-loop.loop.beside)) (sym (zeros-are at-loop))
-    (zeros-addable z s.requires.0, omega arith, fits)
+    let fits : at_loop.loop.place + length (replicate (length z) (pos 0)) ≤ length at_loop.loop.beside = omega arith in
+    subst (λ (l : List ℤ). Addable l (pos 1) z × (1 ≤ 1048576) × (at_loop.loop.place + length l ≤ length at_loop.loop.beside)) (sym (zeros_are at_loop))
+    (zeros_addable z s.requires.0, omega arith, fits)
 
 add-place : tie.Need-overflow-add-place invariant-loop decreases-loop
 add-place c = let more = room c.before.before.before.before.before.before (omega arith) in search rules
@@ -74,33 +74,33 @@ loop-less c = search rules
 
 loop-again : tie.Need-loop-preserved invariant-loop decreases-loop
 loop-again c =
-    let at-loop = c.before.before.before.before.before.before in
-    let s = at-loop.before in
+    let at_loop = c.before.before.before.before.before.before in
+    let s = at_loop.before in
     let z = s.args.cycle.now in
-    let i = at-loop.loop.i in
-    let more = room at-loop (omega arith) in
-    let wrote = c.before.write-row in
-    let size : at-loop.loop.place ≡ i * length z = at-loop.loop.invariant.2 in
-    let few : i * length z ≤ 256 = omega (arith, size, at-loop.loop.invariant.2) in (
+    let i = at_loop.loop.i in
+    let more = room at_loop (omega arith) in
+    let wrote = c.before.write_row in
+    let size : at_loop.loop.place ≡ i * length z = at_loop.loop.invariant.2 in
+    let few : i * length z ≤ 256 = omega (arith, size, at_loop.loop.invariant.2) in (
       refl,
       omega arith,
       omega arith,
-      wrote.auto.0 ∙ at-loop.loop.invariant.3,
-      wrote.ensures ∙ ap (λ (l : List ℤ). put at-loop.loop.beside at-loop.loop.place (with-cycle l (pos 1) z)) (zeros-are at-loop)
-          ∙ ap (put at-loop.loop.beside at-loop.loop.place) (added-to-zeros z)
-          ∙ repeated-more z (replicate 256 (pos 0)) at-loop.loop.beside i at-loop.loop.place at-loop.loop.invariant.4 size few,
+      wrote.auto.0 ∙ at_loop.loop.invariant.3,
+      wrote.ensures ∙ ap (λ (l : List ℤ). put at_loop.loop.beside at_loop.loop.place (with_cycle l (pos 1) z)) (zeros_are at_loop)
+          ∙ ap (put at_loop.loop.beside at_loop.loop.place) (added_to_zeros z)
+          ∙ repeated_more z (replicate 256 (pos 0)) at_loop.loop.beside i at_loop.loop.place at_loop.loop.invariant.4 size few,
     )
 
 returns : tie.Need-returns invariant-loop decreases-loop
 returns c =
-    let at-loop = c.before in
-    let s = at-loop.before in
-    let all : at-loop.loop.i ≡ s.args.rows = omega arith in
-    beside-is s.args.cycle.now (replicate 256 (pos 0)) at-loop.loop.beside s.args.rows at-loop.loop.invariant.3
-    (at-loop.loop.invariant.4 ∙ ap (λ k. put (replicate 256 (pos 0)) 0 (repeated s.args.cycle.now k)) all)
+    let at_loop = c.before in
+    let s = at_loop.before in
+    let all : at_loop.loop.i ≡ s.args.rows = omega arith in
+    beside_is s.args.cycle.now (replicate 256 (pos 0)) at_loop.loop.beside s.args.rows at_loop.loop.invariant.3
+    (at_loop.loop.invariant.4 ∙ ap (λ k. put (replicate 256 (pos 0)) 0 (repeated s.args.cycle.now k)) all)
 
-pub rows-beside-spec : {M : Type 1} → statement M
-rows-beside-spec =
+pub rows_beside_spec : {M : Type 1} → statement M
+rows_beside_spec =
     tie.close
     (tie.spec
     invariant-loop
@@ -110,7 +110,7 @@ rows-beside-spec =
     sub-write-row
     part-write-row-start
     part-write-row-end
-    write-row-requires
+    write_row-requires
     add-place
     add-i
     loop-less

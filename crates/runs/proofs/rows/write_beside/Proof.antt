@@ -3,7 +3,7 @@ use mathlib.Core.Path.{◌≡◌}
 use native.Mathlib.Omega.{arith}
 use native.Mathlib.Nat.{add-mul}
 use lib.ListN.{length}
-use Rattle.runs.proofs.Raising.{first-room, back_is, before_at, middle-may, all-written}
+use Rattle.runs.proofs.Raising.{first_room, back_is, before_at, middle_may, all_written}
 use borrow.Author.Rules.{rules}
 use Rattle.runs.proofs.rows.write_beside.Statement.{statement}
 use Rattle.runs.proofs.rows.write_beside.Tie as tie
@@ -14,8 +14,8 @@ larger-requires c κs = search rules
 smaller-requires : tie.Need-smaller-requires
 smaller-requires c κs = search rules
 
-write-rows-requires : tie.Need-write-rows-requires
-write-rows-requires c κs = search rules
+write_rows-requires : tie.Need-write_rows-requires
+write_rows-requires c κs = search rules
 
 same_length : tie.Need-same-length
 same_length c = search rules
@@ -23,8 +23,8 @@ same_length c = search rules
 returns : tie.Need-returns
 returns c = search rules
 
-write-rows-requires-2 : tie.Need-write-rows-requires-2
-write-rows-requires-2 c κs = search rules
+write_rows-requires-2 : tie.Need-write_rows-requires-2
+write_rows-requires-2 c κs = search rules
 
 same-length-2 : tie.Need-same-length-2
 same-length-2 c = search rules
@@ -56,16 +56,16 @@ module _ (c : Chosen) (some : c.before.larger.result < c.smaller.result) where
       + (start.args.span.to - c.smaller.result) * length start.args.config.now ≡ (start.args.span.to - start.args.span.from) * length start.args.config.now
   parts =
       let s = start.args in
-      first-room s.config.now s.first.now s.second.now start.pre.0 start.pre.1 s.states.now s.at s.last start.pre.4 s.span.from s.span.to c.before.larger.result c.smaller.result over among some under ends start.pre.2 start.pre.3
+      first_room s.config.now s.first.now s.second.now start.pre.0 start.pre.1 s.states.now s.at s.last start.pre.4 s.span.from s.span.to c.before.larger.result c.smaller.result over among some under ends start.pre.2 start.pre.3
 
-  low-high : (c.smaller.result - start.args.span.from) * length start.args.config.now
+  low_high : (c.smaller.result - start.args.span.from) * length start.args.config.now
       ≡ (c.before.larger.result - start.args.span.from) * length start.args.config.now + (c.smaller.result - c.before.larger.result) * length start.args.config.now
-  low-high =
+  low_high =
       let e : c.smaller.result - start.args.span.from ≡ c.before.larger.result - start.args.span.from + (c.smaller.result - c.before.larger.result) = omega (arith, over) in
       rw e (add-mul (c.before.larger.result - start.args.span.from) (c.smaller.result - c.before.larger.result) (length start.args.config.now))
 
-write-rows-requires-3 : tie.Need-write-rows-requires-3
-write-rows-requires-3 c κs =
+write_rows-requires-3 : tie.Need-write_rows-requires-3
+write_rows-requires-3 c κs =
     let chosen = c.before.before.before in
     let some : chosen.before.larger.result < chosen.smaller.result = omega arith in
     let start = chosen.before.before in
@@ -119,8 +119,8 @@ mul-raise-rows-2 c =
 sub-raise-rows-3 : tie.Need-overflow-sub-raise-rows-3
 sub-raise-rows-3 c = search rules
 
-raise-rows-requires : tie.Need-raise-rows-requires
-raise-rows-requires c κs =
+raise_rows-requires : tie.Need-raise_rows-requires
+raise_rows-requires c κs =
     let chosen = c.before.before.before.before.before.before in
     let some : chosen.before.larger.result < chosen.smaller.result = omega arith in
     let start = chosen.before.before in
@@ -129,8 +129,8 @@ raise-rows-requires c κs =
     let enough = start.requires.3 in
     let sizes = parts chosen some in
     let wrote = c.before.before.write-rows3 in
-    let some-rows : 1 ≤ s.rows = omega (arith, c.before.before.before.before.if2.false) in
-    (middle-may s.config.now s.first.now s.second.now start.requires.0 start.requires.1 s.states.now s.at s.last start.requires.4 s.span.from s.span.to chosen.before.larger.result chosen.smaller.result (over chosen some) (among chosen some) some (under chosen some) (ends chosen some) bound enough wrote.new.0 wrote.ensures wrote.auto.0, start.requires.5, some-rows, rw start.requires.1.sized start.requires.7)
+    let some_rows : 1 ≤ s.rows = omega (arith, c.before.before.before.before.if2.false) in
+    (middle_may s.config.now s.first.now s.second.now start.requires.0 start.requires.1 s.states.now s.at s.last start.requires.4 s.span.from s.span.to chosen.before.larger.result chosen.smaller.result (over chosen some) (among chosen some) some (under chosen some) (ends chosen some) bound enough wrote.new.0 wrote.ensures wrote.auto.0, start.requires.5, some_rows, rw start.requires.1.sized start.requires.7)
 
 sub-write-rows : tie.Need-overflow-sub-write-rows
 sub-write-rows c = search rules
@@ -144,7 +144,7 @@ mul-write-rows c =
     let bound = start.requires.2 in
     let enough = start.requires.3 in
     let sizes = parts chosen some in
-    let split = low-high chosen some in
+    let split = low_high chosen some in
     search rules
 
 add-write-rows : tie.Need-overflow-add-write-rows
@@ -156,11 +156,11 @@ add-write-rows c =
     let bound = start.requires.2 in
     let enough = start.requires.3 in
     let sizes = parts chosen some in
-    let split = low-high chosen some in
+    let split = low_high chosen some in
     search rules
 
-write-rows-requires-4 : tie.Need-write-rows-requires-4
-write-rows-requires-4 c κs =
+write_rows-requires-4 : tie.Need-write_rows-requires-4
+write_rows-requires-4 c κs =
     let chosen = c.before.before.before.before.before.before.before.before.before in
     let some : chosen.before.larger.result < chosen.smaller.result = omega arith in
     let start = chosen.before.before in
@@ -168,7 +168,7 @@ write-rows-requires-4 c κs =
     let bound = start.requires.2 in
     let enough = start.requires.3 in
     let sizes = parts chosen some in
-    (start.requires.0, bound, omega (arith, sizes, low-high chosen some, c.before.before.raise-rows.auto.0, c.before.before.before.before.before.write-rows3.auto.0), start.requires.6)
+    (start.requires.0, bound, omega (arith, sizes, low_high chosen some, c.before.before.raise_rows.auto.0, c.before.before.before.before.before.write-rows3.auto.0), start.requires.6)
 
 same-length-3 : tie.Need-same-length-3
 same-length-3 c = search rules
@@ -183,33 +183,33 @@ returns-3 c =
     let enough = start.requires.3 in
     let sizes = parts chosen some in
     let one = c.before.before.before.before.before.before.before.write-rows3 in
-    let two = c.before.before.before.before.raise-rows in
+    let two = c.before.before.before.before.raise_rows in
     let three = c.before.write-rows4 in
-    all-written s.config.now s.first.now s.second.now start.requires.0 start.requires.1 s.states.now s.at s.last start.requires.4 s.span.from s.span.to chosen.before.larger.result chosen.smaller.result (over chosen some) (among chosen some) some (under chosen some) (ends chosen some) bound enough one.new.0 one.ensures one.auto.0 two.new.0 two.ensures three.new.0 three.ensures
+    all_written s.config.now s.first.now s.second.now start.requires.0 start.requires.1 s.states.now s.at s.last start.requires.4 s.span.from s.span.to chosen.before.larger.result chosen.smaller.result (over chosen some) (among chosen some) some (under chosen some) (ends chosen some) bound enough one.new.0 one.ensures one.auto.0 two.new.0 two.ensures three.new.0 three.ensures
 
-pub write-beside-spec : {M : Type 1} → statement M
-write-beside-spec =
+pub write_beside_spec : {M : Type 1} → statement M
+write_beside_spec =
     tie.close
     (tie.spec
     larger-requires
     smaller-requires
-    write-rows-requires
+    write_rows-requires
     same_length
     returns
-    write-rows-requires-2
+    write_rows-requires-2
     same-length-2
     returns-2
-    write-rows-requires-3
+    write_rows-requires-3
     sub-raise-rows
     mul-raise-rows
     add-raise-rows
     sub-raise-rows-2
     mul-raise-rows-2
     sub-raise-rows-3
-    raise-rows-requires
+    raise_rows-requires
     sub-write-rows
     mul-write-rows
     add-write-rows
-    write-rows-requires-4
+    write_rows-requires-4
     same-length-3
     returns-3)

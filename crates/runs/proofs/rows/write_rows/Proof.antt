@@ -5,10 +5,10 @@ use native.Mathlib.Omega.{arith}
 use lib.IntN.{ℤ}
 use lib.ListN.{length}
 use Rattle.mathematics.specs.Writing.{put}
-use Rattle.mathematics.proofs.Puts.{put-none}
-use Rattle.walker.specs.Walker.{block-rows}
-use Rattle.walker.proofs.BlockRows.{rows_none, row_room, row-after}
-use Rattle.runs.proofs.Raising.{first-row, row-may, row_written}
+use Rattle.mathematics.proofs.Puts.{put_none}
+use Rattle.walker.specs.Walker.{block_rows}
+use Rattle.walker.proofs.BlockRows.{rows_none, row_room, row_after}
+use Rattle.runs.proofs.Raising.{first_row, row_may, row_written}
 use borrow.Author.Rules.{rules}
 use Rattle.runs.proofs.rows.write_rows.Statement.{statement}
 use Rattle.runs.proofs.rows.write_rows.Tie as tie
@@ -16,7 +16,7 @@ use Rattle.runs.proofs.rows.write_rows.Tie as tie
 abbrev invariant-loop : tie.invariant-loop
 invariant-loop states₀ at config cycle ahead from to m place₀ d₀ states place d =
     (m ≡ length config) × (from < d) × (d ≤ to) × (place ≡ at + (d - from) * length config) × (length states ≡ length states₀)
-    × ((old : List ℤ) → length states₀ ≡ length old → states₀ ≡ put old at (flatten (block-rows config cycle from d₀)) → states ≡ put old at (flatten (block-rows config cycle from d)))
+    × ((old : List ℤ) → length states₀ ≡ length old → states₀ ≡ put old at (flatten (block_rows config cycle from d₀)) → states ≡ put old at (flatten (block_rows config cycle from d)))
 
 abbrev decreases-loop : tie.decreases-loop
 decreases-loop states₀ at config cycle ahead from to m place₀ d₀ states place d = to - d
@@ -29,23 +29,23 @@ start_of c = c.before.before.before.before.before
 
 -- what stands in the list
 same : (c : Loop) → length c.loop.states ≡ length (start_of c).args.states.now
-same c = c.loop.invariant.4 ∙ c.before.before.write-row.auto.0
+same c = c.loop.invariant.4 ∙ c.before.before.write_row.auto.0
 
-so_far : (c : Loop) → c.loop.states ≡ put (start_of c).args.states.now (start_of c).args.at (flatten (block-rows (start_of c).args.config.now (start_of c).args.cycle.now (start_of c).args.span.from c.loop.d))
+so_far : (c : Loop) → c.loop.states ≡ put (start_of c).args.states.now (start_of c).args.at (flatten (block_rows (start_of c).args.config.now (start_of c).args.cycle.now (start_of c).args.span.from c.loop.d))
 so_far c =
     let s = (start_of c).args in
-    let wrote = c.before.before.write-row in
-    c.loop.invariant.5 s.states.now wrote.auto.0 (wrote.ensures ∙ ap (put s.states.now s.at) (first-row s.config.now s.cycle.now s.span.from))
+    let wrote = c.before.before.write_row in
+    c.loop.invariant.5 s.states.now wrote.auto.0 (wrote.ensures ∙ ap (put s.states.now s.at) (first_row s.config.now s.cycle.now s.span.from))
 
 returns : tie.Need-returns invariant-loop decreases-loop
 unfolding flatten
 returns c =
     let s = c.before.args in
     let none : s.span.to - s.span.from ≡ 0 = omega arith in
-    rw (rows_none s.config.now s.cycle.now s.span.from s.span.to none) (sym (put-none s.states.now s.at))
+    rw (rows_none s.config.now s.cycle.now s.span.from s.span.to none) (sym (put_none s.states.now s.at))
 
-write-row-requires : tie.Need-write-row-requires invariant-loop decreases-loop
-write-row-requires c κs =
+write_row-requires : tie.Need-write_row-requires invariant-loop decreases-loop
+write_row-requires c κs =
     let start = c.before.before in
     let s = start.args in
     let may = start.requires.0 in
@@ -73,21 +73,21 @@ loop-holds c =
 
 raise-requires : tie.Need-raise-requires invariant-loop decreases-loop
 raise-requires c κs =
-    let at-loop = c.before.before in
-    let start = start_of at-loop in
+    let at_loop = c.before.before in
+    let start = start_of at_loop in
     let s = start.args in
     rw start.pre.3
-    (row-may s.config.now s.cycle.now start.pre.0 s.states.now at-loop.loop.states s.at s.span.from s.span.to at-loop.loop.d at-loop.loop.place at-loop.loop.invariant.1 (omega arith) start.pre.1 start.pre.2 (same at-loop) at-loop.loop.invariant.3 (so_far at-loop))
+    (row_may s.config.now s.cycle.now start.pre.0 s.states.now at_loop.loop.states s.at s.span.from s.span.to at_loop.loop.d at_loop.loop.place at_loop.loop.invariant.1 (omega arith) start.pre.1 start.pre.2 (same at_loop) at_loop.loop.invariant.3 (so_far at_loop))
 
 add-place-2 : tie.Need-overflow-add-place-2 invariant-loop decreases-loop
 add-place-2 c =
-    let at-loop = c.before.before.before.before in
-    let start = start_of at-loop in
+    let at_loop = c.before.before.before.before in
+    let start = start_of at_loop in
     let s = start.args in
     let enough = start.pre.2 in
-    let place = at-loop.loop.invariant.3 in
-    let low = at-loop.loop.invariant.1 in
-    let room = row_room s.span.from at-loop.loop.d s.span.to (length s.config.now) (omega arith) (omega arith) in
+    let place = at_loop.loop.invariant.3 in
+    let low = at_loop.loop.invariant.1 in
+    let room = row_room s.span.from at_loop.loop.d s.span.to (length s.config.now) (omega arith) (omega arith) in
     search rules
 
 add-d-2 : tie.Need-overflow-add-d-2 invariant-loop decreases-loop
@@ -98,20 +98,20 @@ loop-less c = search rules
 
 loop-again : tie.Need-loop-preserved invariant-loop decreases-loop
 loop-again c =
-    let at-loop = c.before.before.before.before in
-    let start = start_of at-loop in
+    let at_loop = c.before.before.before.before in
+    let start = start_of at_loop in
     let s = start.args in
-    let d = at-loop.loop.d in
-    let low = at-loop.loop.invariant.1 in
+    let d = at_loop.loop.d in
+    let low = at_loop.loop.invariant.1 in
     let raise = c.before.raise in
     let made = rw start.pre.3 at raise.ensures in (
       refl,
       omega arith,
       omega arith,
-      omega (arith, at-loop.loop.invariant.3, row-after s.span.from d (length s.config.now) (omega arith)),
-      raise.auto.0 ∙ at-loop.loop.invariant.4,
-      λ old long is. row_written s.config.now s.cycle.now start.pre.0 old at-loop.loop.states s.at s.span.from s.span.to d at-loop.loop.place low (omega arith) start.pre.1
-          (omega (arith, start.pre.2, long, at-loop.before.before.write-row.auto.0)) (at-loop.loop.invariant.4 ∙ long) at-loop.loop.invariant.3 (at-loop.loop.invariant.5 old long is) _ made,
+      omega (arith, at_loop.loop.invariant.3, row_after s.span.from d (length s.config.now) (omega arith)),
+      raise.auto.0 ∙ at_loop.loop.invariant.4,
+      λ old long is. row_written s.config.now s.cycle.now start.pre.0 old at_loop.loop.states s.at s.span.from s.span.to d at_loop.loop.place low (omega arith) start.pre.1
+          (omega (arith, start.pre.2, long, at_loop.before.before.write_row.auto.0)) (at_loop.loop.invariant.4 ∙ long) at_loop.loop.invariant.3 (at_loop.loop.invariant.5 old long is) _ made,
     )
 
 same_length : tie.Need-same-length invariant-loop decreases-loop
@@ -119,19 +119,19 @@ same_length c = same c.before
 
 returns-2 : tie.Need-returns-2 invariant-loop decreases-loop
 returns-2 c =
-    let at-loop = c.before in
-    let s = (start_of at-loop).args in
-    let all : at-loop.loop.d ≡ s.span.to = omega arith in
-    so_far at-loop ∙ ap (λ d. put s.states.now s.at (flatten (block-rows s.config.now s.cycle.now s.span.from d))) all
+    let at_loop = c.before in
+    let s = (start_of at_loop).args in
+    let all : at_loop.loop.d ≡ s.span.to = omega arith in
+    so_far at_loop ∙ ap (λ d. put s.states.now s.at (flatten (block_rows s.config.now s.cycle.now s.span.from d))) all
 
-pub write-rows-spec : {M : Type 1} → statement M
-write-rows-spec =
+pub write_rows_spec : {M : Type 1} → statement M
+write_rows_spec =
     tie.close
     (tie.spec
     invariant-loop
     decreases-loop
     returns
-    write-row-requires
+    write_row-requires
     add-place
     add-d
     loop-holds

@@ -6,13 +6,13 @@ use lib.ListN.{length}
 use mir.Syntax.{w32}
 use mir.Val.{to_z, of_z}
 use Rattle.mathematics.proofs.Signed.{back32}
-use Rattle.cycles.specs.Cycles.{with-cycle}
+use Rattle.cycles.specs.Cycles.{with_cycle}
 use Rattle.walker.specs.Walker.{block}
 use Rattle.walker.specs.Blocks.{SpanOfBlock}
-use Rattle.runs.specs.Runs.{run-states}
-use Rattle.runs.proofs.Between.{between_none, between-same}
-use Rattle.runs.proofs.EdgeLists.{edges-listed}
-use Rattle.runs.proofs.Sides.{block-spans}
+use Rattle.runs.specs.Runs.{run_states}
+use Rattle.runs.proofs.Between.{between_none, between_same}
+use Rattle.runs.proofs.EdgeLists.{edges_listed}
+use Rattle.runs.proofs.Sides.{block_spans}
 use Rattle.runs.proofs.RunRows.{count_next, count_fits}
 use borrow.Author.Rules.{rules}
 use Rattle.runs.proofs.run.count_run.Statement.{statement}
@@ -20,7 +20,7 @@ use Rattle.runs.proofs.run.count_run.Tie as tie
 
 abbrev invariant-loop : tie.invariant-loop
 invariant-loop config first second moved n-moved lambda width span count₀ i₀ count i =
-    (span.from ≤ i) × (i ≤ max span.from span.to) × (count ≡ length (run-states lambda width config first second span.from i))
+    (span.from ≤ i) × (i ≤ max span.from span.to) × (count ≡ length (run_states lambda width config first second span.from i))
 
 abbrev decreases-loop : tie.decreases-loop
 decreases-loop config first second moved n-moved lambda width span count₀ i₀ count i = span.to - i
@@ -29,42 +29,42 @@ loop-holds : tie.Need-loop-init invariant-loop decreases-loop
 loop-holds c =
     let s = c.args in
     let none : s.span.from - s.span.from ≡ 0 = omega arith in
-    (omega arith, omega arith, sym (ap length (between_none (λ i. block s.lambda s.width (with-cycle s.config.now (pos i) s.second.now) s.first.now) s.span.from s.span.from none)))
+    (omega arith, omega arith, sym (ap length (between_none (λ i. block s.lambda s.width (with_cycle s.config.now (pos i) s.second.now) s.first.now) s.span.from s.span.from none)))
 
-usize-to-i32-requires : tie.Need-usize-to-i32-requires invariant-loop decreases-loop
-usize-to-i32-requires c κs = omega (arith, c.before.before.before.requires.0.few)
+usize_to_i32-requires : tie.Need-usize_to_i32-requires invariant-loop decreases-loop
+usize_to_i32-requires c κs = omega (arith, c.before.before.before.requires.0.few)
 
 -- the number as the times
-times : (c : tie.After-usize-to-i32 invariant-loop decreases-loop) → to_z w32 (of_z w32 c.usize-to-i32.result) ≡ pos c.before.before.before.loop.i
-times c = back32 c.usize-to-i32.result c.usize-to-i32.type-inv ∙ c.usize-to-i32.ensures
+times : (c : tie.After-usize_to_i32 invariant-loop decreases-loop) → to_z w32 (of_z w32 c.usize_to_i32.result) ≡ pos c.before.before.before.loop.i
+times c = back32 c.usize_to_i32.result c.usize_to_i32.type-inv ∙ c.usize_to_i32.ensures
 
-span-over-requires : tie.Need-span-over-requires invariant-loop decreases-loop
-span-over-requires c κs =
-    let at-loop = c.before.before.before in
-    let start = at-loop.before in
+span_over-requires : tie.Need-span_over-requires invariant-loop decreases-loop
+span_over-requires c κs =
+    let at_loop = c.before.before.before in
+    let start = at_loop.before in
     let s = start.args in
     let fit = start.requires.0 in
-    let high : at-loop.loop.i < s.span.to = omega arith in
+    let high : at_loop.loop.i < s.span.to = omega arith in
     rw (times c) (
-      edges-listed s.first.now s.second.now 2 (length s.config.now) fit.edges_few s.moved.now s.n-moved start.requires.2,
-      fit.first-long,
-      record { sized = fit.second-long; values = λ e. omega (arith, fit.start e); times = omega (arith, fit.few); signs = fit.second-signs },
-      fit.values at-loop.loop.i high,
-      fit.first-signs,
+      edges_listed s.first.now s.second.now 2 (length s.config.now) fit.edges_few s.moved.now s.n-moved start.requires.2,
+      fit.first_long,
+      record { sized = fit.second_long; values = λ e. omega (arith, fit.start e); times = omega (arith, fit.few); signs = fit.second_signs },
+      fit.values at_loop.loop.i high,
+      fit.first_signs,
       fit.truncation,
     )
 
 -- the interval of the block
-spans : (c : tie.After-span-over invariant-loop decreases-loop)
+spans : (c : tie.After-span_over invariant-loop decreases-loop)
     → SpanOfBlock c.before.before.before.before.before.args.lambda c.before.before.before.before.before.args.width
-    (with-cycle c.before.before.before.before.before.args.config.now (pos c.before.before.before.before.loop.i) c.before.before.before.before.before.args.second.now)
-    c.before.before.before.before.before.args.first.now c.span-over.result
+    (with_cycle c.before.before.before.before.before.args.config.now (pos c.before.before.before.before.loop.i) c.before.before.before.before.before.args.second.now)
+    c.before.before.before.before.before.args.first.now c.span_over.result
 spans c =
-    let at-loop = c.before.before.before.before in
-    let start = at-loop.before in
+    let at_loop = c.before.before.before.before in
+    let start = at_loop.before in
     let s = start.args in
-    block-spans s.lambda s.width s.config.now s.first.now s.second.now s.span.to start.requires.0 s.moved.now s.n-moved start.requires.2 s.span start.requires.1 at-loop.loop.i at-loop.loop.invariant.0 (omega arith)
-    c.span-over.result (rw (times c.before) at c.span-over.ensures)
+    block_spans s.lambda s.width s.config.now s.first.now s.second.now s.span.to start.requires.0 s.moved.now s.n-moved start.requires.2 s.span start.requires.1 at_loop.loop.i at_loop.loop.invariant.0 (omega arith)
+    c.span_over.result (rw (times c.before) at c.span_over.ensures)
 
 size-requires : tie.Need-size-requires invariant-loop decreases-loop
 size-requires c κs = tt
@@ -72,16 +72,16 @@ size-requires c κs = tt
 add-count : tie.Need-overflow-add-count invariant-loop decreases-loop
 add-count c =
     let sp = c.before in
-    let at-loop = sp.before.before.before.before in
-    let start = at-loop.before in
+    let at_loop = sp.before.before.before.before in
+    let start = at_loop.before in
     let s = start.args in
-    let i = at-loop.loop.i in
+    let i = at_loop.loop.i in
     omega (
       arith,
       c.size.ensures,
-      at-loop.loop.invariant.2,
-      count_next s.lambda s.width s.config.now s.first.now s.second.now s.span.from i at-loop.loop.invariant.0 sp.span-over.result (spans sp),
-      count_fits s.lambda s.width s.config.now s.first.now s.second.now s.span.from i at-loop.loop.invariant.0 sp.span-over.result (spans sp) s.span.to start.requires.0 (omega arith),
+      at_loop.loop.invariant.2,
+      count_next s.lambda s.width s.config.now s.first.now s.second.now s.span.from i at_loop.loop.invariant.0 sp.span_over.result (spans sp),
+      count_fits s.lambda s.width s.config.now s.first.now s.second.now s.span.from i at_loop.loop.invariant.0 sp.span_over.result (spans sp) s.span.to start.requires.0 (omega arith),
     )
 
 add-i : tie.Need-overflow-add-i invariant-loop decreases-loop
@@ -93,29 +93,29 @@ loop-less c = search rules
 loop-again : tie.Need-loop-preserved invariant-loop decreases-loop
 loop-again c =
     let sp = c.before in
-    let at-loop = sp.before.before.before.before in
-    let start = at-loop.before in
+    let at_loop = sp.before.before.before.before in
+    let start = at_loop.before in
     let s = start.args in
-    let i = at-loop.loop.i in
-    (omega (arith, at-loop.loop.invariant.0), omega arith, omega (arith, c.size.ensures, at-loop.loop.invariant.2, count_next s.lambda s.width s.config.now s.first.now s.second.now s.span.from i at-loop.loop.invariant.0 sp.span-over.result (spans sp)))
+    let i = at_loop.loop.i in
+    (omega (arith, at_loop.loop.invariant.0), omega arith, omega (arith, c.size.ensures, at_loop.loop.invariant.2, count_next s.lambda s.width s.config.now s.first.now s.second.now s.span.from i at_loop.loop.invariant.0 sp.span_over.result (spans sp)))
 
 returns : tie.Need-returns invariant-loop decreases-loop
 returns c =
-    let at-loop = c.before.before in
-    let s = at-loop.before.args in
-    let i = at-loop.loop.i in
-    let same : i - s.span.from ≡ s.span.to - s.span.from = omega (arith, at-loop.loop.invariant.0, at-loop.loop.invariant.1) in
-    at-loop.loop.invariant.2 ∙ ap length (between-same (λ i. block s.lambda s.width (with-cycle s.config.now (pos i) s.second.now) s.first.now) s.span.from i s.span.to same)
+    let at_loop = c.before.before in
+    let s = at_loop.before.args in
+    let i = at_loop.loop.i in
+    let same : i - s.span.from ≡ s.span.to - s.span.from = omega (arith, at_loop.loop.invariant.0, at_loop.loop.invariant.1) in
+    at_loop.loop.invariant.2 ∙ ap length (between_same (λ i. block s.lambda s.width (with_cycle s.config.now (pos i) s.second.now) s.first.now) s.span.from i s.span.to same)
 
-pub count-run-spec : {M : Type 1} → statement M
-count-run-spec =
+pub count_run_spec : {M : Type 1} → statement M
+count_run_spec =
     tie.close
     (tie.spec
     invariant-loop
     decreases-loop
     loop-holds
-    usize-to-i32-requires
-    span-over-requires
+    usize_to_i32-requires
+    span_over-requires
     size-requires
     add-count
     add-i

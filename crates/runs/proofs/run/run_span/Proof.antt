@@ -1,15 +1,15 @@
 use native.Mathlib.Omega.{arith}
 use Rattle.walker.proofs.Walk.{added_none}
-use Rattle.runs.proofs.Sides.{side-span, side-none}
+use Rattle.runs.proofs.Sides.{side_span, side_none}
 use borrow.Author.Rules.{rules}
 use Rattle.runs.proofs.run.run_span.Statement.{statement}
 use Rattle.runs.proofs.run.run_span.Tie as tie
 
-all-within-requires : tie.Need-all-within-requires
-all-within-requires c κs = search rules
+all_within-requires : tie.Need-all_within-requires
+all_within-requires c κs = search rules
 
-span-over-requires : tie.Need-span-over-requires
-span-over-requires c κs =
+span_over-requires : tie.Need-span_over-requires
+span_over-requires c κs =
     let start = c.before.before in
     let s = start.args in
     let values = start.requires.3 in (
@@ -25,13 +25,13 @@ returns : tie.Need-returns
 returns c =
     let start = c.before.before.before in
     let s = start.args in
-    side-span s.lambda s.config.now s.second.now start.requires.4 s.still.now s.side.now s.n-still s.n-side s.run start.requires.1 (c.before.before.all-within.ensures.all c.before.if1.true) c.span-over.result c.span-over.ensures
+    side_span s.lambda s.config.now s.second.now start.requires.4 s.still.now s.side.now s.n-still s.n-side s.run start.requires.1 (c.before.before.all_within.ensures.all c.before.if1.true) c.span_over.result c.span_over.ensures
 
 returns-2 : tie.Need-returns-2
 returns-2 c =
     let start = c.before.before in
     let s = start.args in
-    side-none s.lambda s.config.now s.second.now start.requires.4 s.still.now s.side.now s.n-still s.n-side s.run start.requires.1 (c.before.all-within.ensures.some c.if1.false)
+    side_none s.lambda s.config.now s.second.now start.requires.4 s.still.now s.side.now s.n-still s.n-side s.run start.requires.1 (c.before.all_within.ensures.some c.if1.false)
 
-pub run-span-spec : {M : Type 1} → statement M
-run-span-spec = tie.close (tie.spec all-within-requires span-over-requires returns returns-2)
+pub run_span_spec : {M : Type 1} → statement M
+run_span_spec = tie.close (tie.spec all_within-requires span_over-requires returns returns-2)

@@ -1,6 +1,6 @@
 use mathlib.Core.Path.{◌∙◌}
-use Rattle.mathematics.proofs.Bits.{power-shifted}
-use Rattle.su2_masks.proofs.Flips.{triangle-read}
+use Rattle.mathematics.proofs.Bits.{power_shifted}
+use Rattle.su2_masks.proofs.Flips.{triangle_read}
 use borrow.Author.Rules.{rules}
 use Rattle.su2_masks.proofs.flip.triangle_place.Statement.{statement}
 use Rattle.su2_masks.proofs.flip.triangle_place.Tie as tie
@@ -14,22 +14,22 @@ shl-closing-bits-2 c = search rules
 shl-closing-bits-3 : tie.Need-overflow-shl-closing-bits-3
 shl-closing-bits-3 c = search rules
 
-closing-bits-requires : tie.Need-closing-bits-requires
-closing-bits-requires c κs = let ready = c.before.before.requires.0 in (ready.few, ready.long, ready.below)
+closing_bits-requires : tie.Need-closing_bits-requires
+closing_bits-requires c κs = let ready = c.before.before.requires.0 in (ready.few, ready.long, ready.below)
 
 returns : tie.Need-returns
 returns c complex t loops of =
     let start = c.before.before.before in
     let sides = start.args.sides in
-    rw (power-shifted sides.first start.requires.1, power-shifted sides.second start.requires.2, power-shifted sides.third start.requires.3) at c.closing-bits.ensures
-    ∙ triangle-read complex _ loops t _ _ _ of.number of.are
+    rw (power_shifted sides.first start.requires.1, power_shifted sides.second start.requires.2, power_shifted sides.third start.requires.3) at c.closing_bits.ensures
+    ∙ triangle_read complex _ loops t _ _ _ of.number of.are
 
-pub triangle-place-spec : {M : Type 1} → statement M
-triangle-place-spec =
+pub triangle_place_spec : {M : Type 1} → statement M
+triangle_place_spec =
     tie.close
     (tie.spec
     shl-closing-bits
     shl-closing-bits-2
     shl-closing-bits-3
-    closing-bits-requires
+    closing_bits-requires
     returns)

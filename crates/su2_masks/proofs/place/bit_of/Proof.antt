@@ -11,5 +11,5 @@ shr-result c = search rules
 returns : tie.Need-returns
 returns c = (sym (bit_shifted c.args.x c.args.i), omega arith)
 
-pub bit-of-spec : {M : Type 1} → statement M
-bit-of-spec = tie.close (tie.spec shr-result returns)
+pub bit_of_spec : {M : Type 1} → statement M
+bit_of_spec = tie.close (tie.spec shr-result returns)

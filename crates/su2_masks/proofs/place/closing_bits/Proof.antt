@@ -4,20 +4,20 @@ use native.Mathlib.Nat.{pow-suc}
 use native.Mathlib.Numerals.{add-one}
 use native.Mathlib.Omega.{arith}
 use lib.Pow.{pow_mono}
-use Rattle.su2_even_sets.specs.Loops.{closing-bits}
-use Rattle.su2_even_sets.proofs.Spans.{bits-next, bits_below}
+use Rattle.su2_even_sets.specs.Loops.{closing_bits}
+use Rattle.su2_even_sets.proofs.Spans.{bits_next, bits_below}
 use borrow.Author.Rules.{rules}
 use Rattle.su2_masks.proofs.place.closing_bits.Statement.{statement}
 use Rattle.su2_masks.proofs.place.closing_bits.Tie as tie
 
 abbrev invariant-loop : tie.invariant-loop
-invariant-loop closing n x place₀ unit₀ j₀ place unit j = (j ≤ n) × (unit ≡ 2 ^ j) × (place ≡ closing-bits closing x j)
+invariant-loop closing n x place₀ unit₀ j₀ place unit j = (j ≤ n) × (unit ≡ 2 ^ j) × (place ≡ closing_bits closing x j)
 
 abbrev decreases-loop : tie.decreases-loop
 decreases-loop closing n x place₀ unit₀ j₀ place unit j = n - j
 
 loop-holds : tie.Need-loop-init invariant-loop decreases-loop
-unfolding closing-bits
+unfolding closing_bits
 loop-holds c = (omega arith, refl, refl)
 
 element-copy-out-byte : tie.Need-element-copy-out-byte invariant-loop decreases-loop
@@ -26,24 +26,24 @@ element-copy-out-byte c = search rules
 byte-requires : tie.Need-byte-requires invariant-loop decreases-loop
 byte-requires c κs = search rules
 
-bit-of-requires : tie.Need-bit-of-requires invariant-loop decreases-loop
-bit-of-requires c κs =
-    let at-loop = c.before.before.before in
-    rw c.byte.ensures (at-loop.before.requires.2 at-loop.loop.j (omega arith))
+bit_of-requires : tie.Need-bit_of-requires invariant-loop decreases-loop
+bit_of-requires c κs =
+    let at_loop = c.before.before.before in
+    rw c.byte.ensures (at_loop.before.requires.2 at_loop.loop.j (omega arith))
 
 abbrev Turn : Type 0
-Turn = tie.After-bit-of invariant-loop decreases-loop
+Turn = tie.After-bit_of invariant-loop decreases-loop
 
 -- a bit of one unit, and what is below the unit
-small : (c : Turn) → (c.before.before.before.before.loop.unit ≤ 2 ^ 20) × (c.bit-of.result * c.before.before.before.before.loop.unit ≤ c.before.before.before.before.loop.unit)
+small : (c : Turn) → (c.before.before.before.before.loop.unit ≤ 2 ^ 20) × (c.bit_of.result * c.before.before.before.before.loop.unit ≤ c.before.before.before.before.loop.unit)
     × (c.before.before.before.before.loop.place < c.before.before.before.before.loop.unit)
 small c =
-    let at-loop = c.before.before.before.before in
-    let s = at-loop.before in
-    let few : at-loop.loop.j ≤ 20 = omega (arith, s.requires.0) in (
-      rw at-loop.loop.invariant.1 (pow_mono few),
-      one c.bit-of.result at-loop.loop.unit c.bit-of.ensures.1,
-      rw (at-loop.loop.invariant.1, at-loop.loop.invariant.2) (bits_below s.args.closing.now s.args.x at-loop.loop.j),
+    let at_loop = c.before.before.before.before in
+    let s = at_loop.before in
+    let few : at_loop.loop.j ≤ 20 = omega (arith, s.requires.0) in (
+      rw at_loop.loop.invariant.1 (pow_mono few),
+      one c.bit_of.result at_loop.loop.unit c.bit_of.ensures.1,
+      rw (at_loop.loop.invariant.1, at_loop.loop.invariant.2) (bits_below s.args.closing.now s.args.x at_loop.loop.j),
     )
   where
     one : (b k : ℕ) → b < 2 → b * k ≤ k
@@ -68,12 +68,12 @@ loop-less c = search rules
 
 loop-again : tie.Need-loop-preserved invariant-loop decreases-loop
 loop-again c =
-    let at-loop = c.before.before.before.before in
-    let s = at-loop.before in
-    let j = at-loop.loop.j in (
+    let at_loop = c.before.before.before.before in
+    let s = at_loop.before in
+    let j = at_loop.loop.j in (
       omega arith,
-      rw (add-one j) (omega (arith, at-loop.loop.invariant.1, pow-suc 2 j)),
-      rw (at-loop.loop.invariant.2, at-loop.loop.invariant.1, c.bit-of.ensures.0, c.before.byte.ensures) (sym (bits-next s.args.closing.now s.args.x j)),
+      rw (add-one j) (omega (arith, at_loop.loop.invariant.1, pow-suc 2 j)),
+      rw (at_loop.loop.invariant.2, at_loop.loop.invariant.1, c.bit_of.ensures.0, c.before.byte.ensures) (sym (bits_next s.args.closing.now s.args.x j)),
     )
 
 returns : tie.Need-returns invariant-loop decreases-loop
@@ -81,8 +81,8 @@ returns c =
     let past : c.before.loop.j ≡ c.before.before.args.n = omega arith in
     rw past at c.before.loop.invariant.2
 
-pub closing-bits-spec : {M : Type 1} → statement M
-closing-bits-spec =
+pub closing_bits_spec : {M : Type 1} → statement M
+closing_bits_spec =
     tie.close
     (tie.spec
     invariant-loop
@@ -90,7 +90,7 @@ closing-bits-spec =
     loop-holds
     element-copy-out-byte
     byte-requires
-    bit-of-requires
+    bit_of-requires
     mul-place
     add-place
     add-unit

@@ -8,84 +8,84 @@ use lib.Dec.{ltb}
 use lib.ListN.{length}
 use lib.Pow.{pow_mono}
 use Rattle.mathematics.specs.Refusals.{first}
-use Rattle.mathematics.proofs.Bits.{power-shifted}
+use Rattle.mathematics.proofs.Bits.{power_shifted}
 use Rattle.mathematics.proofs.Calls.{none, here, past, refuses, ends, both}
-use Rattle.complex.specs.Complex.{complexOf}
+use Rattle.complex.specs.Complex.{complex_of}
 use Rattle.complex.specs.Judge.{refusal}
-use Rattle.complex.proofs.Refusing.{record-refuses}
-use Rattle.matrices.specs.Coupling.{su2-right}
-use Rattle.matrices.specs.Weights.{weights-tests}
+use Rattle.complex.proofs.Refusing.{record_refuses}
+use Rattle.matrices.specs.Coupling.{su2_right}
+use Rattle.matrices.specs.Weights.{weights_tests}
 use Rattle.su2_masks.specs.Place.{LoopsOf}
-use Rattle.triangles.proofs.SidesFound.{triangles-long}
-use Rattle.answers.specs.Answer.{numberAnswer}
-use Rattle.matrices.proofs.Weighing.{weights-fit, weights-refuse, past-weights}
-use Rattle.su2_masks.proofs.Placing.{loops-of, states-number, masks-are}
-use Rattle.su2_masks.proofs.Telling.{limit-refuses, past-masks, masks-known, masks-written}
-use Rattle.su2_quantum.specs.Dense.{su2-dense-call}
-use Rattle.su2_quantum.proofs.DenseTelling.{long-enough}
+use Rattle.triangles.proofs.SidesFound.{triangles_long}
+use Rattle.answers.specs.Answer.{number_answer}
+use Rattle.matrices.proofs.Weighing.{weights_fit, weights_refuse, past_weights}
+use Rattle.su2_masks.proofs.Placing.{loops_of, states_number, masks_are}
+use Rattle.su2_masks.proofs.Telling.{limit_refuses, past_masks, masks_known, masks_written}
+use Rattle.su2_quantum.specs.Dense.{su2_dense_call}
+use Rattle.su2_quantum.proofs.DenseTelling.{long_enough}
 use borrow.Author.Rules.{rules}
 use Rattle.su2_quantum.proofs.dense.build_su2_hamiltonian.Statement.{statement}
 use Rattle.su2_quantum.proofs.dense.build_su2_hamiltonian.Tie as tie
 
-good : (c : tie.Else1) → refusal (complexOf c.before.before.before.before.before.args.c) ≡ 0
+good : (c : tie.Else1) → refusal (complex_of c.before.before.before.before.before.args.c) ≡ 0
 good c = sym c.before.judge.ensures ∙ c.if1.false
 
-few : (c : tie.Else2) → c.before.closing-loops.result.count ≤ 20
+few : (c : tie.Else2) → c.before.closing_loops.result.count ≤ 20
 few c = omega arith
 
-loops : (c : tie.Else2) → LoopsOf (complexOf c.before.before.before.before.before.before.before.args.c) c.before.closing-loops.result
-loops c = loops-of _ (good c.before.before) _ c.before.closing-loops.ensures
+loops : (c : tie.Else2) → LoopsOf (complex_of c.before.before.before.before.before.before.before.args.c) c.before.closing_loops.result
+loops c = loops_of _ (good c.before.before) _ c.before.closing_loops.ensures
 
 -- the number of states, as the code makes it
-number : (c : tie.Else2) → 1 * 2 ^ c.before.closing-loops.result.count % 2 ^ 64 ≡ 2 ^ c.before.closing-loops.result.count
-number c = power-shifted c.before.closing-loops.result.count (omega (arith, few c))
+number : (c : tie.Else2) → 1 * 2 ^ c.before.closing_loops.result.count % 2 ^ 64 ≡ 2 ^ c.before.closing_loops.result.count
+number c = power_shifted c.before.closing_loops.result.count (omega (arith, few c))
 
 abbrev at-start : tie.Else3 → tie.Start
 at-start c = c.before.before.before.before.before.before.before.before.before.before
 
 -- the weights and the coupling are judged by the definition's own tests
-judged : (c : tie.After-judge-weights) → c.judge-weights.result ≡ first (weights-tests (length (complexOf c.before.before.before.before.before.before.before.before.before.args.c).triangles) (su2-right c.before.before.before.before.before.before.before.before.before.args.p) c.before.before.before.before.before.before.before.before.before.args.given c.before.before.before.before.before.before.before.before.before.args.weights.now)
-judged c = rw (triangles-long c.before.before.before.before.before.before.before.before.before.args.c, ← c.before.is-su2.ensures) c.judge-weights.ensures
+judged : (c : tie.After-judge_weights) → c.judge_weights.result ≡ first (weights_tests (length (complex_of c.before.before.before.before.before.before.before.before.before.args.c).triangles) (su2_right c.before.before.before.before.before.before.before.before.before.args.p) c.before.before.before.before.before.before.before.before.before.args.given c.before.before.before.before.before.before.before.before.before.args.weights.now)
+judged c = rw (triangles_long c.before.before.before.before.before.before.before.before.before.args.c, ← c.before.is_su2.ensures) c.judge_weights.ensures
 
-weighed : (c : tie.Else3) → first (weights-tests (length (complexOf (at-start c).args.c).triangles) (su2-right (at-start c).args.p) (at-start c).args.given (at-start c).args.weights.now) ≡ 0
+weighed : (c : tie.Else3) → first (weights_tests (length (complex_of (at-start c).args.c).triangles) (su2_right (at-start c).args.p) (at-start c).args.given (at-start c).args.weights.now) ≡ 0
 weighed c = sym (judged c.before) ∙ c.if3.false
 
 abbrev states : tie.Else3 → ℕ
-states c = 2 ^ c.before.before.before.before.closing-loops.result.count
+states c = 2 ^ c.before.before.before.before.closing_loops.result.count
 
 not_short : (c : tie.Else4) → (ltb (length (at-start c.before).args.states.now) (states c.before) || ltb (length (at-start c.before).args.res.now) (states c.before * states c.before)) ≡ false
 not_short c = rw (number c.before.before.before.before) at c.if4.false
 
 room : (c : tie.Else4) → (states c.before ≤ length (at-start c.before).args.states.now) × (states c.before * states c.before ≤ length (at-start c.before).args.res.now)
-room c = long-enough (states c.before) (length (at-start c.before).args.states.now) (length (at-start c.before).args.res.now) (not_short c)
+room c = long_enough (states c.before) (length (at-start c.before).args.states.now) (length (at-start c.before).args.res.now) (not_short c)
 
 judge-requires : tie.Need-judge-requires
 judge-requires c κs = search rules
 
 returns : tie.Need-returns
-unfolding su2-dense-call numberAnswer
-returns c = refuses _ (record-refuses _ c.before.judge.ensures c.if1.true _) (ne_eqb _ 0 c.if1.true)
+unfolding su2_dense_call number_answer
+returns c = refuses _ (record_refuses _ c.before.judge.ensures c.if1.true _) (ne_eqb _ 0 c.if1.true)
 
-closing-loops-requires : tie.Need-closing-loops-requires
-closing-loops-requires c κs = search rules
+closing_loops-requires : tie.Need-closing_loops-requires
+closing_loops-requires c κs = search rules
 
 returns-2 : tie.Need-returns-2
-unfolding su2-dense-call numberAnswer
+unfolding su2_dense_call number_answer
 returns-2 c =
     let made = c.before in
-    refuses _ (limit-refuses (good made.before) (loops-of _ (good made.before) _ made.closing-loops.ensures) c.if2.true _) refl
+    refuses _ (limit_refuses (good made.before) (loops_of _ (good made.before) _ made.closing_loops.ensures) c.if2.true _) refl
 
-is-su2-requires : tie.Need-is-su2-requires
-is-su2-requires c κs = search rules
+is_su2-requires : tie.Need-is_su2-requires
+is_su2-requires c κs = search rules
 
-judge-weights-requires : tie.Need-judge-weights-requires
-judge-weights-requires c κs = search rules
+judge_weights-requires : tie.Need-judge_weights-requires
+judge_weights-requires c κs = search rules
 
 returns-3 : tie.Need-returns-3
-unfolding su2-dense-call numberAnswer
+unfolding su2_dense_call number_answer
 returns-3 c =
     let small = c.before.before.before in
-    refuses _ (past-masks (good small.before.before) (loops small) (few small) (weights-refuse _ _ _ _ (judged c.before) c.if3.true _)) (ne_eqb _ 0 c.if3.true)
+    refuses _ (past_masks (good small.before.before) (loops small) (few small) (weights_refuse _ _ _ _ (judged c.before) c.if3.true _)) (ne_eqb _ 0 c.if3.true)
 
 shl-n : tie.Need-overflow-shl-n
 shl-n c = search rules
@@ -93,31 +93,31 @@ shl-n c = search rules
 mul-if4 : tie.Need-overflow-mul-if4
 mul-if4 c =
     let small = c.before.before.before in
-    let most : 2 ^ small.before.closing-loops.result.count ≤ 2 ^ 20 = pow_mono (few small) in
+    let most : 2 ^ small.before.closing_loops.result.count ≤ 2 ^ 20 = pow_mono (few small) in
     let product = mul-le-mul most most in
     rw (number small) (search rules)
 
 returns-4 : tie.Need-returns-4
-unfolding su2-dense-call numberAnswer
+unfolding su2_dense_call number_answer
 returns-4 c =
     let right = c.before in
     let small = right.before.before.before in
-    refuses _ (past-masks (good small.before.before) (loops small) (few small) (past-weights _ _ _ _ (weighed right) (here (rw (states-number _ _ (loops small)) (rw (number small) at c.if4.true))))) refl
+    refuses _ (past_masks (good small.before.before) (loops small) (few small) (past_weights _ _ _ _ (weighed right) (here (rw (states_number _ _ (loops small)) (rw (number small) at c.if4.true))))) refl
 
-write-masks-requires : tie.Need-write-masks-requires
-write-masks-requires c κs =
+write_masks-requires : tie.Need-write_masks-requires
+write_masks-requires c κs =
     let enough = c.before.before.before in
     let small = enough.before.before.before.before in
     ((loops small).keeps.loops.long, few small, (room enough).0)
 
-write-matrix-requires : tie.Need-write-matrix-requires
-write-matrix-requires c κs =
+write_matrix-requires : tie.Need-write_matrix-requires
+write_matrix-requires c κs =
     let enough = c.before.before.before.before.before.before.before.before in
     let right = enough.before in
     let small = right.before.before.before in (
       record { loops = loops small; few = few small; states = number small; long = rw (number small) (room enough).1 },
-      weights-fit _ _ _ _ (weighed right),
-      (_, rw (masks-are _ _ (loops small)) at c.before.before.before.before.write-masks.ensures),
+      weights_fit _ _ _ _ (weighed right),
+      (_, rw (masks_are _ _ (loops small)) at c.before.before.before.before.write_masks.ensures),
     )
 
 same_length : tie.Need-same-length
@@ -127,34 +127,34 @@ same-length-2 : tie.Need-same-length-2
 same-length-2 c = search rules
 
 returns-5 : tie.Need-returns-5
-unfolding su2-dense-call numberAnswer
+unfolding su2_dense_call number_answer
 returns-5 c =
     let enough = c.before.before.before.before.before.before.before.before.before.before.before in
     let right = enough.before in
     let small = right.before.before.before in
     let fine = good small.before.before in
     let of = loops small in
-    ends _ (past-masks fine of (few small) (past-weights _ _ _ _ (weighed right) (past (rw (states-number _ _ of) (not_short enough)) none)))
-    (number small ∙ sym (states-number _ _ of))
-    (both (masks-written fine of _ _ c.before.before.before.before.before.before.before.write-masks.ensures) c.before.before.write-matrix.ensures)
-    (masks-known fine of (few small)).few
+    ends _ (past_masks fine of (few small) (past_weights _ _ _ _ (weighed right) (past (rw (states_number _ _ of) (not_short enough)) none)))
+    (number small ∙ sym (states_number _ _ of))
+    (both (masks_written fine of _ _ c.before.before.before.before.before.before.before.write_masks.ensures) c.before.before.write_matrix.ensures)
+    (masks_known fine of (few small)).few
 
-pub build-su2-hamiltonian-spec : {M : Type 1} → statement M
-build-su2-hamiltonian-spec =
+pub build_su2_hamiltonian_spec : {M : Type 1} → statement M
+build_su2_hamiltonian_spec =
     tie.close
     (tie.spec
     judge-requires
     returns
-    closing-loops-requires
+    closing_loops-requires
     returns-2
-    is-su2-requires
-    judge-weights-requires
+    is_su2-requires
+    judge_weights-requires
     returns-3
     shl-n
     mul-if4
     returns-4
-    write-masks-requires
-    write-matrix-requires
+    write_masks-requires
+    write_matrix-requires
     same_length
     same-length-2
     returns-5)

@@ -38,9 +38,9 @@ array-share-prefix-vector c = search rules
 slice-aggregate-answers-same-2 : tie.Need-slice-aggregate-answers-same-2
 slice-aggregate-answers-same-2 c = sym (length-take-le _ _ (array-share-prefix-vector c.before))
 
-answers-same-requires : tie.Need-answers-same-requires
+answers_same-requires : tie.Need-answers_same-requires
 unfolding case_at
-answers-same-requires c κs =
+answers_same-requires c κs =
     let second = c.before.before.before in
     let vector = second.before.before in
     let first = vector.before.before in
@@ -53,8 +53,8 @@ answers-same-requires c κs =
 returns : tie.Need-returns
 returns c = search rules
 
-pub z2-same-spec : {M : Type 1} → statement M
-z2-same-spec =
+pub z2_same_spec : {M : Type 1} → statement M
+z2_same_spec =
     tie.close
     (tie.spec
     field-requires
@@ -67,5 +67,5 @@ z2-same-spec =
     slice-aggregate-answers-same
     array-share-prefix-vector
     slice-aggregate-answers-same-2
-    answers-same-requires
+    answers_same-requires
     returns)

@@ -1,5 +1,5 @@
 use native.Mathlib.Omega.{arith}
-use Rattle.triangles.proofs.SidesFound.{triangles-long}
+use Rattle.triangles.proofs.SidesFound.{triangles_long}
 use Rattle.su2_rows.proofs.ListedRows.{rows_fit, rows_written}
 use borrow.Author.Rules.{rules}
 use Rattle.su2_rows.proofs.build.write_lists.Statement.{statement}
@@ -11,8 +11,8 @@ slice-aggregate-write-tables c = search rules
 slice-aggregate-write-tables-2 : tie.Need-slice-aggregate-write-tables-2
 slice-aggregate-write-tables-2 c = search rules
 
-write-tables-requires : tie.Need-write-tables-requires
-write-tables-requires c κs = search rules
+write_tables-requires : tie.Need-write_tables-requires
+write_tables-requires c κs = search rules
 
 slice-aggregate-write-rows : tie.Need-slice-aggregate-write-rows
 slice-aggregate-write-rows c = search rules
@@ -20,11 +20,11 @@ slice-aggregate-write-rows c = search rules
 slice-aggregate-write-rows-2 : tie.Need-slice-aggregate-write-rows-2
 slice-aggregate-write-rows-2 c = search rules
 
-write-rows-requires : tie.Need-write-rows-requires
-write-rows-requires c κs =
+write_rows-requires : tie.Need-write_rows-requires
+write_rows-requires c κs =
     let made = c.before.before.before.before.before.before.before in
     let start = made.before.before.before.before.before.before.before.before in
-    rw (← (triangles-long start.args.c)) (rows_fit _ _ _ _ _ _ _ start.requires.0 _ _ _ made.write-tables.ensures _ start.requires.2.0 start.requires.2.1 (omega (arith, made.write-tables.auto.0)) (omega (arith, made.write-tables.auto.1.0)))
+    rw (← (triangles_long start.args.c)) (rows_fit _ _ _ _ _ _ _ start.requires.0 _ _ _ made.write_tables.ensures _ start.requires.2.0 start.requires.2.1 (omega (arith, made.write_tables.auto.0)) (omega (arith, made.write_tables.auto.1.0)))
 
 same_length : tie.Need-same-length
 same_length c = search rules
@@ -40,18 +40,18 @@ returns c =
     let written = c.before.before.before.before.before.before.before.before in
     let made = written.before.before.before.before.before.before.before.before in
     let start = made.before.before.before.before.before.before.before.before in
-    rows_written _ _ _ _ _ _ _ start.requires.0 _ _ _ made.write-tables.ensures _ start.requires.2.0 start.requires.2.1 _ _ _ _ _ _ (rw (← (triangles-long start.args.c)) at written.write-rows.ensures)
+    rows_written _ _ _ _ _ _ _ start.requires.0 _ _ _ made.write_tables.ensures _ start.requires.2.0 start.requires.2.1 _ _ _ _ _ _ (rw (← (triangles_long start.args.c)) at written.write_rows.ensures)
 
-pub write-lists-spec : {M : Type 1} → statement M
-write-lists-spec =
+pub write_lists_spec : {M : Type 1} → statement M
+write_lists_spec =
     tie.close
     (tie.spec
     slice-aggregate-write-tables
     slice-aggregate-write-tables-2
-    write-tables-requires
+    write_tables-requires
     slice-aggregate-write-rows
     slice-aggregate-write-rows-2
-    write-rows-requires
+    write_rows-requires
     same_length
     same-length-2
     same-length-3

@@ -2,7 +2,7 @@ use Prim.Native.Nat.{◌-◌, ◌≤◌}
 use mathlib.Core.Path.{◌≡◌, refl}
 use native.Mathlib.Omega.{arith}
 use lib.ListN.{length, length-set}
-use Rattle.su2_rows.proofs.Flipping.{Flipped, none-flipped, one-flipped}
+use Rattle.su2_rows.proofs.Flipping.{Flipped, none_flipped, one_flipped}
 use borrow.Author.Rules.{rules}
 use Rattle.su2_rows.proofs.row.flip_columns.Statement.{statement}
 use Rattle.su2_rows.proofs.row.flip_columns.Tie as tie
@@ -14,7 +14,7 @@ abbrev decreases-loop : tie.decreases-loop
 decreases-loop flips₀ n by t₀ flips t = n - t
 
 loop-holds : tie.Need-loop-init invariant-loop decreases-loop
-loop-holds c = (omega arith, refl, none-flipped _ _)
+loop-holds c = (omega arith, refl, none_flipped _ _)
 
 mul-flips : tie.Need-overflow-mul-flips invariant-loop decreases-loop
 mul-flips c = search rules
@@ -37,7 +37,7 @@ loop-less c = search rules
 loop-again : tie.Need-loop-preserved invariant-loop decreases-loop
 loop-again c =
     let inv = c.before.before.loop.invariant in
-    (omega arith, rw length-set inv.1, one-flipped _ _ _ _ (omega arith) inv.2)
+    (omega arith, rw length-set inv.1, one_flipped _ _ _ _ (omega arith) inv.2)
 
 same_length : tie.Need-same-length invariant-loop decreases-loop
 same_length c = search rules
@@ -45,8 +45,8 @@ same_length c = search rules
 returns : tie.Need-returns invariant-loop decreases-loop
 returns c t h = c.before.loop.invariant.2.flipped t (omega arith)
 
-pub flip-columns-spec : {M : Type 1} → statement M
-flip-columns-spec =
+pub flip_columns_spec : {M : Type 1} → statement M
+flip_columns_spec =
     tie.close
     (tie.spec
     invariant-loop

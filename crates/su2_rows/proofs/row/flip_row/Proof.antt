@@ -5,30 +5,30 @@ use native.Mathlib.Omega.{arith}
 use lib.Ieee.{Float}
 use lib.ListN.{take}
 use Rattle.rows.specs.Entries.{pairs}
-use Rattle.su2_rows.specs.Rows.{flipped-entries}
-use Rattle.su2_rows.proofs.Flipping.{flipped-differ, flipped-are}
+use Rattle.su2_rows.specs.Rows.{flipped_entries}
+use Rattle.su2_rows.proofs.Flipping.{flipped_differ, flipped_are}
 use borrow.Author.Rules.{rules}
 use Rattle.su2_rows.proofs.row.flip_row.Statement.{statement}
 use Rattle.su2_rows.proofs.row.flip_row.Tie as tie
 
-abbrev start : tie.After-flip-columns → tie.Start
+abbrev start : tie.After-flip_columns → tie.Start
 start c = c.before.before.before.before
 
 abbrev entries : tie.Start → List (ℕ × Float)
 entries c = take c.args.n (pairs c.args.flips.now c.args.terms.now)
 
-are-flipped : (c : tie.After-flip-columns) → take (start c).args.n (pairs c.flip-columns.new.0 (start c).args.terms.now) ≡ flipped-entries (start c).args.by (entries (start c))
-are-flipped c = flipped-are _ _ _ _ _ (start c).requires.0 c.flip-columns.auto.0 (start c).requires.1 c.flip-columns.ensures
+are_flipped : (c : tie.After-flip_columns) → take (start c).args.n (pairs c.flip_columns.new.0 (start c).args.terms.now) ≡ flipped_entries (start c).args.by (entries (start c))
+are_flipped c = flipped_are _ _ _ _ _ (start c).requires.0 c.flip_columns.auto.0 (start c).requires.1 c.flip_columns.ensures
 
-flip-columns-requires : tie.Need-flip-columns-requires
-flip-columns-requires c κs = search rules
+flip_columns-requires : tie.Need-flip_columns-requires
+flip_columns-requires c κs = search rules
 
-sort-row-requires : tie.Need-sort-row-requires
-sort-row-requires c κs =
+sort_row-requires : tie.Need-sort_row-requires
+sort_row-requires c κs =
     let flipped = c.before.before.before.before in
     let pre = (start flipped).requires in
-    let long = flipped.flip-columns.auto.0 in
-    (omega (arith, pre.0, long), long ∙ pre.1, rw (are-flipped flipped) (flipped-differ (start flipped).args.by (entries (start flipped)) pre.2))
+    let long = flipped.flip_columns.auto.0 in
+    (omega (arith, pre.0, long), long ∙ pre.1, rw (are_flipped flipped) (flipped_differ (start flipped).args.by (entries (start flipped)) pre.2))
 
 same_length : tie.Need-same-length
 same_length c = search rules
@@ -37,8 +37,8 @@ same-length-2 : tie.Need-same-length-2
 same-length-2 c = search rules
 
 returns : tie.Need-returns
-returns c = rw (are-flipped c.before.before.before.before.before.before.before.before.before) at c.before.before.before.before.sort-row.ensures.sorted
+returns c = rw (are_flipped c.before.before.before.before.before.before.before.before.before) at c.before.before.before.before.sort_row.ensures.sorted
 
-pub flip-row-spec : {M : Type 1} → statement M
-flip-row-spec =
-    tie.close (tie.spec flip-columns-requires sort-row-requires same_length same-length-2 returns)
+pub flip_row_spec : {M : Type 1} → statement M
+flip_row_spec =
+    tie.close (tie.spec flip_columns-requires sort_row-requires same_length same-length-2 returns)

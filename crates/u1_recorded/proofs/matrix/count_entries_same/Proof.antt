@@ -1,22 +1,22 @@
-use Rattle.recorded.proofs.Agreeing.{told-as}
-use Rattle.u1_recorded.specs.Matrix.{entries-agrees}
+use Rattle.recorded.proofs.Agreeing.{told_as}
+use Rattle.u1_recorded.specs.Matrix.{entries_agrees}
 use borrow.Author.Rules.{rules}
 use Rattle.u1_recorded.proofs.matrix.count_entries_same.Statement.{statement}
 use Rattle.u1_recorded.proofs.matrix.count_entries_same.Tie as tie
 
-export-count-entries-requires : tie.Need-export-count-entries-requires
-export-count-entries-requires c κs = search rules
+export_count_entries-requires : tie.Need-export_count_entries-requires
+export_count_entries-requires c κs = search rules
 
-same-number-requires : tie.Need-same-number-requires
-same-number-requires c κs = search rules
+same_number-requires : tie.Need-same_number-requires
+same_number-requires c κs = search rules
 
 returns : tie.Need-returns
-unfolding entries-agrees
+unfolding entries_agrees
 returns c =
     let called = c.before in
     let start = called.before.before in
-    told-as called.export-count-entries.ensures called.export-count-entries.type-inv start.ranges.told c.same_number.ensures
+    told_as called.export_count_entries.ensures called.export_count_entries.type-inv start.ranges.told c.same_number.ensures
 
-pub count-entries-same-spec : {M : Type 1} → statement M
-count-entries-same-spec =
-    tie.close (tie.spec export-count-entries-requires same-number-requires returns)
+pub count_entries_same_spec : {M : Type 1} → statement M
+count_entries_same_spec =
+    tie.close (tie.spec export_count_entries-requires same_number-requires returns)

@@ -7,14 +7,14 @@ use Rattle.recorded_fields.specs.Layout.{case_at}
 use Rattle.recorded_fields.specs.Inputs.{told_of}
 use Rattle.recorded_fields.specs.Choosing.{chosen}
 use Rattle.recorded_fields.proofs.Choosing.{is, other}
-use Rattle.u1_recorded.specs.Matrix.{dense-agrees, csr-agrees, entries-agrees}
-use Rattle.u1_recorded.specs.Products.{product-agrees, electric-agrees, wilson-agrees}
-use Rattle.u1_recorded.specs.Cases.{matrices-agreed}
+use Rattle.u1_recorded.specs.Matrix.{dense_agrees, csr_agrees, entries_agrees}
+use Rattle.u1_recorded.specs.Products.{product_agrees, electric_agrees, wilson_agrees}
+use Rattle.u1_recorded.specs.Cases.{matrices_agreed}
 use Rattle.u1_recorded.proofs.matrix_cases.answers_same.Statement.{statement}
 use Rattle.u1_recorded.proofs.matrix_cases.answers_same.Tie as tie
 
 -- the kind was read
-abbrev read : tie.After-given → tie.After-byte-at
+abbrev read : tie.After-given → tie.After-byte_at
 read c = c.before.before.before.before.before.before
 
 abbrev start : tie.After-given → tie.Start
@@ -23,8 +23,8 @@ start c = (read c).before.before.before.before
 told_is : (c : tie.After-given) → to_z w64 (of_z w64 c.before.before.before.before.told.result) ≡ told_of (case_at (start c).args.list.now (start c).args.at)
 told_is c = back64 _ c.before.before.before.before.told.type-inv ∙ c.before.before.before.before.told.ensures
 
-byte-at-requires : tie.Need-byte-at-requires
-byte-at-requires c κs = search rules
+byte_at-requires : tie.Need-byte_at-requires
+byte_at-requires c κs = search rules
 
 field-requires : tie.Need-field-requires
 field-requires c κs = search rules
@@ -44,17 +44,17 @@ coupling-requires c κs = search rules
 given-requires : tie.Need-given-requires
 given-requires c κs = search rules
 
-build-hamiltonian-same-requires : tie.Need-build-hamiltonian-same-requires
-build-hamiltonian-same-requires c κs = search rules
+build_hamiltonian_same-requires : tie.Need-build_hamiltonian_same-requires
+build_hamiltonian_same-requires c κs = search rules
 
 returns : tie.Need-returns
-unfolding matrices-agreed chosen case_at
+unfolding matrices_agreed chosen case_at
 returns c =
     let chose = c.before in
     let known = chose.before in
     let k = (read known).byte_at.ensures.0 in
     rw (is k chose.if1.true)
-    (c.build-hamiltonian-same.ensures ∙ (λ i. dense-agrees (known.before.before.before.before.before.field.ensures.0 i) (known.before.coupling.ensures i) (known.given.ensures i) ((start known).requires.1 i) (told_is known i) (known.before.before.before.field2.ensures.0 i) (known.before.before.field3.ensures.0 i)))
+    (c.build_hamiltonian_same.ensures ∙ (λ i. dense_agrees (known.before.before.before.before.before.field.ensures.0 i) (known.before.coupling.ensures i) (known.given.ensures i) ((start known).requires.1 i) (told_is known i) (known.before.before.before.field2.ensures.0 i) (known.before.before.field3.ensures.0 i)))
 
 field-requires-4 : tie.Need-field-requires-4
 field-requires-4 c κs = search rules
@@ -62,99 +62,99 @@ field-requires-4 c κs = search rules
 field-requires-5 : tie.Need-field-requires-5
 field-requires-5 c κs = search rules
 
-build-csr-same-requires : tie.Need-build-csr-same-requires
-build-csr-same-requires c κs = search rules
+build_csr_same-requires : tie.Need-build_csr_same-requires
+build_csr_same-requires c κs = search rules
 
 returns-2 : tie.Need-returns-2
-unfolding matrices-agreed chosen case_at
+unfolding matrices_agreed chosen case_at
 returns-2 c =
     let chose = c.before.before.before in
     let known = chose.before.before in
     let k = (read known).byte_at.ensures.0 in
     rw (other k 12 chose.before.if1.false, is k chose.if2.true)
-    (c.build-csr-same.ensures ∙ (λ i. csr-agrees (known.before.before.before.before.before.field.ensures.0 i) (known.before.coupling.ensures i) (known.given.ensures i) ((start known).requires.1 i) (told_is known i) (known.before.before.before.field2.ensures.0 i) (c.before.before.field4.ensures.0 i) (c.before.field5.ensures.0 i) (known.before.before.field3.ensures.0 i)))
+    (c.build_csr_same.ensures ∙ (λ i. csr_agrees (known.before.before.before.before.before.field.ensures.0 i) (known.before.coupling.ensures i) (known.given.ensures i) ((start known).requires.1 i) (told_is known i) (known.before.before.before.field2.ensures.0 i) (c.before.before.field4.ensures.0 i) (c.before.field5.ensures.0 i) (known.before.before.field3.ensures.0 i)))
 
-count-entries-same-requires : tie.Need-count-entries-same-requires
-count-entries-same-requires c κs = search rules
+count_entries_same-requires : tie.Need-count_entries_same-requires
+count_entries_same-requires c κs = search rules
 
 returns-3 : tie.Need-returns-3
-unfolding matrices-agreed chosen case_at
+unfolding matrices_agreed chosen case_at
 returns-3 c =
     let chose = c.before in
     let known = chose.before.before.before in
     let k = (read known).byte_at.ensures.0 in
     rw (other k 12 chose.before.before.if1.false, other k 13 chose.before.if2.false, is k chose.if3.true)
-    (c.count-entries-same.ensures ∙ (λ i. entries-agrees (known.before.before.before.before.before.field.ensures.0 i) (told_is known i)))
+    (c.count_entries_same.ensures ∙ (λ i. entries_agrees (known.before.before.before.before.before.field.ensures.0 i) (told_is known i)))
 
-hamiltonian-matvec-same-requires : tie.Need-hamiltonian-matvec-same-requires
-hamiltonian-matvec-same-requires c κs = search rules
+hamiltonian_matvec_same-requires : tie.Need-hamiltonian_matvec_same-requires
+hamiltonian_matvec_same-requires c κs = search rules
 
 returns-4 : tie.Need-returns-4
-unfolding matrices-agreed chosen case_at
+unfolding matrices_agreed chosen case_at
 returns-4 c =
     let chose = c.before in
     let known = chose.before.before.before.before in
     let k = (read known).byte_at.ensures.0 in
     rw (other k 12 chose.before.before.before.if1.false, other k 13 chose.before.before.if2.false, other k 14 chose.before.if3.false, is k chose.if4.true)
-    (c.hamiltonian-matvec-same.ensures ∙ (λ i. product-agrees (known.before.before.before.before.before.field.ensures.0 i) (known.before.coupling.ensures i) (known.given.ensures i) ((start known).requires.1 i) ((start known).requires.2 i) (told_is known i) (known.before.before.before.field2.ensures.0 i) (known.before.before.field3.ensures.0 i)))
+    (c.hamiltonian_matvec_same.ensures ∙ (λ i. product_agrees (known.before.before.before.before.before.field.ensures.0 i) (known.before.coupling.ensures i) (known.given.ensures i) ((start known).requires.1 i) ((start known).requires.2 i) (told_is known i) (known.before.before.before.field2.ensures.0 i) (known.before.before.field3.ensures.0 i)))
 
-electric-field-sq-same-requires : tie.Need-electric-field-sq-same-requires
-electric-field-sq-same-requires c κs = search rules
+electric_field_sq_same-requires : tie.Need-electric_field_sq_same-requires
+electric_field_sq_same-requires c κs = search rules
 
 returns-5 : tie.Need-returns-5
-unfolding matrices-agreed chosen case_at
+unfolding matrices_agreed chosen case_at
 returns-5 c =
     let chose = c.before in
     let known = chose.before.before.before.before.before in
     let k = (read known).byte_at.ensures.0 in
     rw (other k 12 chose.before.before.before.before.if1.false, other k 13 chose.before.before.before.if2.false, other k 14 chose.before.before.if3.false, other k 15 chose.before.if4.false, is k chose.if5.true)
-    (c.electric-field-sq-same.ensures ∙ (λ i. electric-agrees (known.before.before.before.before.before.field.ensures.0 i) ((start known).requires.2 i) (told_is known i) (known.before.before.before.field2.ensures.0 i) (known.before.before.field3.ensures.0 i)))
+    (c.electric_field_sq_same.ensures ∙ (λ i. electric_agrees (known.before.before.before.before.before.field.ensures.0 i) ((start known).requires.2 i) (told_is known i) (known.before.before.before.field2.ensures.0 i) (known.before.before.field3.ensures.0 i)))
 
 field-requires-6 : tie.Need-field-requires-6
 field-requires-6 c κs = search rules
 
-wilson-loop-same-requires : tie.Need-wilson-loop-same-requires
-wilson-loop-same-requires c κs = search rules
+wilson_loop_same-requires : tie.Need-wilson_loop_same-requires
+wilson_loop_same-requires c κs = search rules
 
 returns-6 : tie.Need-returns-6
-unfolding matrices-agreed chosen case_at
+unfolding matrices_agreed chosen case_at
 returns-6 c =
     let chose = c.before.before in
     let known = chose.before.before.before.before.before.before in
     let k = (read known).byte_at.ensures.0 in
     rw (other k 12 chose.before.before.before.before.before.if1.false, other k 13 chose.before.before.before.before.if2.false, other k 14 chose.before.before.before.if3.false, other k 15 chose.before.before.if4.false, other k 16 chose.before.if5.false, is k chose.if6.true)
-    (c.wilson-loop-same.ensures ∙ (λ i. wilson-agrees (known.before.before.before.before.before.field.ensures.0 i) ((start known).requires.2 i) (c.before.field6.ensures.0 i) ((start known).requires.3 i) (told_is known i) (known.before.before.before.field2.ensures.0 i) (known.before.before.field3.ensures.0 i)))
+    (c.wilson_loop_same.ensures ∙ (λ i. wilson_agrees (known.before.before.before.before.before.field.ensures.0 i) ((start known).requires.2 i) (c.before.field6.ensures.0 i) ((start known).requires.3 i) (told_is known i) (known.before.before.before.field2.ensures.0 i) (known.before.before.field3.ensures.0 i)))
 
 returns-7 : tie.Need-returns-7
-unfolding matrices-agreed chosen case_at
+unfolding matrices_agreed chosen case_at
 returns-7 c =
     let k = (read c.before.before.before.before.before.before).byte_at.ensures.0 in
     rw (other k 12 c.before.before.before.before.before.if1.false, other k 13 c.before.before.before.before.if2.false, other k 14 c.before.before.before.if3.false, other k 15 c.before.before.if4.false, other k 16 c.before.if5.false, other k 17 c.if6.false)
 
-pub answers-same-spec : {M : Type 1} → statement M
-answers-same-spec =
+pub answers_same_spec : {M : Type 1} → statement M
+answers_same_spec =
     tie.close
     (tie.spec
-    byte-at-requires
+    byte_at-requires
     field-requires
     told-requires
     field-requires-2
     field-requires-3
     coupling-requires
     given-requires
-    build-hamiltonian-same-requires
+    build_hamiltonian_same-requires
     returns
     field-requires-4
     field-requires-5
-    build-csr-same-requires
+    build_csr_same-requires
     returns-2
-    count-entries-same-requires
+    count_entries_same-requires
     returns-3
-    hamiltonian-matvec-same-requires
+    hamiltonian_matvec_same-requires
     returns-4
-    electric-field-sq-same-requires
+    electric_field_sq_same-requires
     returns-5
     field-requires-6
-    wilson-loop-same-requires
+    wilson_loop_same-requires
     returns-6
     returns-7)

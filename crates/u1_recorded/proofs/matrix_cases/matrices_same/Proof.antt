@@ -55,9 +55,9 @@ array-share-prefix-directions c = search rules
 slice-aggregate-answers-same-3 : tie.Need-slice-aggregate-answers-same-3
 slice-aggregate-answers-same-3 c = sym (length-take-le _ _ (array-share-prefix-directions c.before))
 
-answers-same-requires : tie.Need-answers-same-requires
+answers_same-requires : tie.Need-answers_same-requires
 unfolding case_at
-answers-same-requires c κs =
+answers_same-requires c κs =
     let third = c.before.before.before.before in
     let directions = third.before.before in
     let second = directions.before.before in
@@ -73,8 +73,8 @@ answers-same-requires c κs =
 returns : tie.Need-returns
 returns c = search rules
 
-pub matrices-same-spec : {M : Type 1} → statement M
-matrices-same-spec =
+pub matrices_same_spec : {M : Type 1} → statement M
+matrices_same_spec =
     tie.close
     (tie.spec
     field-requires
@@ -92,5 +92,5 @@ matrices-same-spec =
     slice-aggregate-answers-same-2
     array-share-prefix-directions
     slice-aggregate-answers-same-3
-    answers-same-requires
+    answers_same-requires
     returns)

@@ -24,9 +24,9 @@ array-share-prefix-configuration c = search rules
 slice-aggregate-answers-same : tie.Need-slice-aggregate-answers-same
 slice-aggregate-answers-same c = sym (length-take-le _ _ (array-share-prefix-configuration c.before))
 
-answers-same-requires : tie.Need-answers-same-requires
+answers_same-requires : tie.Need-answers_same-requires
 unfolding case_at
-answers-same-requires c κs =
+answers_same-requires c κs =
     let read = c.before.before in
     let bytes = read.before.before in
     (bytes.before.before.requires, all_read 4 (to_z w32) read.i32s.ensures bytes.field.ensures.0 (omega (arith, bytes.field.ensures.1)))
@@ -34,8 +34,8 @@ answers-same-requires c κs =
 returns : tie.Need-returns
 returns c = search rules
 
-pub states-same-spec : {M : Type 1} → statement M
-states-same-spec =
+pub states_same_spec : {M : Type 1} → statement M
+states_same_spec =
     tie.close
     (tie.spec
     field-requires
@@ -43,5 +43,5 @@ states-same-spec =
     i32s-requires
     array-share-prefix-configuration
     slice-aggregate-answers-same
-    answers-same-requires
+    answers_same-requires
     returns)

@@ -1,22 +1,22 @@
-use Rattle.recorded.proofs.Agreeing.{told-as}
-use Rattle.u1_recorded.specs.States.{counted-agrees}
+use Rattle.recorded.proofs.Agreeing.{told_as}
+use Rattle.u1_recorded.specs.States.{counted_agrees}
 use borrow.Author.Rules.{rules}
 use Rattle.u1_recorded.proofs.states.count_states_same.Statement.{statement}
 use Rattle.u1_recorded.proofs.states.count_states_same.Tie as tie
 
-export-count-states-requires : tie.Need-export-count-states-requires
-export-count-states-requires c κs = search rules
+export_count_states-requires : tie.Need-export_count_states-requires
+export_count_states-requires c κs = search rules
 
-same-number-requires : tie.Need-same-number-requires
-same-number-requires c κs = search rules
+same_number-requires : tie.Need-same_number-requires
+same_number-requires c κs = search rules
 
 returns : tie.Need-returns
-unfolding counted-agrees
+unfolding counted_agrees
 returns c =
     let called = c.before in
     let start = called.before.before in
-    told-as called.export-count-states.ensures called.export-count-states.type-inv start.ranges.told c.same_number.ensures
+    told_as called.export_count_states.ensures called.export_count_states.type-inv start.ranges.told c.same_number.ensures
 
-pub count-states-same-spec : {M : Type 1} → statement M
-count-states-same-spec =
-    tie.close (tie.spec export-count-states-requires same-number-requires returns)
+pub count_states_same_spec : {M : Type 1} → statement M
+count_states_same_spec =
+    tie.close (tie.spec export_count_states-requires same_number-requires returns)

@@ -4,7 +4,7 @@ use native.Mathlib.Omega.{arith}
 use lib.ListN.{length}
 use Rattle.walker.specs.Blocks.{SpanTo}
 use Rattle.mathematics.proofs.Signed.{back32, back8}
-use Rattle.walker.proofs.Narrowing.{span_none, span_more, span-bound, span-all, span-empty}
+use Rattle.walker.proofs.Narrowing.{span_none, span_more, span_bound, span_all, span_empty}
 use borrow.Author.Rules.{rules}
 use Rattle.walker.proofs.blocks.interval.Statement.{statement}
 use Rattle.walker.proofs.blocks.interval.Tie as tie
@@ -20,8 +20,8 @@ loop-holds c = (omega arith, refl, span_none c.args.lambda c.args.width c.args.c
 
 returns : tie.Need-returns invariant-loop decreases-loop
 returns c =
-    let at-loop = c.before.before.before in
-    span-empty _ _ _ _ _ _ at-loop.loop.invariant.2 at-loop.loop.invariant.0 c.if1.true
+    let at_loop = c.before.before.before in
+    span_empty _ _ _ _ _ _ at_loop.loop.invariant.2 at_loop.loop.invariant.0 c.if1.true
 
 mul-narrow : tie.Need-overflow-mul-narrow invariant-loop decreases-loop
 mul-narrow c = search rules
@@ -34,11 +34,11 @@ shared-slice-copy-out-narrow-2 c = omega (arith, c.before.before.before.before.b
 
 narrow-requires : tie.Need-narrow-requires invariant-loop decreases-loop
 narrow-requires c κs =
-    let at-loop = c.before.before.before.before.before in
-    let start = at-loop.before in
-    let e = at-loop.loop.e in
+    let at_loop = c.before.before.before.before.before in
+    let start = at_loop.before in
+    let e = at_loop.loop.e in
     rw (back32 _ c.before.narrow-arg.given, back8 _ c.narrow-arg2.given)
-    (span-bound _ _ _ _ _ _ at-loop.loop.invariant.2, start.requires.1 e, start.requires.2 e, start.requires.3)
+    (span_bound _ _ _ _ _ _ at_loop.loop.invariant.2, start.requires.1 e, start.requires.2 e, start.requires.3)
 
 add-e : tie.Need-overflow-add-e invariant-loop decreases-loop
 add-e c = search rules
@@ -48,17 +48,17 @@ loop-less c = search rules
 
 loop-again : tie.Need-loop-preserved invariant-loop decreases-loop
 loop-again c =
-    let at-loop = c.before.before.before.before.before.before in
+    let at_loop = c.before.before.before.before.before.before in
     let made = rw (back32 _ c.before.before.narrow-arg.given, back8 _ c.before.narrow-arg2.given) at c.narrow.ensures in
-    (omega arith, refl, span_more _ _ _ _ _ _ _ at-loop.loop.invariant.2 made)
+    (omega arith, refl, span_more _ _ _ _ _ _ _ at_loop.loop.invariant.2 made)
 
 returns-2 : tie.Need-returns-2 invariant-loop decreases-loop
 returns-2 c =
     let past : c.before.loop.e ≡ length c.before.before.args.config.now = omega arith in
-    span-all _ _ _ _ _ _ c.before.loop.invariant.2 past
+    span_all _ _ _ _ _ _ c.before.loop.invariant.2 past
 
-pub interval-spec : {M : Type 1} → statement M
-interval-spec =
+pub interval_spec : {M : Type 1} → statement M
+interval_spec =
     tie.close
     (tie.spec
     invariant-loop

@@ -4,12 +4,12 @@ use mathlib.Core.Path.{◌≡◌, refl, sym, ap, ◌∙◌}
 use native.Mathlib.Omega.{arith}
 use lib.IntN.{pos}
 use lib.ListN.{length}
-use Rattle.mathematics.proofs.Flat.{flatten-last}
-use Rattle.cycles.specs.Cycles.{with-cycle}
-use Rattle.walker.specs.Walker.{block-rows}
+use Rattle.mathematics.proofs.Flat.{flatten_last}
+use Rattle.cycles.specs.Cycles.{with_cycle}
+use Rattle.walker.specs.Walker.{block_rows}
 use Rattle.mathematics.specs.Writing.{put}
-use Rattle.mathematics.proofs.Puts.{put-none, put-more}
-use Rattle.walker.proofs.BlockRows.{rows_none, rows_same, rows_more, rows_long, row_room, row-after}
+use Rattle.mathematics.proofs.Puts.{put_none, put_more}
+use Rattle.walker.proofs.BlockRows.{rows_none, rows_same, rows_more, rows_long, row_room, row_after}
 use borrow.Author.Rules.{rules}
 use Rattle.walker.proofs.blocks.write_block.Statement.{statement}
 use Rattle.walker.proofs.blocks.write_block.Tie as tie
@@ -17,7 +17,7 @@ use Rattle.walker.proofs.blocks.write_block.Tie as tie
 abbrev invariant-loop : tie.invariant-loop
 invariant-loop states₀ at config cycle span m place₀ d₀ states place d =
     (m ≡ length config) × (span.from ≤ d) × (d - span.from ≤ span.to - span.from) × (place ≡ at + (d - span.from) * length config) × (length states ≡ length states₀)
-    × (states ≡ put states₀ at (flatten (block-rows config cycle span.from d)))
+    × (states ≡ put states₀ at (flatten (block_rows config cycle span.from d)))
 
 abbrev decreases-loop : tie.decreases-loop
 decreases-loop states₀ at config cycle span m place₀ d₀ states place d = span.to - d
@@ -32,7 +32,7 @@ loop-holds c =
       omega arith,
       rw none (omega arith),
       refl,
-      rw (rows_none s.config.now s.cycle.now s.span.from s.span.from none) (sym (put-none s.states.now s.at)),
+      rw (rows_none s.config.now s.cycle.now s.span.from s.span.from none) (sym (put_none s.states.now s.at)),
     )
 
 -- one row more has room
@@ -40,20 +40,20 @@ one_more : (c : tie.At-loop invariant-loop decreases-loop) → c.loop.d < c.befo
     → (c.loop.d - c.before.args.span.from) * length c.before.args.config.now + length c.before.args.config.now ≤ (c.before.args.span.to - c.before.args.span.from) * length c.before.args.config.now
 one_more c h = row_room c.before.args.span.from c.loop.d c.before.args.span.to (length c.before.args.config.now) c.loop.invariant.1 h
 
-write-row-requires : tie.Need-write-row-requires invariant-loop decreases-loop
-write-row-requires c κs =
-    let at-loop = c.before.before.before in
-    let start = at-loop.before in
+write_row-requires : tie.Need-write_row-requires invariant-loop decreases-loop
+write_row-requires c κs =
+    let at_loop = c.before.before.before in
+    let start = at_loop.before in
     let ready = start.requires.0 in
     let few = start.requires.1 in
     let room = start.requires.2 in
-    (record { sized = ready.sized; values = ready.values; times = omega arith; signs = ready.signs }, omega arith, omega (arith, one_more at-loop (omega arith)))
+    (record { sized = ready.sized; values = ready.values; times = omega arith; signs = ready.signs }, omega arith, omega (arith, one_more at_loop (omega arith)))
 
 add-place : tie.Need-overflow-add-place invariant-loop decreases-loop
 add-place c =
-    let at-loop = c.before.before.before.before.before in
-    let room = at-loop.before.requires.2 in
-    let h = one_more at-loop (omega arith) in
+    let at_loop = c.before.before.before.before.before in
+    let room = at_loop.before.requires.2 in
+    let h = one_more at_loop (omega arith) in
     search rules
 
 add-d : tie.Need-overflow-add-d invariant-loop decreases-loop
@@ -64,26 +64,26 @@ loop-less c = search rules
 
 loop-again : tie.Need-loop-preserved invariant-loop decreases-loop
 loop-again c =
-    let at-loop = c.before.before.before.before.before in
-    let start = at-loop.before in
+    let at_loop = c.before.before.before.before.before in
+    let start = at_loop.before in
     let s = start.args.config.now in
     let z = start.args.cycle.now in
     let from = start.args.span.from in
-    let d = at-loop.loop.d in
+    let d = at_loop.loop.d in
     let room = start.requires.2 in
-    let place = at-loop.loop.invariant.3 in
-    let more = one_more at-loop (omega arith) in
-    let long : length (flatten (block-rows s z from d)) ≡ (d - from) * length s = rows_long s z from d in
-    let here : at-loop.loop.place ≡ start.args.at + length (flatten (block-rows s z from d)) = omega arith in
-    let made : c.before.write-row.new.0 ≡ put (put start.args.states.now start.args.at (flatten (block-rows s z from d))) (start.args.at + length (flatten (block-rows s z from d))) (with-cycle s (pos d) z) = rw (at-loop.loop.invariant.5, here) at c.before.write-row.ensures in (
+    let place = at_loop.loop.invariant.3 in
+    let more = one_more at_loop (omega arith) in
+    let long : length (flatten (block_rows s z from d)) ≡ (d - from) * length s = rows_long s z from d in
+    let here : at_loop.loop.place ≡ start.args.at + length (flatten (block_rows s z from d)) = omega arith in
+    let made : c.before.write_row.new.0 ≡ put (put start.args.states.now start.args.at (flatten (block_rows s z from d))) (start.args.at + length (flatten (block_rows s z from d))) (with_cycle s (pos d) z) = rw (at_loop.loop.invariant.5, here) at c.before.write_row.ensures in (
       refl,
       omega arith,
       omega arith,
-      omega (arith, row-after from d (length s) at-loop.loop.invariant.1),
-      c.before.write-row.auto.0 ∙ at-loop.loop.invariant.4,
+      omega (arith, row_after from d (length s) at_loop.loop.invariant.1),
+      c.before.write_row.auto.0 ∙ at_loop.loop.invariant.4,
       made
-          ∙ put-more start.args.states.now start.args.at (flatten (block-rows s z from d)) (with-cycle s (pos d) z) (omega arith)
-          ∙ ap (put start.args.states.now start.args.at) (sym (flatten-last (block-rows s z from d) (with-cycle s (pos d) z)) ∙ ap flatten (sym (rows_more s z from d at-loop.loop.invariant.1))),
+          ∙ put_more start.args.states.now start.args.at (flatten (block_rows s z from d)) (with_cycle s (pos d) z) (omega arith)
+          ∙ ap (put start.args.states.now start.args.at) (sym (flatten_last (block_rows s z from d) (with_cycle s (pos d) z)) ∙ ap flatten (sym (rows_more s z from d at_loop.loop.invariant.1))),
     )
 
 same_length : tie.Need-same-length invariant-loop decreases-loop
@@ -96,14 +96,14 @@ returns c =
     c.before.before.loop.invariant.5
     ∙ ap (λ l. put start.args.states.now start.args.at (flatten l)) (rows_same start.args.config.now start.args.cycle.now start.args.span.from _ _ past)
 
-pub write-block-spec : {M : Type 1} → statement M
-write-block-spec =
+pub write_block_spec : {M : Type 1} → statement M
+write_block_spec =
     tie.close
     (tie.spec
     invariant-loop
     decreases-loop
     loop-holds
-    write-row-requires
+    write_row-requires
     add-place
     add-d
     loop-less

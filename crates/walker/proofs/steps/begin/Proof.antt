@@ -5,28 +5,28 @@ use lib.IntN.{pos, neg_ℤ, nat_abs}
 use lib.ListN.{length, get_or}
 use mir.Syntax.{w32}
 use mir.Val.{to_z, of_z}
-use Rattle.mathematics.proofs.Signed.{size-neg, back32}
-use Rattle.cycles.specs.Cycles.{row, with-cycle}
-use Rattle.walker.specs.Walker.{sum-of-cycles, lowest-candidate}
-use Rattle.walker.proofs.Stepping.{cycle-long, cycle-signs, cycle-addable, added-small, combined-next}
+use Rattle.mathematics.proofs.Signed.{size_neg, back32}
+use Rattle.cycles.specs.Cycles.{row, with_cycle}
+use Rattle.walker.specs.Walker.{sum_of_cycles, lowest_candidate}
+use Rattle.walker.proofs.Stepping.{cycle_long, cycle_signs, cycle_addable, added_small, combined_next}
 use borrow.Author.Rules.{rules}
 use Rattle.walker.proofs.steps.begin.Statement.{statement}
 use Rattle.walker.proofs.steps.begin.Tie as tie
 
 abbrev invariant-loop : tie.invariant-loop
-invariant-loop config₀ cycles n-free lambda m low j₀ config j = (j ≤ n-free) × (m ≡ length config₀) × (to_z w32 low ≡ neg_ℤ (pos lambda)) × (length config ≡ length config₀) × (config ≡ sum-of-cycles (row (length config₀) cycles) (λ i. neg_ℤ (pos lambda)) config₀ j) × ((e : ℕ) → nat_abs (get_or config e (pos 0)) ≤ 2 ^ 13 + j * 1000)
+invariant-loop config₀ cycles n_free lambda m low j₀ config j = (j ≤ n_free) × (m ≡ length config₀) × (to_z w32 low ≡ neg_ℤ (pos lambda)) × (length config ≡ length config₀) × (config ≡ sum_of_cycles (row (length config₀) cycles) (λ i. neg_ℤ (pos lambda)) config₀ j) × ((e : ℕ) → nat_abs (get_or config e (pos 0)) ≤ 2 ^ 13 + j * 1000)
 
 abbrev decreases-loop : tie.decreases-loop
-decreases-loop config₀ cycles n-free lambda m low j₀ config j = n-free - j
+decreases-loop config₀ cycles n_free lambda m low j₀ config j = n_free - j
 
 low_small : (L : ℕ) → L ≤ 1000 → nat_abs (neg_ℤ (pos L)) ≤ 1000
-low_small L h = omega (arith, size-neg (pos L))
+low_small L h = omega (arith, size_neg (pos L))
 
 negative-requires : tie.Need-negative-requires invariant-loop decreases-loop
 negative-requires c κs = omega (arith, c.requires.1.truncation)
 
 loop-holds : tie.Need-loop-init invariant-loop decreases-loop
-unfolding sum-of-cycles
+unfolding sum_of_cycles
 loop-holds c =
     let start = c.before in (
       omega arith,
@@ -57,16 +57,16 @@ part-add-end c = search rules
 
 add-requires : tie.Need-add-requires invariant-loop decreases-loop
 add-requires c κs =
-    let at-loop = c.before.before.before in
-    let start = at-loop.before.before in
+    let at_loop = c.before.before.before in
+    let start = at_loop.before.before in
     let fit = start.requires.1 in
     let m = length start.args.config.now in
-    let j = at-loop.loop.j in
+    let j = at_loop.loop.j in
     let e : 63 * j + m - 63 * j ≡ m = omega arith in
-    let small : nat_abs (to_z w32 (of_z w32 at-loop.before.negative.result)) ≤ 1000 = rw at-loop.loop.invariant.2 (low_small start.args.lambda fit.truncation) in
+    let small : nat_abs (to_z w32 (of_z w32 at_loop.before.negative.result)) ≤ 1000 = rw at_loop.loop.invariant.2 (low_small start.args.lambda fit.truncation) in
     rw e
-    (cycle-addable m start.args.n-free start.args.lambda start.args.cycles.now fit j (omega arith) at-loop.loop.config _ at-loop.loop.invariant.3
-    (λ i. omega (arith, at-loop.loop.invariant.5 i, fit.free-few)) (omega arith))
+    (cycle_addable m start.args.n_free start.args.lambda start.args.cycles.now fit j (omega arith) at_loop.loop.config _ at_loop.loop.invariant.3
+    (λ i. omega (arith, at_loop.loop.invariant.5 i, fit.free_few)) (omega arith))
 
 add-j : tie.Need-overflow-add-j invariant-loop decreases-loop
 add-j c = search rules
@@ -76,26 +76,26 @@ loop-less c = search rules
 
 loop-again : tie.Need-loop-preserved invariant-loop decreases-loop
 loop-again c =
-    let at-loop = c.before.before.before.before.before in
-    let start = at-loop.before.before in
+    let at_loop = c.before.before.before.before.before in
+    let start = at_loop.before.before in
     let fit = start.requires.1 in
     let m = length start.args.config.now in
-    let j = at-loop.loop.j in
+    let j = at_loop.loop.j in
     let cycles = start.args.cycles.now in
-    let inside : j < 63 = omega (arith, fit.free-few) in
+    let inside : j < 63 = omega (arith, fit.free_few) in
     let e : 63 * j + m - 63 * j ≡ m = omega arith in
-    let made : c.before.add.new.0 ≡ with-cycle at-loop.loop.config (neg_ℤ (pos start.args.lambda)) (row m cycles j) = rw (e, at-loop.loop.invariant.2) at c.before.add.ensures in (
+    let made : c.before.add.new.0 ≡ with_cycle at_loop.loop.config (neg_ℤ (pos start.args.lambda)) (row m cycles j) = rw (e, at_loop.loop.invariant.2) at c.before.add.ensures in (
       omega arith,
       refl,
-      at-loop.loop.invariant.2,
-      c.before.add.auto.0 ∙ at-loop.loop.invariant.3,
-      made ∙ ap (λ s. with-cycle s (neg_ℤ (pos start.args.lambda)) (row m cycles j)) at-loop.loop.invariant.4 ∙ sym (combined-next (row m cycles) (λ i. neg_ℤ (pos start.args.lambda)) start.args.config.now j),
+      at_loop.loop.invariant.2,
+      c.before.add.auto.0 ∙ at_loop.loop.invariant.3,
+      made ∙ ap (λ s. with_cycle s (neg_ℤ (pos start.args.lambda)) (row m cycles j)) at_loop.loop.invariant.4 ∙ sym (combined_next (row m cycles) (λ i. neg_ℤ (pos start.args.lambda)) start.args.config.now j),
       λ i.
           rw made
           (omega (
             arith,
-            added-small at-loop.loop.config (neg_ℤ (pos start.args.lambda)) (row m cycles j) (2 ^ 13 + j * 1000) 1000 (cycle-long m start.args.n-free start.args.lambda cycles fit j inside ∙ sym at-loop.loop.invariant.3)
-                at-loop.loop.invariant.5 (low_small start.args.lambda fit.truncation) (cycle-signs m start.args.n-free start.args.lambda cycles fit j inside) i,
+            added_small at_loop.loop.config (neg_ℤ (pos start.args.lambda)) (row m cycles j) (2 ^ 13 + j * 1000) 1000 (cycle_long m start.args.n_free start.args.lambda cycles fit j inside ∙ sym at_loop.loop.invariant.3)
+                at_loop.loop.invariant.5 (low_small start.args.lambda fit.truncation) (cycle_signs m start.args.n_free start.args.lambda cycles fit j inside) i,
           )),
     )
 
@@ -103,14 +103,14 @@ same_length : tie.Need-same-length invariant-loop decreases-loop
 same_length c = search rules
 
 returns : tie.Need-returns invariant-loop decreases-loop
-unfolding lowest-candidate
+unfolding lowest_candidate
 returns c =
     let start = c.before.before.before in
-    let past : c.before.loop.j ≡ start.args.n-free = omega arith in
+    let past : c.before.loop.j ≡ start.args.n_free = omega arith in
     rw past at c.before.loop.invariant.4
 
-pub begin-spec : {M : Type 1} → statement M
-begin-spec =
+pub begin_spec : {M : Type 1} → statement M
+begin_spec =
     tie.close
     (tie.spec
     invariant-loop

@@ -7,23 +7,23 @@ use lib.Signed.{lt_z}
 use lib.ListN.{length, get_or}
 use mir.Syntax.{w32}
 use mir.Val.{to_z, of_z}
-use Rattle.mathematics.proofs.Signed.{size-neg, back32}
-use Rattle.cycles.specs.Cycles.{row, with-cycle}
+use Rattle.mathematics.proofs.Signed.{size_neg, back32}
+use Rattle.cycles.specs.Cycles.{row, with_cycle}
 use Rattle.walker.specs.Walker.{stepped}
 use Rattle.walker.specs.Steps.{Addable}
-use Rattle.walker.proofs.Stepping.{cycle-long, cycle-signs, cycle-addable, added-small, step-here, step-on, step_end}
+use Rattle.walker.proofs.Stepping.{cycle_long, cycle_signs, cycle_addable, added_small, step_here, step_on, step_end}
 use borrow.Author.Rules.{rules}
 use Rattle.walker.proofs.steps.step.Statement.{statement}
 use Rattle.walker.proofs.steps.step.Tie as tie
 
 abbrev invariant-loop : tie.invariant-loop
-invariant-loop config₀ free n-free cycles lambda from m top back j₀ config j =
+invariant-loop config₀ free n_free cycles lambda from m top back j₀ config j =
     (m ≡ length config₀) × (to_z w32 top ≡ pos lambda) × (to_z w32 back ≡ neg_ℤ (pos (2 * lambda))) × (length config ≡ length config₀)
-    × (stepped free (row (length config₀) cycles) lambda (n-free - j) j config ≡ stepped free (row (length config₀) cycles) lambda (n-free - from) from config₀)
+    × (stepped free (row (length config₀) cycles) lambda (n_free - j) j config ≡ stepped free (row (length config₀) cycles) lambda (n_free - from) from config₀)
     × ((e : ℕ) → nat_abs (get_or config e (pos 0)) ≤ 2 ^ 20 + j * 2000)
 
 abbrev decreases-loop : tie.decreases-loop
-decreases-loop config₀ free n-free cycles lambda from m top back j₀ config j = n-free - j
+decreases-loop config₀ free n_free cycles lambda from m top back j₀ config j = n_free - j
 
 abbrev Loop : Type 0
 Loop = tie.At-loop invariant-loop decreases-loop
@@ -36,35 +36,35 @@ abbrev digit : Loop → ℤ
 digit c = get_or c.loop.config (get_or (start c).args.free.now c.loop.j 0) (pos 0)
 
 -- the values have room for one more cycle
-room : (c : Loop) → c.loop.j < (start c).args.n-free → (e : ℕ) → nat_abs (get_or c.loop.config e (pos 0)) ≤ 2 ^ 24
-room c h e = omega (arith, c.loop.invariant.5 e, (start c).requires.0.free-few)
+room : (c : Loop) → c.loop.j < (start c).args.n_free → (e : ℕ) → nat_abs (get_or c.loop.config e (pos 0)) ≤ 2 ^ 24
+room c h e = omega (arith, c.loop.invariant.5 e, (start c).requires.0.free_few)
 
 place : (c : tie.After-byte invariant-loop decreases-loop) → c.byte.result < length c.before.before.before.loop.config
 place c =
-    let at-loop = c.before.before.before in
-    rw c.byte.ensures (omega (arith, (start at-loop).requires.1.inside at-loop.loop.j (omega arith), at-loop.loop.invariant.3))
+    let at_loop = c.before.before.before in
+    rw c.byte.ensures (omega (arith, (start at_loop).requires.1.inside at_loop.loop.j (omega arith), at_loop.loop.invariant.3))
 
 test : (c : tie.After-x invariant-loop decreases-loop) (b : Bool)
-    → lt_z (to_z w32 (of_z w32 (get_or c.before.before.before.before.loop.config c.before.byte.result (pos 0)))) (to_z w32 (of_z w32 c.before.before.before.before.before.before.usize-to-i32.result)) ≡ b
+    → lt_z (to_z w32 (of_z w32 (get_or c.before.before.before.before.loop.config c.before.byte.result (pos 0)))) (to_z w32 (of_z w32 c.before.before.before.before.before.before.usize_to_i32.result)) ≡ b
     → lt_z (digit c.before.before.before.before) (pos (start c.before.before.before.before).args.lambda) ≡ b
 test c b t =
-    let at-loop = c.before.before.before.before in
-    sym (ap₂ lt_z (back32 _ c.x.given ∙ ap (λ i. get_or at-loop.loop.config i (pos 0)) c.before.byte.ensures) at-loop.loop.invariant.1) ∙ t
+    let at_loop = c.before.before.before.before in
+    sym (ap₂ lt_z (back32 _ c.x.given ∙ ap (λ i. get_or at_loop.loop.config i (pos 0)) c.before.byte.ensures) at_loop.loop.invariant.1) ∙ t
 
 -- the part of the table of cycles is its row
 part : (j m : ℕ) → 63 * j + m - 63 * j ≡ m
 part j m = omega arith
 
-back-small : (L : ℕ) → L ≤ 1000 → nat_abs (neg_ℤ (pos (2 * L))) ≤ 2000
-back-small L h = omega (arith, size-neg (pos (2 * L)))
+back_small : (L : ℕ) → L ≤ 1000 → nat_abs (neg_ℤ (pos (2 * L))) ≤ 2000
+back_small L h = omega (arith, size_neg (pos (2 * L)))
 
-addable : (c : Loop) → c.loop.j < (start c).args.n-free → (t : ℤ) → nat_abs t ≤ 2 ^ 24
+addable : (c : Loop) → c.loop.j < (start c).args.n_free → (t : ℤ) → nat_abs t ≤ 2 ^ 24
     → Addable c.loop.config t (row (length (start c).args.config.now) (start c).args.cycles.now c.loop.j)
 addable c h t few =
-    cycle-addable _ (start c).args.n-free (start c).args.lambda (start c).args.cycles.now (start c).requires.0 c.loop.j h c.loop.config t c.loop.invariant.3 (room c h) few
+    cycle_addable _ (start c).args.n_free (start c).args.lambda (start c).args.cycles.now (start c).requires.0 c.loop.j h c.loop.config t c.loop.invariant.3 (room c h) few
 
-usize-to-i32-requires : tie.Need-usize-to-i32-requires invariant-loop decreases-loop
-usize-to-i32-requires c κs = omega (arith, c.requires.0.truncation)
+usize_to_i32-requires : tie.Need-usize_to_i32-requires invariant-loop decreases-loop
+usize_to_i32-requires c κs = omega (arith, c.requires.0.truncation)
 
 mul-negative : tie.Need-overflow-mul-negative invariant-loop decreases-loop
 mul-negative c = let h = c.before.requires.0.truncation in search rules
@@ -76,7 +76,7 @@ loop-holds : tie.Need-loop-init invariant-loop decreases-loop
 loop-holds c =
     let s = c.before.before in (
       refl,
-      back32 c.before.usize-to-i32.result c.before.usize-to-i32.type-inv ∙ c.before.usize-to-i32.ensures,
+      back32 c.before.usize_to_i32.result c.before.usize_to_i32.type-inv ∙ c.before.usize_to_i32.ensures,
       back32 c.negative.result c.negative.type-inv ∙ c.negative.ensures,
       refl,
       refl,
@@ -84,7 +84,7 @@ loop-holds c =
     )
 
 element-copy-out-byte : tie.Need-element-copy-out-byte invariant-loop decreases-loop
-element-copy-out-byte c = omega (arith, (start c.before).pre.0.free-few)
+element-copy-out-byte c = omega (arith, (start c.before).pre.0.free_few)
 
 byte-requires : tie.Need-byte-requires invariant-loop decreases-loop
 byte-requires c κs = tt
@@ -115,22 +115,22 @@ part-add-end c = search rules
 
 add-requires : tie.Need-add-requires invariant-loop decreases-loop
 add-requires c κs =
-    let at-loop = c.before.before.before.before.before.before.before in
-    rw (part at-loop.loop.j (length (start at-loop).args.config.now)) (addable at-loop (omega arith) (pos 1) (omega arith))
+    let at_loop = c.before.before.before.before.before.before.before in
+    rw (part at_loop.loop.j (length (start at_loop).args.config.now)) (addable at_loop (omega arith) (pos 1) (omega arith))
 
 same_length : tie.Need-same-length invariant-loop decreases-loop
 same_length c = search rules
 
 returns : tie.Need-returns invariant-loop decreases-loop
 returns c =
-    let at-loop = c.before.before.before.before.before.before.before.before.before in
-    let s = start at-loop in
+    let at_loop = c.before.before.before.before.before.before.before.before.before in
+    let s = start at_loop in
     let m = length s.args.config.now in
-    let made : c.before.add.new.0 ≡ with-cycle at-loop.loop.config (pos 1) (row m s.args.cycles.now at-loop.loop.j) = rw (part at-loop.loop.j m) at c.before.add.ensures in
+    let made : c.before.add.new.0 ≡ with_cycle at_loop.loop.config (pos 1) (row m s.args.cycles.now at_loop.loop.j) = rw (part at_loop.loop.j m) at c.before.add.ensures in
     made
-    ∙ sym (step-here s.args.free.now (row m s.args.cycles.now) s.args.lambda s.args.n-free at-loop.loop.j at-loop.loop.config (omega arith)
+    ∙ sym (step_here s.args.free.now (row m s.args.cycles.now) s.args.lambda s.args.n_free at_loop.loop.j at_loop.loop.config (omega arith)
     (test c.before.before.before.before.before true c.before.before.before.before.if1.true))
-    ∙ at-loop.loop.invariant.4
+    ∙ at_loop.loop.invariant.4
 
 mul-add-3 : tie.Need-overflow-mul-add-3 invariant-loop decreases-loop
 mul-add-3 c = search rules
@@ -152,9 +152,9 @@ part-add-end-2 c = search rules
 
 add-requires-2 : tie.Need-add-requires-2 invariant-loop decreases-loop
 add-requires-2 c κs =
-    let at-loop = c.before.before.before.before.before.before.before in
-    let few : nat_abs (to_z w32 (of_z w32 at-loop.before.negative.result)) ≤ 2000 = rw at-loop.loop.invariant.2 (back-small (start at-loop).args.lambda (start at-loop).requires.0.truncation) in
-    rw (part at-loop.loop.j (length (start at-loop).args.config.now)) (addable at-loop (omega arith) _ (omega arith))
+    let at_loop = c.before.before.before.before.before.before.before in
+    let few : nat_abs (to_z w32 (of_z w32 at_loop.before.negative.result)) ≤ 2000 = rw at_loop.loop.invariant.2 (back_small (start at_loop).args.lambda (start at_loop).requires.0.truncation) in
+    rw (part at_loop.loop.j (length (start at_loop).args.config.now)) (addable at_loop (omega arith) _ (omega arith))
 
 add-j : tie.Need-overflow-add-j invariant-loop decreases-loop
 add-j c = search rules
@@ -164,28 +164,28 @@ loop-less c = search rules
 
 loop-again : tie.Need-loop-preserved invariant-loop decreases-loop
 loop-again c =
-    let at-loop = c.before.before.before.before.before.before.before.before.before in
-    let s = start at-loop in
+    let at_loop = c.before.before.before.before.before.before.before.before.before in
+    let s = start at_loop in
     let m = length s.args.config.now in
-    let j = at-loop.loop.j in
+    let j = at_loop.loop.j in
     let fit = s.pre.0 in
     let L = s.args.lambda in
     let z = row m s.args.cycles.now in
-    let inside : j < 63 = omega (arith, fit.free-few) in
-    let made : c.before.add2.new.0 ≡ with-cycle at-loop.loop.config (neg_ℤ (pos (2 * L))) (z j) = rw (part j m, at-loop.loop.invariant.2) at c.before.add2.ensures in (
+    let inside : j < 63 = omega (arith, fit.free_few) in
+    let made : c.before.add2.new.0 ≡ with_cycle at_loop.loop.config (neg_ℤ (pos (2 * L))) (z j) = rw (part j m, at_loop.loop.invariant.2) at c.before.add2.ensures in (
       refl,
-      at-loop.loop.invariant.1,
-      at-loop.loop.invariant.2,
-      c.before.add2.auto.0 ∙ at-loop.loop.invariant.3,
-      ap (stepped s.args.free.now z L (s.args.n-free - (j + 1)) (j + 1)) made
-          ∙ sym (step-on s.args.free.now z L s.args.n-free j at-loop.loop.config (omega arith) (test c.before.before.before.before.before false c.before.before.before.before.if1.false))
-          ∙ at-loop.loop.invariant.4,
+      at_loop.loop.invariant.1,
+      at_loop.loop.invariant.2,
+      c.before.add2.auto.0 ∙ at_loop.loop.invariant.3,
+      ap (stepped s.args.free.now z L (s.args.n_free - (j + 1)) (j + 1)) made
+          ∙ sym (step_on s.args.free.now z L s.args.n_free j at_loop.loop.config (omega arith) (test c.before.before.before.before.before false c.before.before.before.before.if1.false))
+          ∙ at_loop.loop.invariant.4,
       λ e.
           rw made
           (omega (
             arith,
-            added-small at-loop.loop.config (neg_ℤ (pos (2 * L))) (z j) (2 ^ 20 + j * 2000) 2000 (cycle-long m s.args.n-free L s.args.cycles.now fit j inside ∙ sym at-loop.loop.invariant.3)
-                at-loop.loop.invariant.5 (back-small L fit.truncation) (cycle-signs m s.args.n-free L s.args.cycles.now fit j inside) e,
+            added_small at_loop.loop.config (neg_ℤ (pos (2 * L))) (z j) (2 ^ 20 + j * 2000) 2000 (cycle_long m s.args.n_free L s.args.cycles.now fit j inside ∙ sym at_loop.loop.invariant.3)
+                at_loop.loop.invariant.5 (back_small L fit.truncation) (cycle_signs m s.args.n_free L s.args.cycles.now fit j inside) e,
           )),
     )
 
@@ -194,10 +194,10 @@ same-length-2 c = search rules
 
 returns-2 : tie.Need-returns-2 invariant-loop decreases-loop
 returns-2 c =
-    let at-loop = c.before in
-    let s = start at-loop in
-    sym (step_end s.args.free.now (row (length s.args.config.now) s.args.cycles.now) s.args.lambda s.args.n-free at-loop.loop.j at-loop.loop.config (omega arith))
-    ∙ at-loop.loop.invariant.4
+    let at_loop = c.before in
+    let s = start at_loop in
+    sym (step_end s.args.free.now (row (length s.args.config.now) s.args.cycles.now) s.args.lambda s.args.n_free at_loop.loop.j at_loop.loop.config (omega arith))
+    ∙ at_loop.loop.invariant.4
 
 pub step_spec : {M : Type 1} → statement M
 step_spec =
@@ -205,7 +205,7 @@ step_spec =
     (tie.spec
     invariant-loop
     decreases-loop
-    usize-to-i32-requires
+    usize_to_i32-requires
     mul-negative
     negative-requires
     loop-holds

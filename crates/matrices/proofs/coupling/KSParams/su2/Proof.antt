@@ -2,14 +2,14 @@ use borrow.Author.Rules.{rules}
 use Rattle.matrices.proofs.coupling.KSParams.su2.Statement.{statement}
 use Rattle.matrices.proofs.coupling.KSParams.su2.Tie as tie
 
-su2-params-requires : tie.Need-su2-params-requires
-su2-params-requires c κs = search rules
+su2_params-requires : tie.Need-su2_params-requires
+su2_params-requires c κs = search rules
 
 checked-requires : tie.Need-checked-requires
 checked-requires c κs = search rules
 
 returns : tie.Need-returns
-returns c = rw c.before.su2-params.ensures at c.checked.ensures
+returns c = rw c.before.su2_params.ensures at c.checked.ensures
 
-pub su2-spec : {M : Type 1} → statement M
-su2-spec = tie.close (tie.spec su2-params-requires checked-requires returns)
+pub su2_spec : {M : Type 1} → statement M
+su2_spec = tie.close (tie.spec su2_params-requires checked-requires returns)
