@@ -1,7 +1,7 @@
 // What a call answers that tells an expectation.
 
 // The expectation, or the refusal.
-#[derive(Drop)]
+#[derive(Clone, Copy)]
 pub enum Expectation {
     Value(f64),
     Refused(u8),

@@ -3,7 +3,7 @@
 pub mod expectation;
 
 // The number, or the refusal.
-#[derive(Drop)]
+#[derive(Clone, Copy)]
 pub enum Answer {
     Number(usize),
     Refused(u8),

@@ -10,7 +10,7 @@ use refusals::refusal_text;
 use streams::{Input, read_input, write_output};
 
 // How a run came out. The launcher makes its exit status of it.
-#[derive(Drop)]
+#[derive(Clone, Copy)]
 enum Status {
     Answered,
     Refused,

@@ -5,7 +5,7 @@ pub mod search;
 
 use numbers::sizes::{EDGE_ENTRIES, TRIANGLE_ENTRIES};
 
-#[derive(Drop)]
+#[derive(Clone, Copy)]
 pub struct SimplicialComplex {
     pub n_vertices: usize,
     pub n_edges: usize,

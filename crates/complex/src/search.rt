@@ -11,7 +11,7 @@ use numbers::sizes::{EDGE_ENTRIES, MOST_EDGES, MOST_VERTICES};
 
 // How far a search is: the found + 1 vertices seen stand first in the queue, tree_edges[i] led to queue[i + 1], and visited[v] is 1
 // where v was seen.
-#[derive(Drop)]
+#[derive(Clone, Copy)]
 pub struct SpanningTree {
     pub queue: [u8; MOST_VERTICES],
     pub found: usize,

@@ -14,7 +14,7 @@ use walker::steps::step;
 
 // Beside the assignment of a block: the state is that with the first cycle added d times, the states of the block end before `to`,
 // left is the number of blocks from this one on, 0 behind the last state, and number the place of the state in the list.
-#[derive(Drop)]
+#[derive(Clone, Copy)]
 pub struct Cursor {
     pub left: usize,
     pub d: usize,

@@ -74,7 +74,7 @@ pub fn too_short(w: Walker, lambda: usize, blocks: usize, room: usize) -> bool
 }
 
 // What walks the basis of a record, or the refusal, which is not 0.
-#[derive(Drop)]
+#[derive(Clone, Copy)]
 pub struct Prepared {
     pub refusal: u8,
     pub blocks: usize,

@@ -13,7 +13,7 @@ use matrices::coupling::Coupling;
 use sheet::{Reading, Sheet, read_sheet};
 
 // A value, or the refusal, which is not 0.
-#[derive(Drop)]
+#[derive(Clone, Copy)]
 pub struct Told {
     pub refusal: u8,
     pub value: usize,
@@ -70,7 +70,7 @@ pub fn refusal(answer: Reading) -> u8
 }
 
 // A sheet that was read, or its refusal.
-#[derive(Drop)]
+#[derive(Clone, Copy)]
 pub struct Opened {
     pub refusal: u8,
     pub sheet: Sheet,

@@ -13,7 +13,7 @@ use numbers::sizes::MOST_EDGES;
 use numbers::{byte, u8_to_u32};
 
 // The count free edges stand first in the list, by rising number.
-#[derive(Drop)]
+#[derive(Clone, Copy)]
 pub struct FreeEdges {
     pub list: [u8; MOST_EDGES],
     pub count: usize,

@@ -35,7 +35,7 @@ pub fn judge_lists(starts: &[u32], columns: &[u32], values: &[f64]) -> Product
 }
 
 // The three lists of a matrix, as lent. Each method takes the record apart and hands over to a function on plain lists.
-#[derive(Drop)]
+#[derive(Clone, Copy)]
 pub struct RowLists<'s, 'c, 'v> {
     pub starts: &'s [u32],
     pub columns: &'c [u32],

@@ -56,7 +56,7 @@ pub fn list_and_find(
 }
 
 // NotInBasis is 17.
-#[derive(Drop)]
+#[derive(Clone, Copy)]
 pub enum Index {
     Place(usize),
     NotInBasis,

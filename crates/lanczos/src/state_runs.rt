@@ -14,7 +14,7 @@ use plaquettes::target::Sizes;
 use triangles::Sides;
 
 // The edges on which a cycle is not 0.
-#[derive(Drop)]
+#[derive(Clone, Copy)]
 pub struct CycleEdges {
     pub edges: [u8; MOST_EDGES],
     pub count: usize,
@@ -138,7 +138,7 @@ fn run_length(
 }
 
 // A run of states and the run of their targets.
-#[derive(Drop)]
+#[derive(Clone, Copy)]
 pub struct Run {
     pub from: usize,
     pub to: usize,

@@ -49,7 +49,7 @@ fn gauss_sums(
 }
 
 // A vertex whose Gauss sum is not its charge, and that sum.
-#[derive(Drop)]
+#[derive(Clone, Copy)]
 pub struct Finding {
     pub found: bool,
     pub vertex: usize,
@@ -94,7 +94,7 @@ pub fn find_unlawful(c: SimplicialComplex, configuration: &[i32]) -> Finding
     first_unlawful(&sums, c.n_vertices)
 }
 
-#[derive(Drop)]
+#[derive(Clone, Copy)]
 pub enum GaussCheck {
     Answer(bool),
     Refused(u8),

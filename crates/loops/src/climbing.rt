@@ -11,7 +11,7 @@ use numbers::sizes::{EDGE_ENTRIES, MOST_VERTICES};
 use numbers::{byte, edge_end, edge_start};
 
 // By vertex: its place in the order found, and the edge that led to it.
-#[derive(Drop)]
+#[derive(Clone, Copy)]
 pub struct TreeParents {
     pub place: [u8; MOST_VERTICES],
     pub led: [u8; MOST_VERTICES],

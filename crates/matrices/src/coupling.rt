@@ -3,14 +3,14 @@ ghost use Rattle.std.specs.Prelude.{◌≡◌};
 ghost use Rattle.mathematics.specs.Calls.{Answered, none_lent};
 ghost use Rattle.matrices.specs.Coupling.{coupling_right, u1_params, su2_params, coupling_answer, coupling_call, params_right, u1_right, su2_right};
 
-#[derive(Drop)]
+#[derive(Clone, Copy)]
 pub struct KSParams {
     pub g_squared: f64,
     pub electric: f64,
     pub magnetic: f64,
 }
 
-#[derive(Drop)]
+#[derive(Clone, Copy)]
 pub enum Coupling {
     Params(KSParams),
     Refused(u8),

@@ -9,7 +9,7 @@ ghost use Rattle.matvec.specs.Product.{row_sum, product, never_falls, starts_rig
 
 use matrices::weights::all_bounded;
 
-#[derive(Drop)]
+#[derive(Clone, Copy)]
 pub enum Product {
     Rows(usize),
     Refused(u8),

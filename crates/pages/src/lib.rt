@@ -23,7 +23,7 @@ use states::write_lines;
 use walker::tables::{Walker, prepare};
 
 // Where the text goes on: at the state of a cursor.
-#[derive(Drop)]
+#[derive(Clone, Copy)]
 pub struct Page {
     pub lambda: usize,
     pub walker: Walker,
@@ -32,7 +32,7 @@ pub struct Page {
 }
 
 // The first len bytes of the list are the next of the text; whether more is to come, and where it goes on.
-#[derive(Drop)]
+#[derive(Clone, Copy)]
 pub struct Filled {
     pub len: usize,
     pub more: bool,
@@ -40,7 +40,7 @@ pub struct Filled {
 }
 
 // The first piece, and the number of the refusal, 0 where there is none.
-#[derive(Drop)]
+#[derive(Clone, Copy)]
 pub struct Begun {
     pub refusal: usize,
     pub filled: Filled,

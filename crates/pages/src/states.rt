@@ -9,7 +9,7 @@ use numbers::sizes::MOST_EDGES;
 use walker::row::fill_row;
 
 // How long they are, and where the cursor stands after them.
-#[derive(Drop)]
+#[derive(Clone, Copy)]
 pub struct Lines {
     pub len: usize,
     pub cursor: Cursor,

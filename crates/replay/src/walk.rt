@@ -7,7 +7,7 @@ use crate::compare::case_same;
 use recorded_fields::case::{FIELDS, byte_at, place};
 
 // How many cases there are and how many differ, or where a case or the end of the list is not what the format says.
-#[derive(Drop)]
+#[derive(Clone, Copy)]
 pub enum Replayed {
     Cases { cases: usize, differ: usize },
     Malformed(usize),

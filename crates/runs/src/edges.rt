@@ -12,7 +12,7 @@ use walker::blocks::{Span, is_zero, narrow, within};
 use walker::steps::plus_times;
 
 // The first count entries are numbers of edges.
-#[derive(Drop)]
+#[derive(Clone, Copy)]
 pub struct EdgeList {
     pub list: [u8; MOST_EDGES],
     pub count: usize,

@@ -15,20 +15,20 @@ use numbers::byte;
 use numbers::sizes::{EDGE_ENTRIES, LARGEST_TRUNCATION, SHEET_HEADER, TRIANGLE_ENTRIES};
 
 // A complex and its truncation.
-#[derive(Drop)]
+#[derive(Clone, Copy)]
 pub struct Sheet {
     pub complex: SimplicialComplex,
     pub lambda: usize,
 }
 
-#[derive(Drop)]
+#[derive(Clone, Copy)]
 pub enum Reading {
     Accepted,
     Refused(u8),
 }
 
 // What reading a sheet gives: where it is refused, the sheet beside the refusal is all zeros.
-#[derive(Drop)]
+#[derive(Clone, Copy)]
 pub struct SheetRead {
     pub answer: Reading,
     pub sheet: Sheet,

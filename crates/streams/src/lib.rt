@@ -8,7 +8,7 @@ use numbers::smaller;
 const TRIES: usize = 1000000;
 
 // How many bytes were moved, how many tries are left, whether it goes on, and whether a call failed; errno then says why.
-#[derive(Drop)]
+#[derive(Clone, Copy)]
 pub struct Moving {
     pub n: usize,
     pub tries: usize,
@@ -59,7 +59,7 @@ fn after(m: Moving, moved: usize, failed: bool) -> Moving
 }
 
 // How many bytes were read, or that reading failed; errno then says why.
-#[derive(Drop)]
+#[derive(Clone, Copy)]
 pub enum Input {
     Bytes(usize),
     Unread,

@@ -11,7 +11,7 @@ use numbers::sizes::{MOST_EDGES, MOST_VERTICES};
 use numbers::{edge_end, edge_start};
 
 // The part of each vertex, named after one vertex of it, the edges on the way there, and the first count closing edges and loops.
-#[derive(Drop)]
+#[derive(Clone, Copy)]
 pub struct Forest {
     pub part: [u8; MOST_VERTICES],
     pub path: [u64; MOST_VERTICES],

@@ -12,7 +12,7 @@ use complex::SimplicialComplex;
 use numbers::byte;
 
 // The numbers of the edges (a, b), (a, c) and (b, c) of a triangle (a, b, c).
-#[derive(Drop)]
+#[derive(Clone, Copy)]
 pub struct Sides {
     pub first: usize,
     pub second: usize,
@@ -88,7 +88,7 @@ pub fn sides_at(all: &[u8; 768], t: usize) -> Sides
     }
 }
 
-#[derive(Drop)]
+#[derive(Clone, Copy)]
 pub enum TriEdgeIndices {
     Indices(usize, usize, usize),
     Refused(u8),

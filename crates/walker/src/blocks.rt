@@ -20,7 +20,7 @@ pub fn width(n_free: usize, lambda: usize) -> usize
 }
 
 // The numbers from one to before another.
-#[derive(Drop)]
+#[derive(Clone, Copy)]
 pub struct Span {
     pub from: usize,
     pub to: usize,

@@ -12,7 +12,7 @@ use gauss_law::spanning::free_edges;
 use numbers::sizes::MOST_EDGES;
 
 // The first n_free entries of free are the free edges; row j of cycles is the cycle of the j-th; first begins with the first candidate.
-#[derive(Drop)]
+#[derive(Clone, Copy)]
 pub struct Walker {
     pub n_edges: usize,
     pub n_free: usize,
