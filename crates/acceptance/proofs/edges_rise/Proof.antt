@@ -12,40 +12,40 @@ use Rattle.acceptance.proofs.edges_rise.Reads as reads
 use Rattle.acceptance.proofs.edges_rise.Lts as lts
 use Rattle.acceptance.proofs.edge_rises.Reads as edge-rises-reads
 
-abbrev invariant-loop : tie.invariant-loop
-invariant-loop edges n m so-far₀ e₀ so_far e = (e ≤ m) × (so_far ≡ every_entry (rising n) (simplices 2 edges e))
+abbrev invariant-loop-e : tie.invariant-loop-e
+invariant-loop-e edges n m so_far₀ e₀ so_far e = (e ≤ m) × (so_far ≡ every_entry (rising n) (simplices 2 edges e))
 
-abbrev decreases-loop : tie.decreases-loop
-decreases-loop edges n m so-far₀ e₀ so_far e = m - e
+abbrev decreases-loop-e : tie.decreases-loop-e
+decreases-loop-e edges n m so_far₀ e₀ so_far e = m - e
 
 -- src/judge.rt:37:5
-loop-holds : tie.Need-loop-init invariant-loop decreases-loop
+loop-e-init : tie.Need-loop-e-init invariant-loop-e decreases-loop-e
 unfolding every_entry simplices
-loop-holds c = (omega arith, refl)
+loop-e-init c = (omega arith, refl)
 
 -- src/judge.rt:38:27
-edge_rises-requires : tie.Need-edge_rises-requires invariant-loop decreases-loop
-edge_rises-requires c κs = search rules
+edge_rises-so_far-requires : tie.Need-edge_rises-so_far-requires invariant-loop-e decreases-loop-e
+edge_rises-so_far-requires c κs = search rules
 
 -- src/judge.rt:37:9
-add-e : tie.Need-overflow-add-e invariant-loop decreases-loop
-add-e c = search rules
+overflow_step-e : tie.Need-overflow_step-e invariant-loop-e decreases-loop-e
+overflow_step-e c = search rules
 
 -- src/judge.rt:37:5
-loop-less : tie.Need-loop-smaller invariant-loop decreases-loop
-loop-less c = search rules
+loop-e-smaller : tie.Need-loop-e-smaller invariant-loop-e decreases-loop-e
+loop-e-smaller c = search rules
 
 -- src/judge.rt:37:5
-loop-again : tie.Need-loop-preserved invariant-loop decreases-loop
-loop-again c = (omega arith, rw (all_next, ← c.before.before.loop.invariant.1, ← c.edge_rises.ensures))
+loop-e-preserved : tie.Need-loop-e-preserved invariant-loop-e decreases-loop-e
+loop-e-preserved c = (omega arith, rw (all_next, ← c.before.before.loop-e.invariant.1, ← c.edge_rises-so_far.ensures))
 
 -- src/judge.rt:32:1
-returns : tie.Need-returns invariant-loop decreases-loop
+returns : tie.Need-returns invariant-loop-e decreases-loop-e
 returns c =
-    let past : c.before.loop.e ≡ c.before.before.args.m = omega arith in
-    rw past at c.before.loop.invariant.1
+    let past : c.before.loop-e.e ≡ c.before.before.args.m = omega arith in
+    rw past at c.before.loop-e.invariant.1
 
 pub edges_rise_spec : {M : Type 1} → statement M
 edges_rise_spec =
     tie.close
-    (tie.spec invariant-loop decreases-loop loop-holds edge_rises-requires add-e loop-less loop-again returns)
+    (tie.spec invariant-loop-e decreases-loop-e loop-e-init edge_rises-so_far-requires overflow_step-e loop-e-smaller loop-e-preserved returns)

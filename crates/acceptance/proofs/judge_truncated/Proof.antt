@@ -8,20 +8,20 @@ use Rattle.acceptance.proofs.judge_truncated.Lts as lts
 use Rattle.acceptance.proofs.judge.Reads as judge-reads
 
 -- src/judge.rt:176:9
-judge-requires : tie.Need-judge-requires
-judge-requires c κs = search rules
+judge-number-requires : tie.Need-judge-number-requires
+judge-number-requires c κs = search rules
 
 -- src/judge.rt:178:9
-returns : tie.Need-returns
-returns c = rw (with_truncation, ← c.before.judge.ensures, eq-eqb _ _ c.if1.true)
+returns-then-number-eq4 : tie.Need-returns-then-number-eq4
+returns-then-number-eq4 c = rw (with_truncation, ← c.before.judge-number.ensures, eq-eqb _ _ c.if-number-eq4.true)
 
 -- src/judge.rt:181:9
-returns-2 : tie.Need-returns-2
-returns-2 c = rw (with_truncation, ← c.before.before.judge.ensures, ne_eqb _ _ c.before.if1.false, lt-ltb _ _ c.if2.true)
+returns-then-lambda-gt-LARGEST_TRUNCATION : tie.Need-returns-then-lambda-gt-LARGEST_TRUNCATION
+returns-then-lambda-gt-LARGEST_TRUNCATION c = rw (with_truncation, ← c.before.before.judge-number.ensures, ne_eqb _ _ c.before.if-number-eq4.false, lt-ltb _ _ c.if-lambda-gt-LARGEST_TRUNCATION.true)
 
 -- src/judge.rt:173:1
-returns-3 : tie.Need-returns-3
-returns-3 c = rw (with_truncation, ← c.before.before.judge.ensures, ne_eqb _ _ c.before.if1.false, le-ltb _ _ c.if2.false)
+returns : tie.Need-returns
+returns c = rw (with_truncation, ← c.before.before.judge-number.ensures, ne_eqb _ _ c.before.if-number-eq4.false, le-ltb _ _ c.if-lambda-gt-LARGEST_TRUNCATION.false)
 
 pub judge_truncated_spec : {M : Type 1} → statement M
-judge_truncated_spec = tie.close (tie.spec judge-requires returns returns-2 returns-3)
+judge_truncated_spec = tie.close (tie.spec judge-number-requires returns-then-number-eq4 returns-then-lambda-gt-LARGEST_TRUNCATION returns)

@@ -10,39 +10,39 @@ use Rattle.acceptance.proofs.mark.Reads as reads
 use Rattle.acceptance.proofs.mark.Lts as lts
 
 -- src/lib.rt:128:15
-mul-old : tie.Need-overflow-mul-old
-mul-old c = search rules
+offset_bounds-seen-i : tie.Need-offset_bounds-seen-i
+offset_bounds-seen-i c = search rules
 
 -- src/lib.rt:128:15
-element-copy-out-old : tie.Need-element-copy-out-old
-element-copy-out-old c = search rules
+bounds-seen-i : tie.Need-bounds-seen-i
+bounds-seen-i c = search rules
 
 -- src/lib.rt:129:22
-shl-seen : tie.Need-overflow-shl-seen
-shl-seen c = search rules
+overflow_shl-seen : tie.Need-overflow_shl-seen
+overflow_shl-seen c = search rules
 
 -- src/lib.rt:129:5
-mul-seen : tie.Need-overflow-mul-seen
-mul-seen c = search rules
+offset_bounds-seen-i-2 : tie.Need-offset_bounds-seen-i-2
+offset_bounds-seen-i-2 c = search rules
 
 -- src/lib.rt:129:5
-element-write-seen : tie.Need-element-write-seen
-element-write-seen c = search rules
+bounds-seen-i-2 : tie.Need-bounds-seen-i-2
+bounds-seen-i-2 c = search rules
 
 -- src/lib.rt:130:16
-shr-result : tie.Need-overflow-shr-result
-shr-result c = search rules
+overflow_shr-result : tie.Need-overflow_shr-result
+overflow_shr-result c = search rules
 
 -- src/lib.rt:122:1
 returns : tie.Need-returns
 returns c =
-    let a = c.before.args in
+    let a = c.before.before.args in
     let k = a.key in
     let word = get_or a.seen.now (k / 64) 0 in
     λ keys m.
-    rw (power_shifted (k % 64) (omega arith), ← bit_shifted word (k % 64)) (marked_next a.seen.now keys a.so_far k c.before.requires m)
+    rw (power_shifted (k % 64) (omega arith), ← bit_shifted word (k % 64)) (marked_next a.seen.now keys a.so_far k c.before.before.requires m)
 
 pub mark_spec : {M : Type 1} → statement M
 mark_spec =
     tie.close
-    (tie.spec mul-old element-copy-out-old shl-seen mul-seen element-write-seen shr-result returns)
+    (tie.spec offset_bounds-seen-i bounds-seen-i overflow_shl-seen offset_bounds-seen-i-2 bounds-seen-i-2 overflow_shr-result returns)

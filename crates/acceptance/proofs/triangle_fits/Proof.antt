@@ -3,54 +3,54 @@ use borrow.Author.Rules.{rules}
 use Rattle.acceptance.proofs.triangle_fits.Statement.{statement}
 use Rattle.acceptance.proofs.triangle_fits.Tie as tie
 
-mul-byte : tie.Need-overflow-mul-byte
-mul-byte c = search rules
+overflow_mul-t : tie.Need-overflow_mul-t
+overflow_mul-t c = search rules
 
-element-copy-out-byte : tie.Need-element-copy-out-byte
-element-copy-out-byte c = search rules
+bounds-triangles-t : tie.Need-bounds-triangles-t
+bounds-triangles-t c = search rules
 
-byte-requires : tie.Need-byte-requires
-byte-requires c κs = search rules
+byte-a-requires : tie.Need-byte-a-requires
+byte-a-requires c κs = search rules
 
-mul-byte-2 : tie.Need-overflow-mul-byte-2
-mul-byte-2 c = search rules
+overflow_mul-t-2 : tie.Need-overflow_mul-t-2
+overflow_mul-t-2 c = search rules
 
-add-byte : tie.Need-overflow-add-byte
-add-byte c = search rules
+overflow_add-t : tie.Need-overflow_add-t
+overflow_add-t c = search rules
 
-element-copy-out-byte-2 : tie.Need-element-copy-out-byte-2
-element-copy-out-byte-2 c = search rules
+bounds-triangles-t-2 : tie.Need-bounds-triangles-t-2
+bounds-triangles-t-2 c = search rules
 
-byte-requires-2 : tie.Need-byte-requires-2
-byte-requires-2 c κs = search rules
+byte-b-requires : tie.Need-byte-b-requires
+byte-b-requires c κs = search rules
 
-mul-byte-3 : tie.Need-overflow-mul-byte-3
-mul-byte-3 c = search rules
+overflow_mul-t-3 : tie.Need-overflow_mul-t-3
+overflow_mul-t-3 c = search rules
 
-add-byte-2 : tie.Need-overflow-add-byte-2
-add-byte-2 c = search rules
+overflow_add-t-2 : tie.Need-overflow_add-t-2
+overflow_add-t-2 c = search rules
 
-element-copy-out-byte-3 : tie.Need-element-copy-out-byte-3
-element-copy-out-byte-3 c = search rules
+bounds-triangles-t-3 : tie.Need-bounds-triangles-t-3
+bounds-triangles-t-3 c = search rules
 
-byte-requires-3 : tie.Need-byte-requires-3
-byte-requires-3 c κs = search rules
+byte-c-requires : tie.Need-byte-c-requires
+byte-c-requires c κs = search rules
 
-returns : tie.Need-returns
-returns c =
+returns-then-b-a : tie.Need-returns-then-b-a
+returns-then-b-a c =
     let b = c.before in
-    let s = c.before.before.before.before.before.before.before in
-    λ es i. first_falls _ _ _ _ _ b.before.before.before.before.byte.ensures b.before.before.byte2.ensures b.byte3.ensures _ es c.if1.true
+    let s = c.before.before.before.before.before.before.before.before in
+    λ es i. first_falls _ _ _ _ _ b.before.before.before.before.byte-a.ensures b.before.before.byte-b.ensures b.byte-c.ensures _ es c.if-b-a.true
 
-returns-2 : tie.Need-returns-2
-returns-2 c =
+returns-then-c-b : tie.Need-returns-then-c-b
+returns-then-c-b c =
     let b = c.before.before in
-    λ es i. second_falls _ _ _ _ _ b.before.before.before.before.byte.ensures b.before.before.byte2.ensures b.byte3.ensures _ es c.before.if1.false c.if2.true
+    λ es i. second_falls _ _ _ _ _ b.before.before.before.before.byte-a.ensures b.before.before.byte-b.ensures b.byte-c.ensures _ es c.before.if-b-a.false c.if-c-b.true
 
-returns-3 : tie.Need-returns-3
-returns-3 c =
+returns-then-n-c : tie.Need-returns-then-n-c
+returns-then-n-c c =
     let b = c.before.before.before in
-    λ es i. third_past _ _ _ _ _ b.before.before.before.before.byte.ensures b.before.before.byte2.ensures b.byte3.ensures _ es c.before.before.if1.false c.before.if2.false c.if3.true
+    λ es i. third_past _ _ _ _ _ b.before.before.before.before.byte-a.ensures b.before.before.byte-b.ensures b.byte-c.ensures _ es c.before.before.if-b-a.false c.before.if-c-b.false c.if-n-c.true
 
 edge_number-requires : tie.Need-edge_number-requires
 edge_number-requires c κs = search rules
@@ -61,34 +61,16 @@ edge_number-requires-2 c κs = search rules
 edge_number-requires-3 : tie.Need-edge_number-requires-3
 edge_number-requires-3 c κs = search rules
 
-returns-4 : tie.Need-returns-4
-returns-4 c =
+returns : tie.Need-returns
+returns c =
     let e = c.before.before.before in
     let b = e.before.before.before in
-    let s = b.before.before.before.before.before.before in
+    let s = b.before.before.before.before.before.before.before in
     λ es i.
-    rw (c.before.before.edge_number.ensures, c.before.edge-number2.ensures, c.edge-number3.ensures)
-    (sides_found _ _ _ _ _ b.before.before.before.before.byte.ensures b.before.before.byte2.ensures b.byte3.ensures _ es e.before.before.if1.false e.before.if2.false e.if3.false s.requires.1 _ i)
+    rw (c.before.before.edge_number.ensures, c.before.edge_number-2.ensures, c.edge_number-3.ensures)
+    (sides_found _ _ _ _ _ b.before.before.before.before.byte-a.ensures b.before.before.byte-b.ensures b.byte-c.ensures _ es e.before.before.if-b-a.false e.before.if-c-b.false e.if-n-c.false s.requires.1 _ i)
 
 pub triangle_fits_spec : {M : Type 1} → statement M
 triangle_fits_spec =
     tie.close
-    (tie.spec
-    mul-byte
-    element-copy-out-byte
-    byte-requires
-    mul-byte-2
-    add-byte
-    element-copy-out-byte-2
-    byte-requires-2
-    mul-byte-3
-    add-byte-2
-    element-copy-out-byte-3
-    byte-requires-3
-    returns
-    returns-2
-    returns-3
-    edge_number-requires
-    edge_number-requires-2
-    edge_number-requires-3
-    returns-4)
+    (tie.spec overflow_mul-t bounds-triangles-t byte-a-requires overflow_mul-t-2 overflow_add-t bounds-triangles-t-2 byte-b-requires overflow_mul-t-3 overflow_add-t-2 bounds-triangles-t-3 byte-c-requires returns-then-b-a returns-then-c-b returns-then-n-c edge_number-requires edge_number-requires-2 edge_number-requires-3 returns)

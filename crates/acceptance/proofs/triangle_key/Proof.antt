@@ -5,89 +5,73 @@ use borrow.Author.Rules.{rules}
 use Rattle.acceptance.proofs.triangle_key.Statement.{statement}
 use Rattle.acceptance.proofs.triangle_key.Tie as tie
 
-mul-byte : tie.Need-overflow-mul-byte
-mul-byte c = search rules
+overflow_mul-t : tie.Need-overflow_mul-t
+overflow_mul-t c = search rules
 
-element-copy-out-byte : tie.Need-element-copy-out-byte
-element-copy-out-byte c = search rules
+bounds-triangles-t : tie.Need-bounds-triangles-t
+bounds-triangles-t c = search rules
 
-byte-requires : tie.Need-byte-requires
-byte-requires c κs = search rules
+byte-a-requires : tie.Need-byte-a-requires
+byte-a-requires c κs = search rules
 
-mul-byte-2 : tie.Need-overflow-mul-byte-2
-mul-byte-2 c = search rules
+overflow_mul-t-2 : tie.Need-overflow_mul-t-2
+overflow_mul-t-2 c = search rules
 
-add-byte : tie.Need-overflow-add-byte
-add-byte c = search rules
+overflow_add-t : tie.Need-overflow_add-t
+overflow_add-t c = search rules
 
-element-copy-out-byte-2 : tie.Need-element-copy-out-byte-2
-element-copy-out-byte-2 c = search rules
+bounds-triangles-t-2 : tie.Need-bounds-triangles-t-2
+bounds-triangles-t-2 c = search rules
 
-byte-requires-2 : tie.Need-byte-requires-2
-byte-requires-2 c κs = search rules
+byte-b-requires : tie.Need-byte-b-requires
+byte-b-requires c κs = search rules
 
-mul-byte-3 : tie.Need-overflow-mul-byte-3
-mul-byte-3 c = search rules
+overflow_mul-t-3 : tie.Need-overflow_mul-t-3
+overflow_mul-t-3 c = search rules
 
-add-byte-2 : tie.Need-overflow-add-byte-2
-add-byte-2 c = search rules
+overflow_add-t-2 : tie.Need-overflow_add-t-2
+overflow_add-t-2 c = search rules
 
-element-copy-out-byte-3 : tie.Need-element-copy-out-byte-3
-element-copy-out-byte-3 c = search rules
+bounds-triangles-t-3 : tie.Need-bounds-triangles-t-3
+bounds-triangles-t-3 c = search rules
 
-byte-requires-3 : tie.Need-byte-requires-3
-byte-requires-3 c κs = search rules
+byte-c-requires : tie.Need-byte-c-requires
+byte-c-requires c κs = search rules
 
 -- the three vertices are below 64
-known_at : (c : tie.After-byte3) → (c.before.before.before.before.byte.result < 64) × (c.before.before.byte2.result < 64) × (c.byte3.result < 64)
+known_at : (c : tie.After-byte-c) → (c.before.before.before.before.byte-a.result < 64) × (c.before.before.byte-b.result < 64) × (c.byte-c.result < 64)
 known_at c =
-    let s = c.before.before.before.before.before.before in
-    known_first s.args.triangles.now s.args.t c.before.before.before.before.byte.result c.before.before.byte2.result c.byte3.result c.before.before.before.before.byte.ensures c.before.before.byte2.ensures c.byte3.ensures s.args.table.now s.requires.1
+    let s = c.before.before.before.before.before.before.before in
+    known_first s.args.triangles.now s.args.t c.before.before.before.before.byte-a.result c.before.before.byte-b.result c.byte-c.result c.before.before.before.before.byte-a.ensures c.before.before.byte-b.ensures c.byte-c.ensures s.args.table.now s.requires.1
 
 number_at : (c : tie.After-edge_number) → (1 ≤ c.edge_number.result) × (c.edge_number.result ≤ 64)
 number_at c =
     let b = c.before in
-    let s = c.before.before.before.before.before.before.before in
+    let s = c.before.before.before.before.before.before.before.before in
     rw c.edge_number.ensures
-    (known_number s.args.triangles.now s.args.t b.before.before.before.before.byte.result b.before.before.byte2.result b.byte3.result b.before.before.before.before.byte.ensures b.before.before.byte2.ensures b.byte3.ensures s.args.table.now s.requires.1)
+    (known_number s.args.triangles.now s.args.t b.before.before.before.before.byte-a.result b.before.before.byte-b.result b.byte-c.result b.before.before.before.before.byte-a.ensures b.before.before.byte-b.ensures b.byte-c.ensures s.args.table.now s.requires.1)
 
 edge_number-requires : tie.Need-edge_number-requires
 edge_number-requires c κs =
     let bytes = known_at c in
     (bytes.0, bytes.1)
 
-sub-result : tie.Need-overflow-sub-result
-sub-result c = omega (arith, number_at c)
+overflow_sub-result : tie.Need-overflow_sub-result
+overflow_sub-result c = omega (arith, number_at c)
 
-mul-result : tie.Need-overflow-mul-result
-mul-result c = omega (arith, number_at c)
+overflow_mul-result : tie.Need-overflow_mul-result
+overflow_mul-result c = omega (arith, number_at c)
 
-add-result : tie.Need-overflow-add-result
-add-result c = omega (arith, number_at c, known_at c.before)
+overflow_add-result : tie.Need-overflow_add-result
+overflow_add-result c = omega (arith, number_at c, known_at c.before)
 
 returns : tie.Need-returns
 returns c =
     let b = c.before in
-    let s = c.before.before.before.before.before.before.before in
-    (rw c.edge_number.ensures (key_is s.args.triangles.now s.args.t b.before.before.before.before.byte.result b.before.before.byte2.result b.byte3.result b.before.before.before.before.byte.ensures b.before.before.byte2.ensures b.byte3.ensures s.args.table.now s.requires.1), omega (arith, number_at c, known_at c.before))
+    let s = c.before.before.before.before.before.before.before.before in
+    (rw c.edge_number.ensures (key_is s.args.triangles.now s.args.t b.before.before.before.before.byte-a.result b.before.before.byte-b.result b.byte-c.result b.before.before.before.before.byte-a.ensures b.before.before.byte-b.ensures b.byte-c.ensures s.args.table.now s.requires.1), omega (arith, number_at c, known_at c.before))
 
 pub triangle_key_spec : {M : Type 1} → statement M
 triangle_key_spec =
     tie.close
-    (tie.spec
-    mul-byte
-    element-copy-out-byte
-    byte-requires
-    mul-byte-2
-    add-byte
-    element-copy-out-byte-2
-    byte-requires-2
-    mul-byte-3
-    add-byte-2
-    element-copy-out-byte-3
-    byte-requires-3
-    edge_number-requires
-    sub-result
-    mul-result
-    add-result
-    returns)
+    (tie.spec overflow_mul-t bounds-triangles-t byte-a-requires overflow_mul-t-2 overflow_add-t bounds-triangles-t-2 byte-b-requires overflow_mul-t-3 overflow_add-t-2 bounds-triangles-t-3 byte-c-requires edge_number-requires overflow_sub-result overflow_mul-result overflow_add-result returns)

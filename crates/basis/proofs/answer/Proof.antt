@@ -19,20 +19,20 @@ unfolding status_of
 refused zero h = absurd (h refl)
 refused (suc n) h = refl
 
-buffer-requires : tie.Need-buffer-requires
-buffer-requires c κs = search rules
+buffer-out-requires : tie.Need-buffer-out-requires
+buffer-out-requires c κs = search rules
 
-slice-aggregate-fill-begin : tie.Need-slice-aggregate-fill-begin
-slice-aggregate-fill-begin c = search rules
+slice_bounds-fill_begin-end : tie.Need-slice_bounds-fill_begin-end
+slice_bounds-fill_begin-end c = search rules
 
-fill_begin-requires : tie.Need-fill_begin-requires
-fill_begin-requires c κs = search rules
+fill_begin-begun-requires : tie.Need-fill_begin-begun-requires
+fill_begin-begun-requires c κs = search rules
 
-slice-aggregate-print : tie.Need-slice-aggregate-print
-slice-aggregate-print c = search rules
+slice_bounds-print-end : tie.Need-slice_bounds-print-end
+slice_bounds-print-end c = search rules
 
-print-requires : tie.Need-print-requires
-print-requires c κs = search rules
+print-written-requires : tie.Need-print-written-requires
+print-written-requires c κs = search rules
 
 close-requires : tie.Need-close-requires
 close-requires c κs = search rules
@@ -43,31 +43,19 @@ slice-aggregate-fail c = search rules
 fail-requires : tie.Need-fail-requires
 fail-requires c κs = search rules
 
-returns : tie.Need-returns
-returns c = inl refl
+returns-then-not-written : tie.Need-returns-then-not-written
+returns-then-not-written c = inl refl
 
-returns-2 : tie.Need-returns-2
-returns-2 c = inr (answered (basis_refusal c.before.before.before.before.before.before.before.before.before.before.before.before.args.bytes.now) (omega arith))
+returns-then-refusal-eq0 : tie.Need-returns-then-refusal-eq0
+returns-then-refusal-eq0 c = inr (answered (basis_refusal c.before.before.before.before.before.before.before.before.before.before.before.before.args.bytes.now) (omega arith))
 
 say_refusal-requires : tie.Need-say_refusal-requires
 say_refusal-requires c κs = search rules
 
-returns-3 : tie.Need-returns-3
-returns-3 c = inr (refused (basis_refusal c.before.before.before.before.before.before.before.before.before.before.before.before.before.args.bytes.now) (λ h. omega arith))
+returns : tie.Need-returns
+returns c = inr (refused (basis_refusal c.before.before.before.before.before.before.before.before.before.before.before.before.before.args.bytes.now) (λ h. omega arith))
 
 pub answer_spec : {M : Type 1} → statement M
 answer_spec =
     tie.close
-    (tie.spec
-    buffer-requires
-    slice-aggregate-fill-begin
-    fill_begin-requires
-    slice-aggregate-print
-    print-requires
-    close-requires
-    slice-aggregate-fail
-    fail-requires
-    returns
-    returns-2
-    say_refusal-requires
-    returns-3)
+    (tie.spec buffer-out-requires slice_bounds-fill_begin-end fill_begin-begun-requires slice_bounds-print-end print-written-requires close-requires fail-requires returns-then-not-written returns-then-refusal-eq0 say_refusal-requires returns)

@@ -8,31 +8,31 @@ use borrow.Author.Rules.{rules}
 use Rattle.basis.proofs.list.Statement.{statement}
 use Rattle.basis.proofs.list.Tie as tie
 
-inside : (c : tie.After-known-told) → c.before.n.given.0.0 ≤ length c.before.before.before.before.read_input.new.1.0
+inside : (c : tie.In-Bytes) → c.before.n-1.given.0.0 ≤ length c.before.before.before.before.read_input.new.1.0
 inside c =
     let read = c.before.before.before.before.read_input in
-    omega (arith, read.auto.1.0, read_inside _ _ read.result c.before.n.given.1 read.ensures)
+    omega (arith, read.auto.1.0, read_inside _ _ read.result c.before.n-1.given.1 read.ensures)
 
-slice-aggregate-read-input : tie.Need-slice-aggregate-read-input
-slice-aggregate-read-input c = search rules
+slice_bounds-read_input-end : tie.Need-slice_bounds-read_input-end
+slice_bounds-read_input-end c = search rules
 
 read_input-requires : tie.Need-read_input-requires
 read_input-requires c κs = search rules
 
-enum-known-n : tie.Need-enum-known-n
-enum-known-n c = search rules
+enum_known-n : tie.Need-enum_known-n
+enum_known-n c = search rules
 
-array-share-prefix-input : tie.Need-array-share-prefix-input
-array-share-prefix-input c = inside c
+slice_bounds-input-end : tie.Need-slice_bounds-input-end
+slice_bounds-input-end c = inside c
 
-slice-aggregate-answer : tie.Need-slice-aggregate-answer
-slice-aggregate-answer c = sym (length-take-le _ _ (inside c.before))
+slice_bounds-answer-end : tie.Need-slice_bounds-answer-end
+slice_bounds-answer-end c = sym (length-take-le _ _ (inside c.before))
 
 answer-requires : tie.Need-answer-requires
 answer-requires c κs = search rules
 
-enum_told : tie.Need-enum-told
-enum_told c = search rules
+enum_told-1 : tie.Need-enum_told-1
+enum_told-1 c = search rules
 
 slice-aggregate-fail : tie.Need-slice-aggregate-fail
 slice-aggregate-fail c = search rules
@@ -40,24 +40,13 @@ slice-aggregate-fail c = search rules
 fail-requires : tie.Need-fail-requires
 fail-requires c κs = search rules
 
-returns : tie.Need-returns
-returns c = search rules
+returns-in-Bytes : tie.Need-returns-in-Bytes
+returns-in-Bytes c = search rules
 
-returns-2 : tie.Need-returns-2
-returns-2 c = search rules
+returns-in-Unread : tie.Need-returns-in-Unread
+returns-in-Unread c = search rules
 
 pub list_spec : {M : Type 1} → statement M
 list_spec =
     tie.close
-    (tie.spec
-    slice-aggregate-read-input
-    read_input-requires
-    enum-known-n
-    array-share-prefix-input
-    slice-aggregate-answer
-    answer-requires
-    enum_told
-    slice-aggregate-fail
-    fail-requires
-    returns
-    returns-2)
+    (tie.spec slice_bounds-read_input-end read_input-requires enum_known-n slice_bounds-input-end slice_bounds-answer-end answer-requires enum_told-1 fail-requires returns-in-Bytes returns-in-Unread)

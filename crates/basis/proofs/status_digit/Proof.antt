@@ -4,35 +4,35 @@ use borrow.Author.Rules.{rules}
 use Rattle.basis.proofs.status_digit.Statement.{statement}
 use Rattle.basis.proofs.status_digit.Tie as tie
 
-enum_told : tie.Need-enum-told
-enum_told c = search rules
+enum_told-1 : tie.Need-enum_told-1
+enum_told-1 c = search rules
 
-enum-told-2 : tie.Need-enum-told-2
-enum-told-2 c = search rules
+enum_told-in-Refused : tie.Need-enum_told-in-Refused
+enum_told-in-Refused c = search rules
 
-enum-told-3 : tie.Need-enum-told-3
-enum-told-3 c = search rules
+enum_told-in-WrongUsage : tie.Need-enum_told-in-WrongUsage
+enum_told-in-WrongUsage c = search rules
 
-enum-told-4 : tie.Need-enum-told-4
-enum-told-4 c = search rules
+enum_told-in-Failed : tie.Need-enum_told-in-Failed
+enum_told-in-Failed c = search rules
 
-returns : tie.Need-returns
+returns-in-Answered : tie.Need-returns-in-Answered
 unfolding status_digit
-returns c = sym (ap status_digit c.enum_told.given.1)
+returns-in-Answered c = sym (ap status_digit c.enum_told-1.given.1)
 
-returns-2 : tie.Need-returns-2
+returns-in-Refused : tie.Need-returns-in-Refused
 unfolding status_digit
-returns-2 c = sym (ap status_digit c.enum-told2.given.1)
+returns-in-Refused c = sym (ap status_digit c.enum_told-in-Refused-1.given.1)
 
-returns-3 : tie.Need-returns-3
+returns-in-WrongUsage : tie.Need-returns-in-WrongUsage
 unfolding status_digit
-returns-3 c = sym (ap status_digit c.enum-told3.given.1)
+returns-in-WrongUsage c = sym (ap status_digit c.enum_told-in-WrongUsage-1.given.1)
 
-returns-4 : tie.Need-returns-4
+returns-in-Failed : tie.Need-returns-in-Failed
 unfolding status_digit
-returns-4 c = sym (ap status_digit c.enum-told4.given.1)
+returns-in-Failed c = sym (ap status_digit c.enum_told-in-Failed-1.given.1)
 
 pub status_digit_spec : {M : Type 1} → statement M
 status_digit_spec =
     tie.close
-    (tie.spec enum_told enum-told-2 enum-told-3 enum-told-4 returns returns-2 returns-3 returns-4)
+    (tie.spec enum_told-1 enum_told-in-Refused enum_told-in-WrongUsage enum_told-in-Failed returns-in-Answered returns-in-Refused returns-in-WrongUsage returns-in-Failed)

@@ -9,60 +9,49 @@ use borrow.Author.Rules.{rules}
 use Rattle.complex_exports.proofs.export_from_pentachorons.Statement.{statement}
 use Rattle.complex_exports.proofs.export_from_pentachorons.Tie as tie
 
-from_pentachorons-requires : tie.Need-from_pentachorons-requires
-from_pentachorons-requires c κs = search rules
+from_pentachorons-answer-requires : tie.Need-from_pentachorons-answer-requires
+from_pentachorons-answer-requires c κs = search rules
 
-enum-known-answer : tie.Need-enum-known-answer
-enum-known-answer c = search rules
+enum_known-answer : tie.Need-enum_known-answer
+enum_known-answer c = search rules
 
 value-requires : tie.Need-value-requires
 unfolding pentachora_answer
 value-requires c κs =
-    let told = c.before.before.before.before.before.before.before.from_pentachorons.ensures in
-    few_edges _ _ _ _ (rw (ap pentachora_answer c.before.answer.given.1) at told)
+    let told = c.before.before.before.before.before.before.before.from_pentachorons-answer.ensures in
+    few_edges _ _ _ _ (rw (ap pentachora_answer c.before.answer-1.given.1) at told)
 
-enum-known-answer-2 : tie.Need-enum-known-answer-2
-enum-known-answer-2 c = search rules
+enum_known-answer-in-Refused-1 : tie.Need-enum_known-answer-in-Refused-1
+enum_known-answer-in-Refused-1 c = search rules
 
 refused-requires : tie.Need-refused-requires
 refused-requires c κs = search rules
 
-same_length : tie.Need-same-length
-same_length c = search rules
+shape_of-edges-in-Counts : tie.Need-shape_of-edges-in-Counts
+shape_of-edges-in-Counts c = search rules
 
-same-length-2 : tie.Need-same-length-2
-same-length-2 c = search rules
+shape_of-triangles-in-Counts : tie.Need-shape_of-triangles-in-Counts
+shape_of-triangles-in-Counts c = search rules
 
-returns : tie.Need-returns
+returns-in-Counts : tie.Need-returns-in-Counts
 unfolding pentachora_answer signed
-returns c =
-    let told = c.before.before.before.before.before.before.before.before.from_pentachorons.ensures in
-    exports (second_ends (pentachora_call _ _ _ _) _ (rw (ap pentachora_answer c.before.before.answer.given.1) at told)) (back64 _ c.value.type-inv ∙ c.value.ensures)
+returns-in-Counts c =
+    let told = c.before.before.before.before.before.before.before.before.from_pentachorons-answer.ensures in
+    exports (second_ends (pentachora_call _ _ _ _) _ (rw (ap pentachora_answer c.before.before.answer-1.given.1) at told)) (back64 _ c.value.type_inv ∙ c.value.ensures)
 
-same-length-3 : tie.Need-same-length-3
-same-length-3 c = search rules
+shape_of-edges-in-Refused : tie.Need-shape_of-edges-in-Refused
+shape_of-edges-in-Refused c = search rules
 
-same-length-4 : tie.Need-same-length-4
-same-length-4 c = search rules
+shape_of-triangles-in-Refused : tie.Need-shape_of-triangles-in-Refused
+shape_of-triangles-in-Refused c = search rules
 
-returns-2 : tie.Need-returns-2
+returns-in-Refused : tie.Need-returns-in-Refused
 unfolding pentachora_answer signed
-returns-2 c =
-    let told = c.before.before.before.before.before.before.before.before.from_pentachorons.ensures in
-    exports (second_refuses (pentachora_call _ _ _ _) _ (rw (ap pentachora_answer c.before.before.answer2.given.1) at told)) (back64 _ c.refused.type-inv ∙ c.refused.ensures)
+returns-in-Refused c =
+    let told = c.before.before.before.before.before.before.before.before.from_pentachorons-answer.ensures in
+    exports (second_refuses (pentachora_call _ _ _ _) _ (rw (ap pentachora_answer c.before.before.answer-in-Refused-1.given.1) at told)) (back64 _ c.refused.type_inv ∙ c.refused.ensures)
 
 pub export_from_pentachorons_spec : {M : Type 1} → statement M
 export_from_pentachorons_spec =
     tie.close
-    (tie.spec
-    from_pentachorons-requires
-    enum-known-answer
-    value-requires
-    enum-known-answer-2
-    refused-requires
-    same_length
-    same-length-2
-    returns
-    same-length-3
-    same-length-4
-    returns-2)
+    (tie.spec from_pentachorons-answer-requires enum_known-answer value-requires enum_known-answer-in-Refused-1 refused-requires shape_of-edges-in-Counts shape_of-triangles-in-Counts returns-in-Counts shape_of-edges-in-Refused shape_of-triangles-in-Refused returns-in-Refused)

@@ -15,28 +15,28 @@ use borrow.Author.Rules.{rules}
 use Rattle.complex_exports.proofs.export_read_sheet.Statement.{statement}
 use Rattle.complex_exports.proofs.export_read_sheet.Tie as tie
 
-open-requires : tie.Need-open-requires
-open-requires c κs = search rules
+open-opened-requires : tie.Need-open-opened-requires
+open-opened-requires c κs = search rules
 
 refused-requires : tie.Need-refused-requires
 refused-requires c κs = search rules
 
-returns : tie.Need-returns
+returns-then-number-ne0 : tie.Need-returns-then-number-ne0
 unfolding stored reading_call signed
-returns c = exports (refuses _ (read_tells c.before.before.open.ensures) (ne_eqb _ 0 c.before.if1.true)) (back64 _ c.refused.type-inv ∙ c.refused.ensures)
+returns-then-number-ne0 c = exports (refuses _ (read_tells c.before.before.open-opened.ensures) (ne_eqb _ 0 c.before.if-number-ne0.true)) (back64 _ c.refused.type_inv ∙ c.refused.ensures)
 
 -- the sheet is accepted, so that its counts are small
-few : (c : tie.Else1) → Counts c.before.open.result.sheet.complex.n_vertices c.before.open.result.sheet.complex.n_edges c.before.open.result.sheet.complex.n_triangles
-few c = counts_own c.before.open.result.sheet.complex (read_accepted c.before.open.ensures c.if1.false)
+few : (c : tie.Else-number-ne0) → Counts c.before.open-opened.result.sheet.complex.n_vertices c.before.open-opened.result.sheet.complex.n_edges c.before.open-opened.result.sheet.complex.n_triangles
+few c = counts_own c.before.open-opened.result.sheet.complex (read_accepted c.before.open-opened.ensures c.if-number-ne0.false)
 
-edges_long : (c : tie.Else1) → length c.before.open.result.sheet.complex.edges ≡ 126
+edges_long : (c : tie.Else-number-ne0) → length c.before.open-opened.result.sheet.complex.edges ≡ 126
 edges_long c = search rules
 
-triangles_long : (c : tie.Else1) → length c.before.open.result.sheet.complex.triangles ≡ 768
+triangles_long : (c : tie.Else-number-ne0) → length c.before.open-opened.result.sheet.complex.triangles ≡ 768
 triangles_long c = search rules
 
-mul-copy : tie.Need-overflow-mul-copy
-mul-copy c = omega (arith, (few c.before.before.before.before.before).edges)
+overflow_mul-c : tie.Need-overflow_mul-c
+overflow_mul-c c = omega (arith, (few c.before.before.before.before.before).edges)
 
 copy-requires : tie.Need-copy-requires
 copy-requires c κs =
@@ -46,8 +46,8 @@ copy-requires c κs =
     let long = edges_long e in
     (omega arith, omega arith)
 
-mul-copy-2 : tie.Need-overflow-mul-copy-2
-mul-copy-2 c = omega (arith, (few c.before.before.before.before.before.before.before.before.before.before).triangles)
+overflow_mul-c-2 : tie.Need-overflow_mul-c-2
+overflow_mul-c-2 c = omega (arith, (few c.before.before.before.before.before.before.before.before.before.before).triangles)
 
 copy-requires-2 : tie.Need-copy-requires-2
 copy-requires-2 c κs =
@@ -57,26 +57,18 @@ copy-requires-2 c κs =
     let long = triangles_long e in
     (omega arith, omega arith)
 
-returns-2 : tie.Need-returns-2
+returns : tie.Need-returns
 unfolding stored reading_call signed
-returns-2 c =
+returns c =
     let e = c.before.before.before.before.before.before.before.before.before.before.before.before in
-    let o = e.before.open.ensures in
-    let is = o.holds (sym o.number ∙ e.if1.false) in
+    let o = e.before.open-opened.ensures in
+    let is = o.holds (sym o.number ∙ e.if-number-ne0.false) in
     let k = few e in
     let es = edges_long e in
     let ts = triangles_long e in
-    exports (ends _ (rw e.if1.false at (read_tells o)) refl (parts_written is _ _ c.before.before.before.before.before.copy.ensures c.copy2.ensures (omega (arith, k.edges)) (omega (arith, k.triangles))) tt) refl
+    exports (ends _ (rw e.if-number-ne0.false at (read_tells o)) refl (parts_written is _ _ c.before.before.before.before.before.copy.ensures c.copy-2.ensures (omega (arith, k.edges)) (omega (arith, k.triangles))) tt) refl
 
 pub export_read_sheet_spec : {M : Type 1} → statement M
 export_read_sheet_spec =
     tie.close
-    (tie.spec
-    open-requires
-    refused-requires
-    returns
-    mul-copy
-    copy-requires
-    mul-copy-2
-    copy-requires-2
-    returns-2)
+    (tie.spec open-opened-requires refused-requires returns-then-number-ne0 overflow_mul-c copy-requires overflow_mul-c-2 copy-requires-2 returns)

@@ -17,13 +17,13 @@ signed-requires : tie.Need-signed-requires
 unfolding text_call
 signed-requires c κs = small_answer c.before.before.before.refusal_text.ensures (λ k. few_small k.few refl) c.told_number.ensures
 
-same_length : tie.Need-same-length
-same_length c = search rules
+shape_of-text : tie.Need-shape_of-text
+shape_of-text c = search rules
 
 returns : tie.Need-returns
-returns c = exports c.before.before.before.before.refusal_text.ensures (back64 _ c.signed.type-inv ∙ c.signed.ensures ∙ signed_told _ c.before.told_number.ensures)
+returns c = exports c.before.before.before.before.refusal_text.ensures (back64 _ c.signed.type_inv ∙ c.signed.ensures ∙ signed_told _ c.before.told_number.ensures)
 
 pub export_refusal_text_spec : {M : Type 1} → statement M
 export_refusal_text_spec =
     tie.close
-    (tie.spec refusal_text-requires told_number-requires signed-requires same_length returns)
+    (tie.spec refusal_text-requires told_number-requires signed-requires shape_of-text returns)

@@ -7,15 +7,15 @@ use borrow.Author.Rules.{rules}
 use Rattle.complex_exports.proofs.export_su2_fundamental_loops.Statement.{statement}
 use Rattle.complex_exports.proofs.export_su2_fundamental_loops.Tie as tie
 
-open-requires : tie.Need-open-requires
-open-requires c κs = search rules
+open-opened-requires : tie.Need-open-opened-requires
+open-opened-requires c κs = search rules
 
 refused-requires : tie.Need-refused-requires
 refused-requires c κs = search rules
 
-returns : tie.Need-returns
+returns-then-number-ne0 : tie.Need-returns-then-number-ne0
 unfolding su2_loops_call
-returns c = sheet_refuses c.before.before.open.ensures _ c.before.if1.true _ (back64 _ c.refused.type-inv ∙ c.refused.ensures)
+returns-then-number-ne0 c = sheet_refuses c.before.before.open-opened.ensures _ c.before.if-number-ne0.true _ (back64 _ c.refused.type_inv ∙ c.refused.ensures)
 
 su2_fundamental_loops-requires : tie.Need-su2_fundamental_loops-requires
 su2_fundamental_loops-requires c κs = search rules
@@ -27,28 +27,19 @@ signed-requires : tie.Need-signed-requires
 unfolding su2_loops_call
 signed-requires c κs = small_answer c.before.before.before.before.before.su2_fundamental_loops.ensures (λ k. few_small k.few refl) c.told_number.ensures
 
-same_length : tie.Need-same-length
-same_length c = search rules
+shape_of-starts : tie.Need-shape_of-starts
+shape_of-starts c = search rules
 
-same-length-2 : tie.Need-same-length-2
-same-length-2 c = search rules
+shape_of-edges : tie.Need-shape_of-edges
+shape_of-edges c = search rules
 
-returns-2 : tie.Need-returns-2
-returns-2 c =
+returns : tie.Need-returns
+returns c =
     let t = c.before.before.before.before.before.before in
     let e = t.before.before.before.before in
-    sheet_answers e.before.open.ensures _ e.if1.false t.su2_fundamental_loops.ensures (back64 _ c.signed.type-inv ∙ c.signed.ensures ∙ signed_told _ c.before.told_number.ensures)
+    sheet_answers e.before.open-opened.ensures _ e.if-number-ne0.false t.su2_fundamental_loops.ensures (back64 _ c.signed.type_inv ∙ c.signed.ensures ∙ signed_told _ c.before.told_number.ensures)
 
 pub export_su2_fundamental_loops_spec : {M : Type 1} → statement M
 export_su2_fundamental_loops_spec =
     tie.close
-    (tie.spec
-    open-requires
-    refused-requires
-    returns
-    su2_fundamental_loops-requires
-    told_number-requires
-    signed-requires
-    same_length
-    same-length-2
-    returns-2)
+    (tie.spec open-opened-requires refused-requires returns-then-number-ne0 su2_fundamental_loops-requires told_number-requires signed-requires shape_of-starts shape_of-edges returns)

@@ -12,49 +12,42 @@ use borrow.Author.Rules.{rules}
 use Rattle.complex_exports.proofs.export_tri_edge_indices.Statement.{statement}
 use Rattle.complex_exports.proofs.export_tri_edge_indices.Tie as tie
 
-open-requires : tie.Need-open-requires
-open-requires c κs = search rules
+open-opened-requires : tie.Need-open-opened-requires
+open-opened-requires c κs = search rules
 
 refused-requires : tie.Need-refused-requires
 refused-requires c κs = search rules
 
-returns : tie.Need-returns
+returns-then-number-ne0 : tie.Need-returns-then-number-ne0
 unfolding stored
-returns c = sheet_refuses c.before.before.open.ensures _ c.before.if1.true _ (back64 _ c.refused.type-inv ∙ c.refused.ensures)
+returns-then-number-ne0 c = sheet_refuses c.before.before.open-opened.ensures _ c.before.if-number-ne0.true _ (back64 _ c.refused.type_inv ∙ c.refused.ensures)
 
-refused-requires-2 : tie.Need-refused-requires-2
-refused-requires-2 c κs = search rules
+refused-requires-then-s-t : tie.Need-refused-requires-then-s-t
+refused-requires-then-s-t c κs = search rules
 
-returns-2 : tie.Need-returns-2
+returns-then-s-t : tie.Need-returns-then-s-t
 unfolding stored indices_call signed
-returns-2 c =
+returns-then-s-t c =
     let e = c.before.before.before.before in
-    let o = e.before.open.ensures in
-    let past_reading = read_accepted o e.if1.false in
-    sheet_answers o _ e.if1.false (refuses _ (past_record _ past_reading (here (number_test _ _ ∙ le-leb _ _ c.before.if2.true))) refl) (back64 _ c.refused2.type-inv ∙ c.refused2.ensures)
+    let o = e.before.open-opened.ensures in
+    let past_reading = read_accepted o e.if-number-ne0.false in
+    sheet_answers o _ e.if-number-ne0.false (refuses _ (past_record _ past_reading (here (number_test _ _ ∙ le-leb _ _ c.before.if-s-t.true))) refl) (back64 _ c.refused-then-s-t.type_inv ∙ c.refused-then-s-t.ensures)
 
-triangle_sides-requires : tie.Need-triangle_sides-requires
-triangle_sides-requires c κs =
+triangle_sides-found-requires : tie.Need-triangle_sides-found-requires
+triangle_sides-found-requires c κs =
     let e = c.before.before.before in
-    (read_accepted e.before.open.ensures e.if1.false, c.if2.false)
+    (read_accepted e.before.open-opened.ensures e.if-number-ne0.false, c.if-s-t.false)
 
-returns-3 : tie.Need-returns-3
+returns : tie.Need-returns
 unfolding stored indices_call signed
-returns-3 c =
+returns c =
     let decided = c.before.before in
     let e = decided.before.before.before in
-    let o = e.before.open.ensures in
-    let past_reading = read_accepted o e.if1.false in
-    sheet_answers o _ e.if1.false (ends _ (past_record _ past_reading (past (number_test _ _ ∙ lt-leb _ _ decided.if2.false) none)) refl (sym c.before.triangle_sides.ensures) tt) refl
+    let o = e.before.open-opened.ensures in
+    let past_reading = read_accepted o e.if-number-ne0.false in
+    sheet_answers o _ e.if-number-ne0.false (ends _ (past_record _ past_reading (past (number_test _ _ ∙ lt-leb _ _ decided.if-s-t.false) none)) refl (sym c.before.triangle_sides-found.ensures) tt) refl
 
 pub export_tri_edge_indices_spec : {M : Type 1} → statement M
 export_tri_edge_indices_spec =
     tie.close
-    (tie.spec
-    open-requires
-    refused-requires
-    returns
-    refused-requires-2
-    returns-2
-    triangle_sides-requires
-    returns-3)
+    (tie.spec open-opened-requires refused-requires returns-then-number-ne0 refused-requires-then-s-t returns-then-s-t triangle_sides-found-requires returns)

@@ -4,8 +4,8 @@ use Rattle.recorded.proofs.Agreeing.{agrees_as}
 use Rattle.complex_recorded.proofs.tri_edge_indices_same.Statement.{statement}
 use Rattle.complex_recorded.proofs.tri_edge_indices_same.Tie as tie
 
-export_tri_edge_indices-requires : tie.Need-export_tri_edge_indices-requires
-export_tri_edge_indices-requires c κs = search rules
+export_tri_edge_indices-answer-requires : tie.Need-export_tri_edge_indices-answer-requires
+export_tri_edge_indices-answer-requires c κs = search rules
 
 same_number-requires : tie.Need-same_number-requires
 same_number-requires c κs = search rules
@@ -18,9 +18,9 @@ unfolding indices_agrees
 returns c =
     let number = c.before.before in
     let made = number.before in
-    agrees_as made.export_tri_edge_indices.ensures made.export_tri_edge_indices.type-inv made.before.before.before.before.ranges.told _ number.same_number.ensures c.same_three.ensures
+    agrees_as made.export_tri_edge_indices-answer.ensures made.export_tri_edge_indices-answer.type_inv made.before.before.before.before.ranges.told _ number.same_number.ensures c.same_three.ensures
 
 pub tri_edge_indices_same_spec : {M : Type 1} → statement M
 tri_edge_indices_same_spec =
     tie.close
-    (tie.spec export_tri_edge_indices-requires same_number-requires same_three-requires returns)
+    (tie.spec export_tri_edge_indices-answer-requires same_number-requires same_three-requires returns)

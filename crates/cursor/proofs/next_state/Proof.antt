@@ -11,24 +11,24 @@ use Rattle.cursor.proofs.next_state.Tie as tie
 inside : (s : tie.Start) → s.args.c.d < s.args.c.to
 inside s = s.requires.0.some s.requires.1
 
-add-if1 : tie.Need-overflow-add-if1
-add-if1 c =
+overflow_add-c : tie.Need-overflow_add-c
+overflow_add-c c =
     let low = inside c.before in
     let few = c.before.requires.0.few in
     search rules
 
-add-t9 : tie.Need-overflow-add-t9
-add-t9 c = search rules
+overflow_add-result : tie.Need-overflow_add-result
+overflow_add-result c = search rules
 
-add-t10 : tie.Need-overflow-add-t10
-add-t10 c = search rules
+overflow_add-result-then-c : tie.Need-overflow_add-result-then-c
+overflow_add-result-then-c c = search rules
 
-returns : tie.Need-returns
-returns c =
+returns-then-c : tie.Need-returns-then-c
+returns-then-c c =
     let start = c.before.before.before.before.before in
     let s = start.args in
     let low = inside start in
-    let states = more_rows s.free.now s.cycles.now s.lambda s.n_free s.config.now s.c.left start.requires.0.walkable start.requires.1 s.c.d s.c.to low in
+    let states = more_rows s.free.now s.cycles.now s.lambda s.n_free s.config-1.now s.c.left start.requires.0.walkable start.requires.1 s.c.d s.c.to low in
     record {
       standing =
           record {
@@ -40,17 +40,17 @@ returns c =
           };
       states = states;
       numbered = refl;
-      at = λ all at. at_passed s.free.now s.cycles.now s.lambda s.n_free all s.config.now s.c at (_ ∷ []) _ _ states refl;
+      at = λ all at. at_passed s.free.now s.cycles.now s.lambda s.n_free all s.config-1.now s.c at (_ ∷ []) _ _ states refl;
     }
 
 next_block-requires : tie.Need-next_block-requires
 next_block-requires c κs = search rules
 
-same_length : tie.Need-same-length
-same_length c = search rules
+shape_of-config : tie.Need-shape_of-config
+shape_of-config c = search rules
 
-returns-2 : tie.Need-returns-2
-returns-2 c =
+returns : tie.Need-returns
+returns c =
     let start = c.before.before.before.before.before.before in
     let s = start.args in
     let next = c.before.next_block in
@@ -58,11 +58,11 @@ returns-2 c =
     let high : s.c.to ≤ s.c.d + 1 = omega arith in
     record {
       standing = next.ensures.standing;
-      states = next.ensures.states ∙ last_row s.config.now _ s.c.d s.c.to low high _;
+      states = next.ensures.states ∙ last_row s.config-1.now _ s.c.d s.c.to low high _;
       numbered = omega (arith, next.ensures.numbered);
       at = next.ensures.at;
     }
 
 pub next_state_spec : {M : Type 1} → statement M
 next_state_spec =
-    tie.close (tie.spec add-if1 add-t9 add-t10 returns next_block-requires same_length returns-2)
+    tie.close (tie.spec overflow_add-c overflow_add-result overflow_add-result-then-c returns-then-c next_block-requires shape_of-config returns)

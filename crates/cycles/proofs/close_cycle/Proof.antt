@@ -4,38 +4,31 @@ use borrow.Author.Rules.{rules}
 use Rattle.cycles.proofs.close_cycle.Statement.{statement}
 use Rattle.cycles.proofs.close_cycle.Tie as tie
 
-edge_start-requires : tie.Need-edge_start-requires
-edge_start-requires c κs = search rules
+edge_start-a-requires : tie.Need-edge_start-a-requires
+edge_start-a-requires c κs = search rules
 
-edge_end-requires : tie.Need-edge_end-requires
-edge_end-requires c κs = search rules
+edge_end-b-requires : tie.Need-edge_end-b-requires
+edge_end-b-requires c κs = search rules
 
 subtract_paths-requires : tie.Need-subtract_paths-requires
 subtract_paths-requires c κs =
     let start = c.before.before.before in
-    rw (c.before.edge_end.ensures, c.before.before.edge_start.ensures) (start.requires.0, start.requires.2, start.requires.3)
+    rw (c.before.edge_end-b.ensures, c.before.before.edge_start-a.ensures) (start.requires.0, start.requires.2, start.requires.3)
 
-mul-cycles : tie.Need-overflow-mul-cycles
-mul-cycles c = search rules
+overflow_mul-cycles : tie.Need-overflow_mul-cycles
+overflow_mul-cycles c = search rules
 
-add-cycles : tie.Need-overflow-add-cycles
-add-cycles c = search rules
+overflow_add-cycles : tie.Need-overflow_add-cycles
+overflow_add-cycles c = search rules
 
-element-set-of-cycles : tie.Need-element-set-of-cycles
-element-set-of-cycles c = search rules
+bounds-cycles-j : tie.Need-bounds-cycles-j
+bounds-cycles-j c = search rules
 
 returns : tie.Need-returns
 unfolding cycle_row entries
-returns c = rw (c.subtract_paths.ensures, c.before.before.edge_end.ensures, c.before.before.before.edge_start.ensures)
+returns c = rw (c.subtract_paths.ensures, c.before.before.edge_end-b.ensures, c.before.before.before.edge_start-a.ensures)
 
 pub close_cycle_spec : {M : Type 1} → statement M
 close_cycle_spec =
     tie.close
-    (tie.spec
-    edge_start-requires
-    edge_end-requires
-    subtract_paths-requires
-    mul-cycles
-    add-cycles
-    element-set-of-cycles
-    returns)
+    (tie.spec edge_start-a-requires edge_end-b-requires subtract_paths-requires overflow_mul-cycles overflow_add-cycles bounds-cycles-j returns)

@@ -9,75 +9,65 @@ use borrow.Author.Rules.{rules}
 use Rattle.cycles.proofs.tree_paths.Statement.{statement}
 use Rattle.cycles.proofs.tree_paths.Tie as tie
 
-abbrev invariant-loop : tie.invariant-loop
-invariant-loop c tree paths₀ i₀ i-end paths i = (i ≤ tree.found) × (i-end ≡ tree.found) × PathTable (complex_of c) i paths
+abbrev invariant-loop-i : tie.invariant-loop-i
+invariant-loop-i c tree paths₀ i₀ i-end paths i = (i ≤ tree.found) × (i-end ≡ tree.found) × PathTable (complex_of c) i paths
 
-abbrev decreases-loop : tie.decreases-loop
-decreases-loop c tree paths₀ i₀ i-end paths i = tree.found - i
+abbrev decreases-loop-i : tie.decreases-loop-i
+decreases-loop-i c tree paths₀ i₀ i-end paths i = tree.found - i
 
-loop-holds : tie.Need-loop-init invariant-loop decreases-loop
-loop-holds c = (omega arith, refl, no_paths c.args.t1 c.args.t2 c.requires)
+loop-i-init : tie.Need-loop-i-init invariant-loop-i decreases-loop-i
+loop-i-init c = (omega arith, refl, no_paths c.args.t1 c.args.t2 c.requires)
 
-element-copy-out-byte : tie.Need-element-copy-out-byte invariant-loop decreases-loop
-element-copy-out-byte c = search rules
+bounds-tree-i : tie.Need-bounds-tree-i invariant-loop-i decreases-loop-i
+bounds-tree-i c = search rules
 
-byte-requires : tie.Need-byte-requires invariant-loop decreases-loop
+byte-requires : tie.Need-byte-requires invariant-loop-i decreases-loop-i
 byte-requires c κs = tt
 
-add-byte : tie.Need-overflow-add-byte invariant-loop decreases-loop
-add-byte c = search rules
+overflow_add-i : tie.Need-overflow_add-i invariant-loop-i decreases-loop-i
+overflow_add-i c = search rules
 
-element-copy-out-byte-2 : tie.Need-element-copy-out-byte-2 invariant-loop decreases-loop
-element-copy-out-byte-2 c = search rules
+bounds-tree-i-in-loop-i : tie.Need-bounds-tree-i-in-loop-i invariant-loop-i decreases-loop-i
+bounds-tree-i-in-loop-i c = search rules
 
-byte-requires-2 : tie.Need-byte-requires-2 invariant-loop decreases-loop
-byte-requires-2 c κs = tt
+byte-requires-in-loop-i : tie.Need-byte-requires-in-loop-i invariant-loop-i decreases-loop-i
+byte-requires-in-loop-i c κs = tt
 
-extend-requires : tie.Need-extend-requires invariant-loop decreases-loop
+extend-requires : tie.Need-extend-requires invariant-loop-i decreases-loop-i
 extend-requires c κs =
     let at_loop = c.before.before.before.before.before.before.before.before in
     let start = at_loop.before in
-    let more : at_loop.loop.i < start.args.t2.found = omega arith in
-    let r = extend_ready start.args.t1 start.args.t2 start.requires at_loop.loop.i more in
-    rw (c.byte2.ensures, c.before.before.byte.ensures) (r.0, r.1, r.2, r.3, r.4, at_loop.loop.invariant.2.long)
+    let more : at_loop.loop-i.i < start.args.t2.found = omega arith in
+    let r = extend_ready start.args.t1 start.args.t2 start.requires at_loop.loop-i.i more in
+    rw (c.byte-in-loop-i.ensures, c.before.before.byte.ensures) (r.0, r.1, r.2, r.3, r.4, at_loop.loop-i.invariant.2.long)
 
-add-i : tie.Need-overflow-add-i invariant-loop decreases-loop
-add-i c = search rules
+overflow_add-i : tie.Need-overflow_add-i invariant-loop-i decreases-loop-i
+overflow_add-i c = search rules
 
-loop-less : tie.Need-loop-smaller invariant-loop decreases-loop
-loop-less c = search rules
+loop-i-smaller : tie.Need-loop-i-smaller invariant-loop-i decreases-loop-i
+loop-i-smaller c = search rules
 
-loop-again : tie.Need-loop-preserved invariant-loop decreases-loop
-loop-again c =
+loop-i-preserved : tie.Need-loop-i-preserved invariant-loop-i decreases-loop-i
+loop-i-preserved c =
     let at_loop = c.before.before.before.before.before.before.before.before.before in
     let start = at_loop.before in
-    let more : at_loop.loop.i < start.args.t2.found = omega arith in (
+    let more : at_loop.loop-i.i < start.args.t2.found = omega arith in (
       omega arith,
       refl,
-      rw (c.extend.ensures, c.before.byte2.ensures, c.before.before.before.byte.ensures)
-          (extend_more start.args.t1 start.args.t2 start.requires at_loop.loop.i more at_loop.loop.paths at_loop.loop.invariant.2),
+      rw (c.extend.ensures, c.before.byte-in-loop-i.ensures, c.before.before.before.byte.ensures)
+          (extend_more start.args.t1 start.args.t2 start.requires at_loop.loop-i.i more at_loop.loop-i.paths at_loop.loop-i.invariant.2),
     )
 
-returns : tie.Need-returns invariant-loop decreases-loop
+returns : tie.Need-returns invariant-loop-i decreases-loop-i
 returns c =
     let start = c.before.before in
-    let past : c.before.loop.i ≡ start.args.t2.found = omega arith in
-    rw (past, spanned_found start.args.t1 start.args.t2 start.requires) at c.before.loop.invariant.2
+    let past : c.before.loop-i.i ≡ start.args.t2.found = omega arith in
+    rw (past, spanned_found start.args.t1 start.args.t2 start.requires) at c.before.loop-i.invariant.2
+
+overflow_step-i : tie.Need-overflow_step-i invariant-loop-i decreases-loop-i
+overflow_step-i c = search rules
 
 pub tree_paths_spec : {M : Type 1} → statement M
 tree_paths_spec =
     tie.close
-    (tie.spec
-    invariant-loop
-    decreases-loop
-    loop-holds
-    element-copy-out-byte
-    byte-requires
-    add-byte
-    element-copy-out-byte-2
-    byte-requires-2
-    extend-requires
-    add-i
-    loop-less
-    loop-again
-    returns)
+    (tie.spec invariant-loop-i decreases-loop-i loop-i-init bounds-tree-i byte-requires overflow_add-i bounds-tree-i-in-loop-i byte-requires-in-loop-i extend-requires overflow_step-i loop-i-smaller loop-i-preserved returns)

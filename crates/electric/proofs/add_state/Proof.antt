@@ -16,81 +16,78 @@ use Rattle.electric.proofs.add_state.Tie as tie
 abbrev with_state : List ℤ → Float → (ℕ → Float) → ℕ → Float
 with_state state square f e = add binary64 (f e) (field_term square (get_or state e (pos 0)))
 
-abbrev invariant-loop : tie.invariant-loop
-invariant-loop state square result₀ e₀ e-end result e =
+abbrev invariant-loop-e : tie.invariant-loop-e
+invariant-loop-e state square result₀ e₀ e-end result e =
     (e ≤ length state) × (e-end ≡ length state) × (length result ≡ length result₀)
     × ((f : ℕ → Float) (old : List Float) → Begins f (length state) old result₀ → Begins (replaced f (with_state state square f) e) (length state) old result)
 
-abbrev decreases-loop : tie.decreases-loop
-decreases-loop state square result₀ e₀ e-end result e = length state - e
+abbrev decreases-loop-e : tie.decreases-loop-e
+decreases-loop-e state square result₀ e₀ e-end result e = length state - e
 
-loop-holds : tie.Need-loop-init invariant-loop decreases-loop
-loop-holds c = (omega arith, refl, refl, λ f old b. replaced_none f _ _ old _ b)
+loop-e-init : tie.Need-loop-e-init invariant-loop-e decreases-loop-e
+loop-e-init c = (omega arith, refl, refl, λ f old b. replaced_none f _ _ old _ b)
 
-mul-result : tie.Need-overflow-mul-result invariant-loop decreases-loop
+mul-result : tie.Need-overflow-mul-result invariant-loop-e decreases-loop-e
 mul-result c = search rules
 
-slice-read-result : tie.Need-slice-read-result invariant-loop decreases-loop
+slice-read-result : tie.Need-slice-read-result invariant-loop-e decreases-loop-e
 slice-read-result c = search rules
 
-mul-field-term : tie.Need-overflow-mul-field-term invariant-loop decreases-loop
-mul-field-term c = search rules
+offset_bounds-state-e : tie.Need-offset_bounds-state-e invariant-loop-e decreases-loop-e
+offset_bounds-state-e c = search rules
 
-shared-slice-copy-out-field-term : tie.Need-shared-slice-copy-out-field-term invariant-loop decreases-loop
-shared-slice-copy-out-field-term c = search rules
+bounds-state-e : tie.Need-bounds-state-e invariant-loop-e decreases-loop-e
+bounds-state-e c = search rules
 
-field_term-requires : tie.Need-field_term-requires invariant-loop decreases-loop
+field_term-requires : tie.Need-field_term-requires invariant-loop-e decreases-loop-e
 field_term-requires c κs = tt
 
-mul-result-2 : tie.Need-overflow-mul-result-2 invariant-loop decreases-loop
+mul-result-2 : tie.Need-overflow-mul-result-2 invariant-loop-e decreases-loop-e
 mul-result-2 c = search rules
 
-slice-write-result : tie.Need-slice-write-result invariant-loop decreases-loop
+slice-write-result : tie.Need-slice-write-result invariant-loop-e decreases-loop-e
 slice-write-result c = search rules
 
-add-e : tie.Need-overflow-add-e invariant-loop decreases-loop
-add-e c = search rules
+overflow_step-e : tie.Need-overflow_step-e invariant-loop-e decreases-loop-e
+overflow_step-e c = search rules
 
-loop-less : tie.Need-loop-smaller invariant-loop decreases-loop
-loop-less c = search rules
+loop-e-smaller : tie.Need-loop-e-smaller invariant-loop-e decreases-loop-e
+loop-e-smaller c = search rules
 
-loop-again : tie.Need-loop-preserved invariant-loop decreases-loop
-loop-again c =
+loop-e-preserved : tie.Need-loop-e-preserved invariant-loop-e decreases-loop-e
+loop-e-preserved c =
     let at_loop = c.before.before.before.before in
     let s = at_loop.before.before in
-    let e = at_loop.loop.e in
+    let e = at_loop.loop-e.e in
     let here : e < length s.args.state.now = omega arith in (
       omega arith,
       refl,
-      rw length-set at_loop.loop.invariant.2,
+      rw length-set at_loop.loop-e.invariant.2,
       λ f old b.
-          let so_far = at_loop.loop.invariant.3 f old b in
+          let so_far = at_loop.loop-e.invariant.3 f old b in
           replaced_more f _ _ old e _ so_far here (omega (arith, b.long, s.requires)) _
-          (rw (replaced_next f _ _ old e _ so_far here, c.field_term.ensures, back32 (get_or s.args.state.now e (pos 0)) c.before.field-term-arg.given)),
+          (rw (replaced_next f _ _ old e _ so_far here, c.field_term.ensures, back32 (get_or s.args.state.now e (pos 0)) c.before.field_term-arg-1.given)),
     )
 
-same_length : tie.Need-same-length invariant-loop decreases-loop
-same_length c = search rules
+shape_of-res : tie.Need-shape_of-res invariant-loop-e decreases-loop-e
+shape_of-res c = search rules
 
-returns : tie.Need-returns invariant-loop decreases-loop
-returns c f old b = replaced_all f _ _ old _ _ (c.before.loop.invariant.3 f old b) (omega arith)
+returns : tie.Need-returns invariant-loop-e decreases-loop-e
+returns c f old b = replaced_all f _ _ old _ _ (c.before.loop-e.invariant.3 f old b) (omega arith)
+
+offset_bounds-res-e : tie.Need-offset_bounds-res-e invariant-loop-e decreases-loop-e
+offset_bounds-res-e c = search rules
+
+bounds-res-e : tie.Need-bounds-res-e invariant-loop-e decreases-loop-e
+bounds-res-e c = search rules
+
+offset_bounds-res-e-in-loop-e : tie.Need-offset_bounds-res-e-in-loop-e invariant-loop-e decreases-loop-e
+offset_bounds-res-e-in-loop-e c = search rules
+
+bounds-res-e-in-loop-e : tie.Need-bounds-res-e-in-loop-e invariant-loop-e decreases-loop-e
+bounds-res-e-in-loop-e c = search rules
 
 pub add_state_spec : {M : Type 1} → statement M
 add_state_spec =
     tie.close
-    (tie.spec
-    invariant-loop
-    decreases-loop
-    loop-holds
-    mul-result
-    slice-read-result
-    mul-field-term
-    shared-slice-copy-out-field-term
-    field_term-requires
-    mul-result-2
-    slice-write-result
-    add-e
-    loop-less
-    loop-again
-    same_length
-    returns)
+    (tie.spec invariant-loop-e decreases-loop-e loop-e-init offset_bounds-res-e bounds-res-e offset_bounds-state-e bounds-state-e field_term-requires offset_bounds-res-e-in-loop-e bounds-res-e-in-loop-e overflow_step-e loop-e-smaller loop-e-preserved shape_of-res returns)

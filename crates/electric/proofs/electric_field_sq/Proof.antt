@@ -18,98 +18,98 @@ use borrow.Author.Rules.{rules}
 use Rattle.electric.proofs.electric_field_sq.Statement.{statement}
 use Rattle.electric.proofs.electric_field_sq.Tie as tie
 
-basis : (c : tie.Else1) → BasisWalks (complex_of c.before.before.before.before.args.c) c.before.before.before.before.args.lambda c.before.prepare_basis.result.walker c.before.prepare_basis.result.blocks
-basis c = c.before.prepare_basis.ensures.basis c.if1.false
+basis : (c : tie.Else-number-ne0) → BasisWalks (complex_of c.before.before.before.before.args.c) c.before.before.before.before.args.lambda c.before.prepare_basis-basis.result.walker c.before.prepare_basis-basis.result.blocks
+basis c = c.before.prepare_basis-basis.ensures.basis c.if-number-ne0.false
 
 -- the states are counted
-counted : (c : tie.After-count_states) → c.count_states.result ≡ length (states (complex_of c.before.before.before.before.before.before.args.c) c.before.before.before.before.before.before.args.lambda)
-counted c = c.count_states.ensures ∙ ap length (basis c.before.before).listed
+counted : (c : tie.After-count_states-n) → c.count_states-n.result ≡ length (states (complex_of c.before.before.before.before.before.before.args.c) c.before.before.before.before.before.before.args.lambda)
+counted c = c.count_states-n.ensures ∙ ap length (basis c.before.before).listed
 
-abbrev start : tie.Else3 → tie.Start
+abbrev start : tie.Else-not-all_bounded → tie.Start
 start c = c.before.before.before.before.before.before.before.before.before
 
-abbrev judged : tie.Else3 → tie.Else1
+abbrev judged : tie.Else-not-all_bounded → tie.Else-number-ne0
 judged c = c.before.before.before.before.before
 
 -- the number of values in the basis is a number of the machine
-few : (c : tie.Else3) → (c.before.before.before.count_states.result ≤ 1048576) × (c.before.before.before.count_states.result * (judged c).before.prepare_basis.result.walker.n_edges ≤ 1048576 * 63)
+few : (c : tie.Else-not-all_bounded) → (c.before.before.before.count_states-n.result ≤ 1048576) × (c.before.before.before.count_states-n.result * (judged c).before.prepare_basis-basis.result.walker.n_edges ≤ 1048576 * 63)
 few c =
     let b = basis (judged c) in
-    let many : c.before.before.before.count_states.result ≤ 1048576 = rw (counted c.before.before.before) b.few in
+    let many : c.before.before.before.count_states-n.result ≤ 1048576 = rw (counted c.before.before.before) b.few in
     (many, mul-le-mul many b.fit.edges)
 
 -- the two lists are measured
-rooms : (c : tie.Else3)
+rooms : (c : tie.Else-not-all_bounded)
     → (short (complex_of (start c).args.c) (start c).args.lambda (length (start c).args.states.now) || ltb (length (start c).args.res.now) (length (complex_of (start c).args.c).edges))
-    ≡ (ltb (length (start c).args.states.now) (c.before.before.before.count_states.result * (judged c).before.prepare_basis.result.walker.n_edges) || ltb (length (start c).args.res.now) (judged c).before.prepare_basis.result.walker.n_edges)
+    ≡ (ltb (length (start c).args.states.now) (c.before.before.before.count_states-n.result * (judged c).before.prepare_basis-basis.result.walker.n_edges) || ltb (length (start c).args.res.now) (judged c).before.prepare_basis-basis.result.walker.n_edges)
 rooms c =
     let b = basis (judged c) in
-    rw (short_told _ _ _ _ b (length (start c).args.states.now), ← c.before.before.before.count_states.ensures, ← b.walks.edges)
+    rw (short_told _ _ _ _ b (length (start c).args.states.now), ← c.before.before.before.count_states-n.ensures, ← b.walks.edges)
 
-prepare_basis-requires : tie.Need-prepare_basis-requires
-prepare_basis-requires c κs = search rules
+prepare_basis-basis-requires : tie.Need-prepare_basis-basis-requires
+prepare_basis-basis-requires c κs = search rules
 
-returns : tie.Need-returns
+returns-then-number-ne0 : tie.Need-returns-then-number-ne0
 unfolding electric_call number_answer
-returns c = refuses _ (basis_refuses c.before.prepare_basis.ensures c.if1.true _) (ne_eqb _ 0 c.if1.true)
+returns-then-number-ne0 c = refuses _ (basis_refuses c.before.prepare_basis-basis.ensures c.if-number-ne0.true _) (ne_eqb _ 0 c.if-number-ne0.true)
 
-count_states-requires : tie.Need-count_states-requires
-count_states-requires c κs = (basis c.before).fit
+count_states-n-requires : tie.Need-count_states-n-requires
+count_states-n-requires c κs = (basis c.before).fit
 
-returns-2 : tie.Need-returns-2
+returns-then-amplitudes-n : tie.Need-returns-then-amplitudes-n
 unfolding electric_call number_answer
-returns-2 c =
+returns-then-amplitudes-n c =
     let judged = c.before.before.before in
-    refuses _ (past_basis judged.before.prepare_basis.ensures judged.if1.false (here (rw (ne_eqb _ _ (λ z. c.if2.true (z ∙ sym (counted c.before))))))) refl
+    refuses _ (past_basis judged.before.prepare_basis-basis.ensures judged.if-number-ne0.false (here (rw (ne_eqb _ _ (λ z. c.if-amplitudes-n.true (z ∙ sym (counted c.before))))))) refl
 
 all_bounded-requires : tie.Need-all_bounded-requires
 all_bounded-requires c κs = search rules
 
-returns-3 : tie.Need-returns-3
+returns-then-not-all_bounded : tie.Need-returns-then-not-all_bounded
 unfolding electric_call number_answer
-returns-3 c =
+returns-then-not-all_bounded c =
     let long = c.before.before in
     let judged = long.before.before.before in
-    refuses _ (past_basis judged.before.prepare_basis.ensures judged.if1.false (past (rw (eq-eqb _ _ (long.if2.false ∙ counted long.before))) (here (rw (sym c.before.all_bounded.ensures ∙ not-true _ c.if3.true))))) refl
+    refuses _ (past_basis judged.before.prepare_basis-basis.ensures judged.if-number-ne0.false (past (rw (eq-eqb _ _ (long.if-amplitudes-n.false ∙ counted long.before))) (here (rw (sym c.before.all_bounded.ensures ∙ not-true _ c.if-not-all_bounded.true))))) refl
 
-mul-if4 : tie.Need-overflow-mul-if4
-mul-if4 c = let h = few c in search rules
+overflow_mul-n : tie.Need-overflow_mul-n
+overflow_mul-n c = let h = few c in search rules
 
-returns-4 : tie.Need-returns-4
+returns-then-states-n : tie.Need-returns-then-states-n
 unfolding electric_call number_answer
-returns-4 c =
+returns-then-states-n c =
     let right = c.before in
     let long = right.before.before in
     let judged = long.before.before.before in
-    refuses _ (past_basis judged.before.prepare_basis.ensures judged.if1.false (past (rw (eq-eqb _ _ (long.if2.false ∙ counted long.before))) (past (rw (sym right.before.all_bounded.ensures ∙ not-false _ right.if3.false)) (here (rooms right ∙ c.if4.true))))) refl
+    refuses _ (past_basis judged.before.prepare_basis-basis.ensures judged.if-number-ne0.false (past (rw (eq-eqb _ _ (long.if-amplitudes-n.false ∙ counted long.before))) (past (rw (sym right.before.all_bounded.ensures ∙ not-false _ right.if-not-all_bounded.false)) (here (rooms right ∙ c.if-states-n.true))))) refl
 
 -- both lists are long enough
-room : (c : tie.Else4) → (c.before.before.before.before.count_states.result * (judged c.before).before.prepare_basis.result.walker.n_edges ≤ length (start c.before).args.states.now) × ((judged c.before).before.prepare_basis.result.walker.n_edges ≤ length (start c.before).args.res.now)
+room : (c : tie.Else-states-n) → (c.before.before.before.before.count_states-n.result * (judged c.before).before.prepare_basis-basis.result.walker.n_edges ≤ length (start c.before).args.states.now) × ((judged c.before).before.prepare_basis-basis.result.walker.n_edges ≤ length (start c.before).args.res.now)
 room c =
-    let fell = or_fell _ _ c.if4.false in
+    let fell = or_fell _ _ c.if-states-n.false in
     (ltb-false _ _ fell.0, ltb-false _ _ fell.1)
 
 write_states-requires : tie.Need-write_states-requires
 write_states-requires c κs =
     let enough = c.before in
-    ((basis (judged enough.before)).fit, rw (← enough.before.before.before.before.count_states.ensures) (room enough).0)
+    ((basis (judged enough.before)).fit, rw (← enough.before.before.before.before.count_states-n.ensures) (room enough).0)
 
 write_sums-requires : tie.Need-write_sums-requires
 write_sums-requires c κs =
     let listed = c.before.before.before in
     let enough = listed.before.before in
     let right = enough.before in
-    ((few right).0, (basis (judged right)).fit.edges, rw listed.write_states.auto.1.1.1.0 (room enough).0, right.before.before.if2.false, (room enough).1)
+    ((few right).0, (basis (judged right)).fit.edges, rw listed.write_states.auto.1.1.1.0 (room enough).0, right.before.before.if-amplitudes-n.false, (room enough).1)
 
-same_length : tie.Need-same-length
-same_length c = search rules
+shape_of-states : tie.Need-shape_of-states
+shape_of-states c = search rules
 
-same-length-2 : tie.Need-same-length-2
-same-length-2 c = search rules
+shape_of-res : tie.Need-shape_of-res
+shape_of-res c = search rules
 
-returns-5 : tie.Need-returns-5
+returns : tie.Need-returns
 unfolding electric_call number_answer
-returns-5 c =
+returns c =
     let listed = c.before.before.before.before.before.before in
     let enough = listed.before.before in
     let right = enough.before in
@@ -117,7 +117,7 @@ returns-5 c =
     let judged = long.before.before.before in
     let b = basis judged in
     let work = (basis_written _ _ _ _ b _ _ _ listed.write_states.ensures).1 in
-    ends _ (past_basis judged.before.prepare_basis.ensures judged.if1.false (past (rw (eq-eqb _ _ (long.if2.false ∙ counted long.before))) (past (rw (sym right.before.all_bounded.ensures ∙ not-false _ right.if3.false)) (past (rooms right ∙ enough.if4.false) none))))
+    ends _ (past_basis judged.before.prepare_basis-basis.ensures judged.if-number-ne0.false (past (rw (eq-eqb _ _ (long.if-amplitudes-n.false ∙ counted long.before))) (past (rw (sym right.before.all_bounded.ensures ∙ not-false _ right.if-not-all_bounded.false)) (past (rooms right ∙ enough.if-states-n.false) none))))
     b.walks.edges
     (both work (squares_written _ b.walks.accepted _ _ _ _ work _ _ (counted long.before) b.walks.edges _ _ (room enough).1 c.before.before.write_sums.ensures))
     b.walks.accepted.few_edges
@@ -125,17 +125,4 @@ returns-5 c =
 pub electric_field_sq_spec : {M : Type 1} → statement M
 electric_field_sq_spec =
     tie.close
-    (tie.spec
-    prepare_basis-requires
-    returns
-    count_states-requires
-    returns-2
-    all_bounded-requires
-    returns-3
-    mul-if4
-    returns-4
-    write_states-requires
-    write_sums-requires
-    same_length
-    same-length-2
-    returns-5)
+    (tie.spec prepare_basis-basis-requires returns-then-number-ne0 count_states-n-requires returns-then-amplitudes-n all_bounded-requires returns-then-not-all_bounded overflow_mul-n returns-then-states-n write_states-requires write_sums-requires shape_of-states shape_of-res returns)

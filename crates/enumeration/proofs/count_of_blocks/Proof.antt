@@ -7,23 +7,23 @@ use borrow.Author.Rules.{rules}
 use Rattle.enumeration.proofs.count_of_blocks.Statement.{statement}
 use Rattle.enumeration.proofs.count_of_blocks.Tie as tie
 
-returns : tie.Need-returns
-returns c = let e : c.before.args.n_free - 1 ≡ 0 = omega arith in rw e (sym (pow-zero _))
+returns-then-n_free-eq0 : tie.Need-returns-then-n_free-eq0
+returns-then-n_free-eq0 c = let e : c.before.args.n_free - 1 ≡ 0 = omega arith in rw e (sym (pow-zero _))
 
-mul_power : tie.Need-overflow-mul-power
-mul_power c = search rules
+overflow_mul-lambda : tie.Need-overflow_mul-lambda
+overflow_mul-lambda c = search rules
 
-add-power : tie.Need-overflow-add-power
-add-power c = search rules
+overflow_add-lambda : tie.Need-overflow_add-lambda
+overflow_add-lambda c = search rules
 
-sub-power : tie.Need-overflow-sub-power
-sub-power c = search rules
+overflow_sub-n_free : tie.Need-overflow_sub-n_free
+overflow_sub-n_free c = search rules
 
 power-requires : tie.Need-power-requires
 power-requires c κs = search rules
 
-returns-2 : tie.Need-returns-2
-returns-2 c =
+returns : tie.Need-returns
+returns c =
     let start = c.before.before in
     let L = start.args.lambda in
     let n = start.args.n_free in
@@ -32,4 +32,4 @@ returns-2 c =
 
 pub count_of_blocks_spec : {M : Type 1} → statement M
 count_of_blocks_spec =
-    tie.close (tie.spec returns mul_power add-power sub-power power-requires returns-2)
+    tie.close (tie.spec returns-then-n_free-eq0 overflow_mul-lambda overflow_add-lambda overflow_sub-n_free power-requires returns)

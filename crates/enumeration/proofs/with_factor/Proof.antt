@@ -4,16 +4,16 @@ use borrow.Author.Rules.{rules}
 use Rattle.enumeration.proofs.with_factor.Statement.{statement}
 use Rattle.enumeration.proofs.with_factor.Tie as tie
 
-returns : tie.Need-returns
-returns c = rw (lt-ltb _ _ c.if1.true)
+returns-then-product-gt-MOST_CANDIDATES : tie.Need-returns-then-product-gt-MOST_CANDIDATES
+returns-then-product-gt-MOST_CANDIDATES c = rw (lt-ltb _ _ c.if-product-gt-MOST_CANDIDATES.true)
 
-mul-result : tie.Need-overflow-mul-result
-mul-result c =
-    let h = mul-le-mul c.if1.false c.before.requires.1 in
+overflow_mul-result : tie.Need-overflow_mul-result
+overflow_mul-result c =
+    let h = mul-le-mul c.if-product-gt-MOST_CANDIDATES.false c.before.requires.1 in
     search rules
 
-returns-2 : tie.Need-returns-2
-returns-2 c = rw (le-ltb _ _ c.if1.false)
+returns : tie.Need-returns
+returns c = rw (le-ltb _ _ c.if-product-gt-MOST_CANDIDATES.false)
 
 pub with_factor_spec : {M : Type 1} → statement M
-with_factor_spec = tie.close (tie.spec returns mul-result returns-2)
+with_factor_spec = tie.close (tie.spec returns-then-product-gt-MOST_CANDIDATES overflow_mul-result returns)

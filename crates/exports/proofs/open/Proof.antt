@@ -3,14 +3,14 @@ use borrow.Author.Rules.{rules}
 use Rattle.exports.proofs.open.Statement.{statement}
 use Rattle.exports.proofs.open.Tie as tie
 
-read_sheet-requires : tie.Need-read_sheet-requires
-read_sheet-requires c κs = search rules
+read_sheet-read-requires : tie.Need-read_sheet-read-requires
+read_sheet-read-requires c κs = search rules
 
-refusal-requires : tie.Need-refusal-requires
-refusal-requires c κs = search rules
+refusal-number-requires : tie.Need-refusal-number-requires
+refusal-number-requires c κs = search rules
 
 returns : tie.Need-returns
-returns c = opened _ _ _ c.before.before.read_sheet.ensures.is c.before.refusal.ensures
+returns c = opened _ _ _ c.before.before.read_sheet-read.ensures.is c.before.refusal-number.ensures
 
 pub open_spec : {M : Type 1} → statement M
-open_spec = tie.close (tie.spec read_sheet-requires refusal-requires returns)
+open_spec = tie.close (tie.spec read_sheet-read-requires refusal-number-requires returns)

@@ -4,19 +4,19 @@ use borrow.Author.Rules.{rules}
 use Rattle.exports.proofs.refusal.Statement.{statement}
 use Rattle.exports.proofs.refusal.Tie as tie
 
-enum_told : tie.Need-enum-told
-enum_told c = search rules
+enum_told-1 : tie.Need-enum_told-1
+enum_told-1 c = search rules
 
-enum-known-answer : tie.Need-enum-known-answer
-enum-known-answer c = search rules
+enum_known-answer : tie.Need-enum_known-answer
+enum_known-answer c = search rules
 
-returns : tie.Need-returns
+returns-in-Accepted : tie.Need-returns-in-Accepted
 unfolding reading_number
-returns c = sym (ap reading_number c.enum_told.given.1)
+returns-in-Accepted c = sym (ap reading_number c.enum_told-1.given.1)
 
-returns-2 : tie.Need-returns-2
+returns-in-Refused : tie.Need-returns-in-Refused
 unfolding reading_number
-returns-2 c = sym (ap reading_number c.before.answer.given.1)
+returns-in-Refused c = sym (ap reading_number c.before.answer-1.given.1)
 
 pub refusal_spec : {M : Type 1} → statement M
-refusal_spec = tie.close (tie.spec enum_told enum-known-answer returns returns-2)
+refusal_spec = tie.close (tie.spec enum_told-1 enum_known-answer returns-in-Accepted returns-in-Refused)

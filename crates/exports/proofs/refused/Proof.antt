@@ -7,14 +7,14 @@ use borrow.Author.Rules.{rules}
 use Rattle.exports.proofs.refused.Statement.{statement}
 use Rattle.exports.proofs.refused.Tie as tie
 
-cast-result : tie.Need-overflow-cast-result
-cast-result c = search rules
+overflow_cast-result : tie.Need-overflow_cast-result
+overflow_cast-result c = search rules
 
-sub-result : tie.Need-overflow-sub-result
-sub-result c = rw (minus c.args.number (omega arith)) (sfits_of (small_mag c.args.number (omega arith)))
+overflow_sub-result : tie.Need-overflow_sub-result
+overflow_sub-result c = rw (minus c.args.number (omega arith)) (sfits_of (small_mag c.args.number (omega arith)))
 
 returns : tie.Need-returns
 returns c = rw (minus c.args.number (omega arith)) (back64 (neg_ℤ (pos c.args.number)) (small_mag c.args.number (omega arith)))
 
 pub refused_spec : {M : Type 1} → statement M
-refused_spec = tie.close (tie.spec cast-result sub-result returns)
+refused_spec = tie.close (tie.spec overflow_cast-result overflow_sub-result returns)

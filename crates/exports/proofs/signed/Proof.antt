@@ -9,16 +9,16 @@ use Rattle.exports.proofs.signed.Tie as tie
 refused-requires : tie.Need-refused-requires
 refused-requires c κs = search rules
 
-returns : tie.Need-returns
+returns-then-number-ne0 : tie.Need-returns-then-number-ne0
 unfolding signed_of
-returns c = rw (ne_eqb _ _ c.before.if1.true) (back64 _ c.refused.type-inv ∙ c.refused.ensures)
+returns-then-number-ne0 c = rw (ne_eqb _ _ c.before.if-number-ne0.true) (back64 _ c.refused.type_inv ∙ c.refused.ensures)
 
 value-requires : tie.Need-value-requires
 value-requires c κs = search rules
 
-returns-2 : tie.Need-returns-2
+returns : tie.Need-returns
 unfolding signed_of
-returns-2 c = rw (eq-eqb _ _ c.before.if1.false) (back64 _ c.value.type-inv ∙ c.value.ensures)
+returns c = rw (eq-eqb _ _ c.before.if-number-ne0.false) (back64 _ c.value.type_inv ∙ c.value.ensures)
 
 pub signed_spec : {M : Type 1} → statement M
-signed_spec = tie.close (tie.spec refused-requires returns value-requires returns-2)
+signed_spec = tie.close (tie.spec refused-requires returns-then-number-ne0 value-requires returns)

@@ -8,24 +8,24 @@ use borrow.Author.Rules.{rules}
 use Rattle.exports.proofs.store.Statement.{statement}
 use Rattle.exports.proofs.store.Tie as tie
 
-enum-known-answer : tie.Need-enum-known-answer
-enum-known-answer c = search rules
+enum_known-answer : tie.Need-enum_known-answer
+enum_known-answer c = search rules
 
-enum-known-answer-2 : tie.Need-enum-known-answer-2
-enum-known-answer-2 c = search rules
+enum_known-answer-in-Refused-1 : tie.Need-enum_known-answer-in-Refused-1
+enum_known-answer-in-Refused-1 c = search rules
 
 refused-requires : tie.Need-refused-requires
 refused-requires c κs = search rules
 
-returns : tie.Need-returns
+returns-in-Params : tie.Need-returns-in-Params
 unfolding coupling_answer signed
-returns c g own h = exports (stored_ends (coupling_call g own) three_floats _ (rw (ap coupling_answer c.before.before.answer.given.1) at h) refl) refl
+returns-in-Params c g own h = exports (stored_ends (coupling_call g own) three_floats _ (rw (ap coupling_answer c.before.before.answer-1.given.1) at h) refl) refl
 
-returns-2 : tie.Need-returns-2
+returns-in-Refused : tie.Need-returns-in-Refused
 unfolding coupling_answer signed
-returns-2 c g own h =
-    exports (stored_refuses (coupling_call g own) three_floats _ (rw (ap coupling_answer c.before.before.answer2.given.1) at h)) (back64 _ c.refused.type-inv ∙ c.refused.ensures)
+returns-in-Refused c g own h =
+    exports (stored_refuses (coupling_call g own) three_floats _ (rw (ap coupling_answer c.before.before.answer-in-Refused-1.given.1) at h)) (back64 _ c.refused.type_inv ∙ c.refused.ensures)
 
 pub store_spec : {M : Type 1} → statement M
 store_spec =
-    tie.close (tie.spec enum-known-answer enum-known-answer-2 refused-requires returns returns-2)
+    tie.close (tie.spec enum_known-answer enum_known-answer-in-Refused-1 refused-requires returns-in-Params returns-in-Refused)

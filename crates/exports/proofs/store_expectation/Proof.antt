@@ -6,23 +6,23 @@ use borrow.Author.Rules.{rules}
 use Rattle.exports.proofs.store_expectation.Statement.{statement}
 use Rattle.exports.proofs.store_expectation.Tie as tie
 
-enum-known-answer : tie.Need-enum-known-answer
-enum-known-answer c = search rules
+enum_known-answer : tie.Need-enum_known-answer
+enum_known-answer c = search rules
 
-enum-known-answer-2 : tie.Need-enum-known-answer-2
-enum-known-answer-2 c = search rules
+enum_known-answer-in-Refused-1 : tie.Need-enum_known-answer-in-Refused-1
+enum_known-answer-in-Refused-1 c = search rules
 
 refused-requires : tie.Need-refused-requires
 refused-requires c κs = search rules
 
-returns : tie.Need-returns
+returns-in-Value : tie.Need-returns-in-Value
 unfolding expectation_answer
-returns c = lent_value _ (ap expectation_answer c.before.answer.given.1)
+returns-in-Value c = lent_value _ (ap expectation_answer c.before.answer-1.given.1)
 
-returns-2 : tie.Need-returns-2
+returns-in-Refused : tie.Need-returns-in-Refused
 unfolding expectation_answer
-returns-2 c = lent_kept _ (ap expectation_answer c.before.before.answer2.given.1) (back64 _ c.refused.type-inv ∙ c.refused.ensures)
+returns-in-Refused c = lent_kept _ (ap expectation_answer c.before.before.answer-in-Refused-1.given.1) (back64 _ c.refused.type_inv ∙ c.refused.ensures)
 
 pub store_expectation_spec : {M : Type 1} → statement M
 store_expectation_spec =
-    tie.close (tie.spec enum-known-answer enum-known-answer-2 refused-requires returns returns-2)
+    tie.close (tie.spec enum_known-answer enum_known-answer-in-Refused-1 refused-requires returns-in-Value returns-in-Refused)

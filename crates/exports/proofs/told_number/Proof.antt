@@ -5,19 +5,19 @@ use borrow.Author.Rules.{rules}
 use Rattle.exports.proofs.told_number.Statement.{statement}
 use Rattle.exports.proofs.told_number.Tie as tie
 
-enum-known-answer : tie.Need-enum-known-answer
-enum-known-answer c = search rules
+enum_known-answer : tie.Need-enum_known-answer
+enum_known-answer c = search rules
 
-enum-known-answer-2 : tie.Need-enum-known-answer-2
-enum-known-answer-2 c = search rules
+enum_known-answer-in-Refused-1 : tie.Need-enum_known-answer-in-Refused-1
+enum_known-answer-in-Refused-1 c = search rules
 
-returns : tie.Need-returns
+returns-in-Number : tie.Need-returns-in-Number
 unfolding outcome_told number_answer
-returns c = sym (ap (λ w. outcome_told (number_answer w)) c.before.answer.given.1)
+returns-in-Number c = sym (ap (λ w. outcome_told (number_answer w)) c.before.answer-1.given.1)
 
-returns-2 : tie.Need-returns-2
+returns-in-Refused : tie.Need-returns-in-Refused
 unfolding outcome_told number_answer
-returns-2 c = sym (ap (λ w. outcome_told (number_answer w)) c.before.answer2.given.1)
+returns-in-Refused c = sym (ap (λ w. outcome_told (number_answer w)) c.before.answer-in-Refused-1.given.1)
 
 pub told_number_spec : {M : Type 1} → statement M
-told_number_spec = tie.close (tie.spec enum-known-answer enum-known-answer-2 returns returns-2)
+told_number_spec = tie.close (tie.spec enum_known-answer enum_known-answer-in-Refused-1 returns-in-Number returns-in-Refused)

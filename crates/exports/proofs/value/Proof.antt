@@ -5,11 +5,11 @@ use borrow.Author.Rules.{rules}
 use Rattle.exports.proofs.value.Statement.{statement}
 use Rattle.exports.proofs.value.Tie as tie
 
-cast-result : tie.Need-overflow-cast-result
-cast-result c = search rules
+overflow_cast-result : tie.Need-overflow_cast-result
+overflow_cast-result c = search rules
 
 returns : tie.Need-returns
 returns c = to_z_pos w64 (omega arith)
 
 pub value_spec : {M : Type 1} → statement M
-value_spec = tie.close (tie.spec cast-result returns)
+value_spec = tie.close (tie.spec overflow_cast-result returns)

@@ -9,35 +9,35 @@ use borrow.Author.Rules.{rules}
 use Rattle.law_check.proofs.carry.Statement.{statement}
 use Rattle.law_check.proofs.carry.Tie as tie
 
-mul-minus : tie.Need-overflow-mul-minus
-mul-minus c = search rules
+offset_bounds-sums-a : tie.Need-offset_bounds-sums-a
+offset_bounds-sums-a c = search rules
 
-element-copy-out-minus : tie.Need-element-copy-out-minus
-element-copy-out-minus c = search rules
+bounds-sums-a : tie.Need-bounds-sums-a
+bounds-sums-a c = search rules
 
-minus-requires : tie.Need-minus-requires
-minus-requires c κs = search rules
+minus-less-requires : tie.Need-minus-less-requires
+minus-less-requires c κs = search rules
 
-mul-plus : tie.Need-overflow-mul-plus
-mul-plus c = search rules
+offset_bounds-sums-b : tie.Need-offset_bounds-sums-b
+offset_bounds-sums-b c = search rules
 
-element-copy-out-plus : tie.Need-element-copy-out-plus
-element-copy-out-plus c = search rules
+bounds-sums-b : tie.Need-bounds-sums-b
+bounds-sums-b c = search rules
 
-plus-requires : tie.Need-plus-requires
-plus-requires c κs = search rules
+plus-more-requires : tie.Need-plus-more-requires
+plus-more-requires c κs = search rules
 
-mul-less : tie.Need-overflow-mul-less
-mul-less c = search rules
+offset_bounds-sums-a-2 : tie.Need-offset_bounds-sums-a-2
+offset_bounds-sums-a-2 c = search rules
 
 element-set-from-less : tie.Need-element-set-from-smaller
 element-set-from-less c = search rules
 
-mul-more : tie.Need-overflow-mul-more
-mul-more c = search rules
+offset_bounds-sums-b-2 : tie.Need-offset_bounds-sums-b-2
+offset_bounds-sums-b-2 c = search rules
 
-element-set-from-more : tie.Need-element-set-from-more
-element-set-from-more c = search rules
+bounds-sums-b-2 : tie.Need-bounds-sums-b-2
+bounds-sums-b-2 c = search rules
 
 returns : tie.Need-returns
 unfolding sums_with
@@ -47,25 +47,17 @@ returns c =
     let a = start.args.a in
     let b = start.args.b in
     let x = start.args.x in
-    let minus = c.before.before.minus in
+    let minus = c.before.before.minus-less in
     let less : to_z w64 (of_z w64 minus.result) ≡ get_or sums a (pos 0) -ℤ x =
-    back64 minus.result minus.type-inv ∙ minus.ensures ∙ ap₂ ◌-ℤ◌ (back64 (get_or sums a (pos 0)) c.before.before.before.minus-arg.given) (back32 x start.ranges.x.sfits) in
-    let more : to_z w64 (of_z w64 c.plus.result) ≡ get_or sums b (pos 0) +ℤ x =
-    back64 c.plus.result c.plus.type-inv ∙ c.plus.ensures ∙ ap₂ ◌+ℤ◌ (back64 (get_or sums b (pos 0)) c.before.plus-arg.given) (back32 x start.ranges.x.sfits) in
+    back64 minus.result minus.type_inv ∙ minus.ensures ∙ ap₂ ◌-ℤ◌ (back64 (get_or sums a (pos 0)) c.before.before.before.minus-arg-1.given) (back32 x start.ranges.x.sfits) in
+    let more : to_z w64 (of_z w64 c.plus-more.result) ≡ get_or sums b (pos 0) +ℤ x =
+    back64 c.plus-more.result c.plus-more.type_inv ∙ c.plus-more.ensures ∙ ap₂ ◌+ℤ◌ (back64 (get_or sums b (pos 0)) c.before.plus-arg-1.given) (back32 x start.ranges.x.sfits) in
     rw (less, more)
+
+bounds-sums-a-2 : tie.Need-bounds-sums-a-2
+bounds-sums-a-2 c = search rules
 
 pub carry_spec : {M : Type 1} → statement M
 carry_spec =
     tie.close
-    (tie.spec
-    mul-minus
-    element-copy-out-minus
-    minus-requires
-    mul-plus
-    element-copy-out-plus
-    plus-requires
-    mul-less
-    element-set-from-less
-    mul-more
-    element-set-from-more
-    returns)
+    (tie.spec offset_bounds-sums-a bounds-sums-a minus-less-requires offset_bounds-sums-b bounds-sums-b plus-more-requires offset_bounds-sums-a-2 bounds-sums-a-2 offset_bounds-sums-b-2 bounds-sums-b-2 returns)

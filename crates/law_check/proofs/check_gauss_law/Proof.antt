@@ -14,33 +14,33 @@ use borrow.Author.Rules.{rules}
 use Rattle.law_check.proofs.check_gauss_law.Statement.{statement}
 use Rattle.law_check.proofs.check_gauss_law.Tie as tie
 
-judge-requires : tie.Need-judge-requires
-judge-requires c κs = search rules
+judge-number-requires : tie.Need-judge-number-requires
+judge-number-requires c κs = search rules
+
+returns-then-number-ne0 : tie.Need-returns-then-number-ne0
+unfolding law_call law_answer
+returns-then-number-ne0 c = refuses _ (record_refuses _ c.before.judge-number.ensures c.if-number-ne0.true _) (ne_eqb _ 0 c.if-number-ne0.true)
+
+accepted : (c : tie.Else-number-ne0) → refusal (complex_of c.before.before.args.c) ≡ 0
+accepted c = sym c.before.judge-number.ensures ∙ c.if-number-ne0.false
+
+returns-then-configuration-c : tie.Need-returns-then-configuration-c
+unfolding law_call law_answer
+returns-then-configuration-c c =
+    let start = c.before.before.before.before in
+    refuses _ (past_record _ (accepted c.before.before) (here (rw (ne_eqb _ _ (λ z. c.if-configuration-c.true (z ∙ edges_long start.args.c)))))) refl
+
+find_unlawful-finding-requires : tie.Need-find_unlawful-finding-requires
+find_unlawful-finding-requires c κs = search rules
 
 returns : tie.Need-returns
 unfolding law_call law_answer
-returns c = refuses _ (record_refuses _ c.before.judge.ensures c.if1.true _) (ne_eqb _ 0 c.if1.true)
-
-accepted : (c : tie.Else1) → refusal (complex_of c.before.before.args.c) ≡ 0
-accepted c = sym c.before.judge.ensures ∙ c.if1.false
-
-returns-2 : tie.Need-returns-2
-unfolding law_call law_answer
-returns-2 c =
-    let start = c.before.before.before.before in
-    refuses _ (past_record _ (accepted c.before.before) (here (rw (ne_eqb _ _ (λ z. c.if2.true (z ∙ edges_long start.args.c)))))) refl
-
-find_unlawful-requires : tie.Need-find_unlawful-requires
-find_unlawful-requires c κs = search rules
-
-returns-3 : tie.Need-returns-3
-unfolding law_call law_answer
-returns-3 c =
+returns c =
     let judged = c.before.before.before.before in
     let start = judged.before.before in
-    ends _ (past_record _ (accepted judged) (past (rw (eq-eqb _ _ (c.before.before.if2.false ∙ sym (edges_long start.args.c)))) none))
-    (ap (λ (f : Finding). not f.found) c.before.find_unlawful.ensures ∙ finding_lawful _ _ _) refl tt
+    ends _ (past_record _ (accepted judged) (past (rw (eq-eqb _ _ (c.before.before.if-configuration-c.false ∙ sym (edges_long start.args.c)))) none))
+    (ap (λ (f : Finding). not f.found) c.before.find_unlawful-finding.ensures ∙ finding_lawful _ _ _) refl tt
 
 pub check_gauss_law_spec : {M : Type 1} → statement M
 check_gauss_law_spec =
-    tie.close (tie.spec judge-requires returns returns-2 find_unlawful-requires returns-3)
+    tie.close (tie.spec judge-number-requires returns-then-number-ne0 returns-then-configuration-c find_unlawful-finding-requires returns)

@@ -4,8 +4,8 @@ use Rattle.law_check.proofs.LawTold.{accepted_ends, summed_finding}
 use Rattle.law_check.proofs.find_unlawful.Statement.{statement}
 use Rattle.law_check.proofs.find_unlawful.Tie as tie
 
-gauss_sums-requires : tie.Need-gauss_sums-requires
-gauss_sums-requires c κs =
+gauss_sums-sums-requires : tie.Need-gauss_sums-sums-requires
+gauss_sums-sums-requires c κs =
     let start = c.before.before in
     ((accepted_searchable _ start.requires.0).edges_fit, accepted_ends _ start.requires.0, start.requires.1)
 
@@ -15,7 +15,7 @@ first_unlawful-requires c κs = (accepted_searchable _ c.before.before.before.be
 returns : tie.Need-returns
 returns c =
     let start = c.before.before.before.before.before in
-    c.first_unlawful.ensures ∙ summed_finding _ start.requires.0 _ _ c.before.before.gauss_sums.ensures
+    c.first_unlawful.ensures ∙ summed_finding _ start.requires.0 _ _ c.before.before.gauss_sums-sums.ensures
 
 pub find_unlawful_spec : {M : Type 1} → statement M
-find_unlawful_spec = tie.close (tie.spec gauss_sums-requires first_unlawful-requires returns)
+find_unlawful_spec = tie.close (tie.spec gauss_sums-sums-requires first_unlawful-requires returns)

@@ -11,53 +11,43 @@ use Rattle.law_check.proofs.Findings.{lowest_next}
 use Rattle.law_check.proofs.first_unlawful.Statement.{statement}
 use Rattle.law_check.proofs.first_unlawful.Tie as tie
 
-abbrev invariant-loop : tie.invariant-loop
-invariant-loop sums n-vertices f₀ v₀ f v = (v ≤ n-vertices) × (f ≡ lowest_broken (λ u. get_or sums u (pos 0)) (λ u. pos 0) v)
+abbrev invariant-loop-v : tie.invariant-loop-v
+invariant-loop-v sums n_vertices f₀ v₀ f v = (v ≤ n_vertices) × (f ≡ lowest_broken (λ u. get_or sums u (pos 0)) (λ u. pos 0) v)
 
-abbrev decreases-loop : tie.decreases-loop
-decreases-loop sums n-vertices f₀ v₀ f v = n-vertices - v
+abbrev decreases-loop-v : tie.decreases-loop-v
+decreases-loop-v sums n_vertices f₀ v₀ f v = n_vertices - v
 
-loop-holds : tie.Need-loop-init invariant-loop decreases-loop
+loop-v-init : tie.Need-loop-v-init invariant-loop-v decreases-loop-v
 unfolding lowest_broken first_of keep below
-loop-holds c = (omega arith, refl)
+loop-v-init c = (omega arith, refl)
 
-mul-notice : tie.Need-overflow-mul-notice invariant-loop decreases-loop
-mul-notice c = search rules
+offset_bounds-sums-v : tie.Need-offset_bounds-sums-v invariant-loop-v decreases-loop-v
+offset_bounds-sums-v c = search rules
 
-element-copy-out-notice : tie.Need-element-copy-out-notice invariant-loop decreases-loop
-element-copy-out-notice c = search rules
+bounds-sums-v : tie.Need-bounds-sums-v invariant-loop-v decreases-loop-v
+bounds-sums-v c = search rules
 
-notice-requires : tie.Need-notice-requires invariant-loop decreases-loop
-notice-requires c κs = tt
+notice-f-requires : tie.Need-notice-f-requires invariant-loop-v decreases-loop-v
+notice-f-requires c κs = tt
 
-add-v : tie.Need-overflow-add-v invariant-loop decreases-loop
-add-v c = search rules
+overflow_step-v : tie.Need-overflow_step-v invariant-loop-v decreases-loop-v
+overflow_step-v c = search rules
 
-loop-less : tie.Need-loop-smaller invariant-loop decreases-loop
-loop-less c = search rules
+loop-v-smaller : tie.Need-loop-v-smaller invariant-loop-v decreases-loop-v
+loop-v-smaller c = search rules
 
-loop-again : tie.Need-loop-preserved invariant-loop decreases-loop
-loop-again c =
+loop-v-preserved : tie.Need-loop-v-preserved invariant-loop-v decreases-loop-v
+loop-v-preserved c =
     let at_loop = c.before.before.before in
-    let sum = get_or at_loop.before.args.sums.now at_loop.loop.v (pos 0) in
-    (omega arith, rw (lowest_next, ← at_loop.loop.invariant.1, ← back64 sum c.before.notice-arg.given) c.notice.ensures)
+    let sum = get_or at_loop.before.args.sums.now at_loop.loop-v.v (pos 0) in
+    (omega arith, rw (lowest_next, ← at_loop.loop-v.invariant.1, ← back64 sum c.before.notice-arg-1.given) c.notice-f.ensures)
 
-returns : tie.Need-returns invariant-loop decreases-loop
+returns : tie.Need-returns invariant-loop-v decreases-loop-v
 returns c =
-    let past : c.before.loop.v ≡ c.before.before.args.n-vertices = omega arith in
-    rw past at c.before.loop.invariant.1
+    let past : c.before.loop-v.v ≡ c.before.before.args.n_vertices = omega arith in
+    rw past at c.before.loop-v.invariant.1
 
 pub first_unlawful_spec : {M : Type 1} → statement M
 first_unlawful_spec =
     tie.close
-    (tie.spec
-    invariant-loop
-    decreases-loop
-    loop-holds
-    mul-notice
-    element-copy-out-notice
-    notice-requires
-    add-v
-    loop-less
-    loop-again
-    returns)
+    (tie.spec invariant-loop-v decreases-loop-v loop-v-init offset_bounds-sums-v bounds-sums-v notice-f-requires overflow_step-v loop-v-smaller loop-v-preserved returns)

@@ -17,28 +17,28 @@ use Rattle.acceptance.proofs.counts_right.Reads as counts-right-reads
 counts_right-requires : tie.Need-counts_right-requires
 counts_right-requires c κs = search rules
 
-passed_1 : (c : tie.Else1) → counts_right c.before.before.before.before.args.n-vertices (length c.before.before.before.before.args.edges.now / 2) (length c.before.before.before.before.args.triangles.now / 3) ≡ true
-passed_1 c = sym c.before.counts_right.ensures ∙ not-false _ c.if1.false
+passed_1 : (c : tie.Else-not-counts_right) → counts_right c.before.before.before.before.args.n_vertices (length c.before.before.before.before.args.edges.now / 2) (length c.before.before.before.before.args.triangles.now / 3) ≡ true
+passed_1 c = sym c.before.counts_right.ensures ∙ not-false _ c.if-not-counts_right.false
 
 -- src/lib.rt:219:9
-returns : tie.Need-returns
+returns-then-not-counts_right : tie.Need-returns-then-not-counts_right
 unfolding first size_tests
-returns c = rw (← c.before.counts_right.ensures, not-true c.before.counts_right.result c.if1.true)
+returns-then-not-counts_right c = rw (← c.before.counts_right.ensures, not-true c.before.counts_right.result c.if-not-counts_right.true)
 
 -- src/lib.rt:222:9
-returns-2 : tie.Need-returns-2
+returns-then-lambda-gt-LARGEST_TRUNCATION : tie.Need-returns-then-lambda-gt-LARGEST_TRUNCATION
 unfolding first size_tests
-returns-2 c = rw (passed_1 c.before, lt-ltb _ _ c.if2.true)
+returns-then-lambda-gt-LARGEST_TRUNCATION c = rw (passed_1 c.before, lt-ltb _ _ c.if-lambda-gt-LARGEST_TRUNCATION.true)
 
 -- src/lib.rt:225:9
-returns-3 : tie.Need-returns-3
+returns-then-not-edges-triangles : tie.Need-returns-then-not-edges-triangles
 unfolding first size_tests
-returns-3 c = rw (passed_1 c.before.before, le-ltb _ _ c.before.if2.false, c.if3.true)
+returns-then-not-edges-triangles c = rw (passed_1 c.before.before, le-ltb _ _ c.before.if-lambda-gt-LARGEST_TRUNCATION.false, c.if-not-edges-triangles.true)
 
 -- src/lib.rt:215:1
-returns-4 : tie.Need-returns-4
+returns : tie.Need-returns
 unfolding first size_tests
-returns-4 c = rw (passed_1 c.before.before, le-ltb _ _ c.before.if2.false, c.if3.false)
+returns c = rw (passed_1 c.before.before, le-ltb _ _ c.before.if-lambda-gt-LARGEST_TRUNCATION.false, c.if-not-edges-triangles.false)
 
 pub judge_sizes_spec : {M : Type 1} → statement M
-judge_sizes_spec = tie.close (tie.spec counts_right-requires returns returns-2 returns-3 returns-4)
+judge_sizes_spec = tie.close (tie.spec counts_right-requires returns-then-not-counts_right returns-then-lambda-gt-LARGEST_TRUNCATION returns-then-not-edges-triangles returns)

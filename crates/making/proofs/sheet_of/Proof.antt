@@ -13,7 +13,7 @@ use Rattle.making.proofs.sheet_of.Lts as lts
 use Rattle.sheet.proofs.edges_in.Reads as edges-in-reads
 use Rattle.sheet.proofs.triangles_in.Reads as triangles-in-reads
 
-sizes : (c : tie.Start) → Sizes c.args.n-vertices c.args.edges.now c.args.triangles.now c.args.lambda
+sizes : (c : tie.Start) → Sizes c.args.n_vertices c.args.edges.now c.args.triangles.now c.args.lambda
 sizes c = sizes_of _ _ _ _ c.requires
 
 few : (c : tie.Start) → (length c.args.edges.now ≤ 126) × (length c.args.triangles.now ≤ 768)
@@ -27,12 +27,12 @@ few c =
     (omega arith, omega arith)
 
 -- src/lib.rt:235:9
-edges_in-requires : tie.Need-edges_in-requires
-edges_in-requires c κs = let s = few c.before.before in (omega arith, omega arith)
+edges_in-pairs-requires : tie.Need-edges_in-pairs-requires
+edges_in-pairs-requires c κs = let s = few c.before.before in (omega arith, omega arith)
 
 -- src/lib.rt:236:9
-triangles_in-requires : tie.Need-triangles_in-requires
-triangles_in-requires c κs = let s = few c.before.before.before in (omega arith, omega arith)
+triangles_in-triples-requires : tie.Need-triangles_in-triples-requires
+triangles_in-triples-requires c κs = let s = few c.before.before.before in (omega arith, omega arith)
 
 -- src/lib.rt:231:1
 returns : tie.Need-returns
@@ -40,7 +40,7 @@ unfolding complex_of flat_complex
 returns c =
     let a = c.before.before.before.before in
     let s = sizes a in
-    (rw (c.triangles_in.ensures, c.before.edges_in.ensures, whole_list 2 126 a.args.edges.now _ s.pairs, whole_list 3 768 a.args.triangles.now _ s.triples), refl)
+    (rw (c.triangles_in-triples.ensures, c.before.edges_in-pairs.ensures, whole_list 2 126 a.args.edges.now _ s.pairs, whole_list 3 768 a.args.triangles.now _ s.triples), refl)
 
 pub sheet_of_spec : {M : Type 1} → statement M
-sheet_of_spec = tie.close (tie.spec edges_in-requires triangles_in-requires returns)
+sheet_of_spec = tie.close (tie.spec edges_in-pairs-requires triangles_in-triples-requires returns)

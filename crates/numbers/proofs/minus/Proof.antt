@@ -17,10 +17,10 @@ back_sum : (c : tie.After-i32_to_i64) → to_z w64 (of_z w64 c.before.args.sum) 
 back_sum c = back64 c.before.args.sum c.before.ranges.sum.sfits
 
 back_x : (c : tie.After-i32_to_i64) → to_z w64 (of_z w64 c.i32_to_i64.result) ≡ c.before.args.x
-back_x c = back64 c.i32_to_i64.result c.i32_to_i64.type-inv ∙ c.i32_to_i64.ensures ∙ back32 c.before.args.x c.before.ranges.x.sfits
+back_x c = back64 c.i32_to_i64.result c.i32_to_i64.type_inv ∙ c.i32_to_i64.ensures ∙ back32 c.before.args.x c.before.ranges.x.sfits
 
-sub-result : tie.Need-overflow-sub-result
-sub-result c =
+overflow_sub-result : tie.Need-overflow_sub-result
+overflow_sub-result c =
     let start = c.before in
     let sum = start.args.sum in
     let x = start.args.x in
@@ -29,7 +29,7 @@ sub-result c =
     rw (back_sum c, back_x c) (size_fits w64 (◌-ℤ◌ sum x) (omega (arith, size_difference sum x)))
 
 returns : tie.Need-returns
-returns c = to_z-of_z (sub-result c) ∙ ap₂ ◌-ℤ◌ (back_sum c) (back_x c)
+returns c = to_z-of_z (overflow_sub-result c) ∙ ap₂ ◌-ℤ◌ (back_sum c) (back_x c)
 
 pub minus_spec : {M : Type 1} → statement M
-minus_spec = tie.close (tie.spec i32_to_i64-requires sub-result returns)
+minus_spec = tie.close (tie.spec i32_to_i64-requires overflow_sub-result returns)

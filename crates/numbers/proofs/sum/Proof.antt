@@ -11,11 +11,11 @@ use Rattle.numbers.proofs.sum.Tie as tie
 is : (c : tie.Start) → ◌+ℤ◌ (to_z w32 (of_z w32 c.args.x)) (to_z w32 (of_z w32 c.args.delta)) ≡ ◌+ℤ◌ c.args.x c.args.delta
 is c = ap₂ ◌+ℤ◌ (back32 c.args.x c.ranges.x.sfits) (back32 c.args.delta c.ranges.delta.sfits)
 
-add-result : tie.Need-overflow-add-result
-add-result c = rw (is c) (size_fits w32 (◌+ℤ◌ c.args.x c.args.delta) (omega (arith, c.requires)))
+overflow_add-result : tie.Need-overflow_add-result
+overflow_add-result c = rw (is c) (size_fits w32 (◌+ℤ◌ c.args.x c.args.delta) (omega (arith, c.requires)))
 
 returns : tie.Need-returns
-returns c = to_z-of_z (add-result c) ∙ is c
+returns c = to_z-of_z (overflow_add-result c) ∙ is c
 
 pub sum_spec : {M : Type 1} → statement M
-sum_spec = tie.close (tie.spec add-result returns)
+sum_spec = tie.close (tie.spec overflow_add-result returns)

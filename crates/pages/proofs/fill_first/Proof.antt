@@ -15,8 +15,8 @@ use Rattle.pages.proofs.fill_first.Tie as tie
 abbrev start : tie.After-too_many → tie.Start
 start c = c.before.before.before.before
 
-prepare-requires : tie.Need-prepare-requires
-prepare-requires c κs = search rules
+prepare-w-requires : tie.Need-prepare-w-requires
+prepare-w-requires c κs = search rules
 
 too_many-requires : tie.Need-too_many-requires
 too_many-requires c κs = search rules
@@ -24,94 +24,83 @@ too_many-requires c κs = search rules
 fill_refused-requires : tie.Need-fill_refused-requires
 fill_refused-requires c κs = search rules
 
-same_length : tie.Need-same-length
-same_length c = search rules
+shape_of-out-then-too_many : tie.Need-shape_of-out-then-too_many
+shape_of-out-then-too_many c = search rules
 
-returns : tie.Need-returns
-returns c =
+returns-then-too_many : tie.Need-returns-then-too_many
+returns-then-too_many c =
     let tested = c.before.before.before.before.before in
     let s = start tested in
-    let many = sym tested.too_many.ensures ∙ c.before.before.before.before.if1.true in
-    let walks = tested.before.prepare.ensures in
+    let many = sym tested.too_many.ensures ∙ c.before.before.before.before.if-too_many.true in
+    let walks = tested.before.prepare-w.ensures in
     let told = c.before.before.fill_refused.ensures in
     record {
-      fills = rw (over s.args.s.complex s.args.s.lambda tested.before.prepare.result walks many) told.fills;
-      refusal = told.refusal ∙ sym (over_number s.args.s.complex s.args.s.lambda tested.before.prepare.result walks many);
+      fills = rw (over s.args.s.complex s.args.s.lambda tested.before.prepare-w.result walks many) told.fills;
+      refusal = told.refusal ∙ sym (over_number s.args.s.complex s.args.s.lambda tested.before.prepare-w.result walks many);
     }
 
-count_of_blocks-requires : tie.Need-count_of_blocks-requires
-count_of_blocks-requires c κs =
+count_of_blocks-blocks-requires : tie.Need-count_of_blocks-blocks-requires
+count_of_blocks-blocks-requires c κs =
     let tested = c.before in
     let s = start tested in
-    (s.pre.2, candidates_few s.args.s.complex s.args.s.lambda tested.before.prepare.result tested.before.prepare.ensures (sym tested.too_many.ensures ∙ c.if1.false))
+    (s.pre.2, candidates_few s.args.s.complex s.args.s.lambda tested.before.prepare-w.result tested.before.prepare-w.ensures (sym tested.too_many.ensures ∙ c.if-too_many.false))
 
 -- the blocks can be walked
-fit : (c : tie.After-count_of_blocks) → Fit c.before.before.before.prepare.result (start c.before.before).args.s.lambda c.count_of_blocks.result
+fit : (c : tie.After-count_of_blocks-blocks) → Fit c.before.before.before.prepare-w.result (start c.before.before).args.s.lambda c.count_of_blocks-blocks.result
 fit c =
     let tested = c.before.before in
     let s = start tested in
-    blocks_fit s.args.s.complex s.args.s.lambda tested.before.prepare.result tested.before.prepare.ensures (sym tested.too_many.ensures ∙ c.before.if1.false) c.count_of_blocks.result c.count_of_blocks.ensures s.pre.2
+    blocks_fit s.args.s.complex s.args.s.lambda tested.before.prepare-w.result tested.before.prepare-w.ensures (sym tested.too_many.ensures ∙ c.before.if-too_many.false) c.count_of_blocks-blocks.result c.count_of_blocks-blocks.ensures s.pre.2
 
-count_states-requires : tie.Need-count_states-requires
-count_states-requires c κs = fit c
+count_states-dim-requires : tie.Need-count_states-dim-requires
+count_states-dim-requires c κs = fit c
 
-abbrev start_of : tie.After-count_states → tie.Start
+abbrev start_of : tie.After-count_states-dim → tie.Start
 start_of c = start c.before.before.before
 
 -- the first line
-abbrev line : tie.After-count_states → List ℕ
+abbrev line : tie.After-count_states-dim → List ℕ
 line c =
     let s = (start_of c).args.s in
-    first_line s.complex.n_vertices s.complex.n_edges s.complex.n_triangles s.lambda c.count_states.result
+    first_line s.complex.n_vertices s.complex.n_edges s.complex.n_triangles s.lambda c.count_states-dim.result
 
-line_short : (c : tie.After-count_states) → 0 + length (line c) ≤ length (start_of c).args.out.now
+line_short : (c : tie.After-count_states-dim) → 0 + length (line c) ≤ length (start_of c).args.out.now
 line_short c =
     let s = start_of c in
     let room = s.pre.0 in
-    omega (arith, first_line_short s.args.s.complex s.args.s.lambda c.count_states.result s.pre.1 s.pre.2 c.count_states.type-inv)
+    omega (arith, first_line_short s.args.s.complex s.args.s.lambda c.count_states-dim.result s.pre.1 s.pre.2 c.count_states-dim.type_inv)
 
-write_first_line-requires : tie.Need-write_first_line-requires
-write_first_line-requires c κs = line_short c.before
+write_first_line-len-requires : tie.Need-write_first_line-len-requires
+write_first_line-len-requires c κs = line_short c.before
 
-first_page-requires : tie.Need-first_page-requires
-first_page-requires c κs = fit c.before.before.before.before.before
+first_page-page-requires : tie.Need-first_page-page-requires
+first_page-page-requires c κs = fit c.before.before.before.before.before
 
-same-length-2 : tie.Need-same-length-2
-same-length-2 c = search rules
+shape_of-out : tie.Need-shape_of-out
+shape_of-out c = search rules
 
-returns-2 : tie.Need-returns-2
-returns-2 c =
+returns : tie.Need-returns
+returns c =
     let wrote = c.before.before.before.before in
     let counted = wrote.before.before in
     let tested = counted.before.before.before in
     let s = start tested in
-    let blocks = counted.before.count_of_blocks in
-    let page = c.before.first_page in
-    let few = sym tested.too_many.ensures ∙ counted.before.before.if1.false in
-    let walks = tested.before.prepare.ensures in
-    let text = under_told s.args.s.complex s.args.s.lambda tested.before.prepare.result walks few blocks.result blocks.ensures in
-    let some = first_some s.args.s.complex.n_vertices s.args.s.complex.n_edges s.args.s.complex.n_triangles s.args.s.lambda counted.count_states.result in
+    let blocks = counted.before.count_of_blocks-blocks in
+    let page = c.before.first_page-page in
+    let few = sym tested.too_many.ensures ∙ counted.before.before.if-too_many.false in
+    let walks = tested.before.prepare-w.ensures in
+    let text = under_told s.args.s.complex s.args.s.lambda tested.before.prepare-w.result walks few blocks.result blocks.ensures in
+    let some = first_some s.args.s.complex.n_vertices s.args.s.complex.n_edges s.args.s.complex.n_triangles s.args.s.lambda counted.count_states-dim.result in
     record {
       fills =
           fills _ _ _
-          (rw (text, ← counted.count_states.ensures, ← page.ensures.0) (put_part (line counted) _ _ _ _ (line_short counted) some wrote.write_first_line.ensures))
+          (rw (text, ← counted.count_states-dim.ensures, ← page.ensures.0) (put_part (line counted) _ _ _ _ (line_short counted) some wrote.write_first_line-len.ensures))
           refl
           page.ensures.1;
-      refusal = sym (under_number s.args.s.complex s.args.s.lambda tested.before.prepare.result walks few);
+      refusal = sym (under_number s.args.s.complex s.args.s.lambda tested.before.prepare-w.result walks few);
     }
 
 pub fill_first_spec : {M : Type 1} → statement M
 fill_first_spec =
     tie.close
-    (tie.spec
-    prepare-requires
-    too_many-requires
-    fill_refused-requires
-    same_length
-    returns
-    count_of_blocks-requires
-    count_states-requires
-    write_first_line-requires
-    first_page-requires
-    same-length-2
-    returns-2)
+    (tie.spec prepare-w-requires too_many-requires fill_refused-requires shape_of-out-then-too_many returns-then-too_many count_of_blocks-blocks-requires count_states-dim-requires write_first_line-len-requires first_page-page-requires shape_of-out returns)

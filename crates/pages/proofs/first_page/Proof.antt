@@ -7,23 +7,23 @@ use Rattle.pages.proofs.Turning.{page_lines, page_ready, first_ready, first_line
 use Rattle.pages.proofs.first_page.Statement.{statement}
 use Rattle.pages.proofs.first_page.Tie as tie
 
-sub-config : tie.Need-overflow-sub-config
-sub-config c = search rules
+slice_bounds-config-count : tie.Need-slice_bounds-config-count
+slice_bounds-config-count c = search rules
 
-part-space-start : tie.Need-slice-bounds-space-start
-part-space-start c = search rules
+slice_bounds-space-start : tie.Need-slice_bounds-space-start
+slice_bounds-space-start c = search rules
 
-part-space-end : tie.Need-slice-bounds-space-end
-part-space-end c =
+slice_bounds-space-end : tie.Need-slice_bounds-space-end
+slice_bounds-space-end c =
     let few = c.before.before.before.requires.edges in
     let long = c.before.before.before.requires.space in
     search rules
 
-slice-aggregate-first-state : tie.Need-slice-aggregate-first-state
-slice-aggregate-first-state c = search rules
+slice_bounds-first_state-end : tie.Need-slice_bounds-first_state-end
+slice_bounds-first_state-end c = search rules
 
-first_state-requires : tie.Need-first_state-requires
-first_state-requires c κs =
+first_state-cursor-requires : tie.Need-first_state-cursor-requires
+first_state-cursor-requires c κs =
     let s = c.before.before.before.before.before.before in
     let w = s.args.w in
     first_ready w s.args.lambda s.args.blocks s.requires _ (begin_part w)
@@ -32,7 +32,7 @@ returns : tie.Need-returns
 returns c =
     let s = c.before.before.before.before.before.before.before.before in
     let w = s.args.w in
-    let first = c.before.first_state in
+    let first = c.before.first_state-cursor in
     let long = first.auto.0 ∙ ap length (begin_part w) ∙ s.requires.sized in (
       page_lines w s.args.lambda first.result first.new.0 _ long
           ∙ first_lines w s.args.lambda s.args.blocks s.requires _ (begin_part w) first.new.0 first.result first.ensures,
@@ -42,10 +42,4 @@ returns c =
 pub first_page_spec : {M : Type 1} → statement M
 first_page_spec =
     tie.close
-    (tie.spec
-    sub-config
-    part-space-start
-    part-space-end
-    slice-aggregate-first-state
-    first_state-requires
-    returns)
+    (tie.spec slice_bounds-config-count slice_bounds-space-start slice_bounds-space-end slice_bounds-first_state-end first_state-cursor-requires returns)

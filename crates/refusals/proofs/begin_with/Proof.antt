@@ -10,21 +10,21 @@ use borrow.Author.Rules.{rules}
 use Rattle.refusals.proofs.begin_with.Statement.{statement}
 use Rattle.refusals.proofs.begin_with.Tie as tie
 
-returns : tie.Need-returns
+returns-then-list-text : tie.Need-returns-then-list-text
 unfolding front_call number_answer
-returns c = refuses _ (here (lt-ltb _ _ c.if1.true)) refl
+returns-then-list-text c = refuses _ (here (lt-ltb _ _ c.if-list-text.true)) refl
 
 write_text-requires : tie.Need-write_text-requires
 write_text-requires c κs = search rules
 
-same_length : tie.Need-same-length
-same_length c = search rules
+shape_of-list : tie.Need-shape_of-list
+shape_of-list c = search rules
 
-returns-2 : tie.Need-returns-2
+returns : tie.Need-returns
 unfolding front_call number_answer
-returns-2 c =
+returns c =
     let put = c.before.before.write_text.ensures in
-    ends _ (past (le-ltb _ _ c.before.before.before.before.if1.false) none) (put.place ∙ zero-add _) (put.list ∙ put_front _ _) tt
+    ends _ (past (le-ltb _ _ c.before.before.before.before.if-list-text.false) none) (put.place ∙ zero-add _) (put.list-1 ∙ put_front _ _) tt
 
 pub begin_with_spec : {M : Type 1} → statement M
-begin_with_spec = tie.close (tie.spec returns write_text-requires same_length returns-2)
+begin_with_spec = tie.close (tie.spec returns-then-list-text write_text-requires shape_of-list returns)

@@ -15,14 +15,14 @@ told_product-requires c κs = search rules
 signed-requires : tie.Need-signed-requires
 signed-requires c κs = small_zero c.before.before.before.matvec.ensures c.told_product.ensures
 
-same_length : tie.Need-same-length
-same_length c = search rules
+shape_of-res : tie.Need-shape_of-res
+shape_of-res c = search rules
 
 returns : tie.Need-returns
 returns c =
     let t = c.before.before.before.before in
-    exports (zero_answered t.matvec.ensures) (back64 _ c.signed.type-inv ∙ c.signed.ensures ∙ signed_told _ c.before.told_product.ensures)
+    exports (zero_answered t.matvec.ensures) (back64 _ c.signed.type_inv ∙ c.signed.ensures ∙ signed_told _ c.before.told_product.ensures)
 
 pub export_matvec_spec : {M : Type 1} → statement M
 export_matvec_spec =
-    tie.close (tie.spec matvec-requires told_product-requires signed-requires same_length returns)
+    tie.close (tie.spec matvec-requires told_product-requires signed-requires shape_of-res returns)

@@ -5,19 +5,19 @@ use borrow.Author.Rules.{rules}
 use Rattle.rows_exports.proofs.told_product.Statement.{statement}
 use Rattle.rows_exports.proofs.told_product.Tie as tie
 
-enum_told : tie.Need-enum-told
-enum_told c = search rules
+enum_told-1 : tie.Need-enum_told-1
+enum_told-1 c = search rules
 
-enum-known-answer : tie.Need-enum-known-answer
-enum-known-answer c = search rules
+enum_known-answer : tie.Need-enum_known-answer
+enum_known-answer c = search rules
 
-returns : tie.Need-returns
+returns-in-Rows : tie.Need-returns-in-Rows
 unfolding outcome_told zero_of product_answer
-returns c = sym (ap (λ w. outcome_told (zero_of (product_answer w))) c.enum_told.given.1)
+returns-in-Rows c = sym (ap (λ w. outcome_told (zero_of (product_answer w))) c.enum_told-1.given.1)
 
-returns-2 : tie.Need-returns-2
+returns-in-Refused : tie.Need-returns-in-Refused
 unfolding outcome_told zero_of product_answer
-returns-2 c = sym (ap (λ w. outcome_told (zero_of (product_answer w))) c.before.answer.given.1)
+returns-in-Refused c = sym (ap (λ w. outcome_told (zero_of (product_answer w))) c.before.answer-1.given.1)
 
 pub told_product_spec : {M : Type 1} → statement M
-told_product_spec = tie.close (tie.spec enum_told enum-known-answer returns returns-2)
+told_product_spec = tie.close (tie.spec enum_told-1 enum_known-answer returns-in-Rows returns-in-Refused)

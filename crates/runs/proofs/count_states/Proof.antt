@@ -4,14 +4,14 @@ use borrow.Author.Rules.{rules}
 use Rattle.runs.proofs.count_states.Statement.{statement}
 use Rattle.runs.proofs.count_states.Tie as tie
 
-sub-config : tie.Need-overflow-sub-config
-sub-config c = search rules
+slice_bounds-config-count : tie.Need-slice_bounds-config-count
+slice_bounds-config-count c = search rules
 
-part-space-start : tie.Need-slice-bounds-space-start
-part-space-start c = search rules
+slice_bounds-space-start : tie.Need-slice_bounds-space-start
+slice_bounds-space-start c = search rules
 
-part-space-end : tie.Need-slice-bounds-space-end
-part-space-end c = search rules
+slice_bounds-space-end : tie.Need-slice_bounds-space-end
+slice_bounds-space-end c = search rules
 
 count_blocks-requires : tie.Need-count_blocks-requires
 count_blocks-requires c κs =
@@ -26,4 +26,4 @@ returns c =
 
 pub count_states_spec : {M : Type 1} → statement M
 count_states_spec =
-    tie.close (tie.spec sub-config part-space-start part-space-end count_blocks-requires returns)
+    tie.close (tie.spec slice_bounds-config-count slice_bounds-space-start slice_bounds-space-end count_blocks-requires returns)

@@ -11,23 +11,23 @@ use borrow.Author.Rules.{rules}
 use Rattle.runs.proofs.write_states.Statement.{statement}
 use Rattle.runs.proofs.write_states.Tie as tie
 
-sub-config : tie.Need-overflow-sub-config
-sub-config c = search rules
+slice_bounds-config-count : tie.Need-slice_bounds-config-count
+slice_bounds-config-count c = search rules
 
-part-space-start : tie.Need-slice-bounds-space-start
-part-space-start c = search rules
+slice_bounds-space-start : tie.Need-slice_bounds-space-start
+slice_bounds-space-start c = search rules
 
-part-space-end : tie.Need-slice-bounds-space-end
-part-space-end c = search rules
+slice_bounds-space-end : tie.Need-slice_bounds-space-end
+slice_bounds-space-end c = search rules
 
-sub_row : tie.Need-overflow-sub-row
-sub_row c = search rules
+slice_bounds-row-count : tie.Need-slice_bounds-row-count
+slice_bounds-row-count c = search rules
 
-part-rows-start : tie.Need-slice-bounds-rows-start
-part-rows-start c = search rules
+slice_bounds-rows-start : tie.Need-slice_bounds-rows-start
+slice_bounds-rows-start c = search rules
 
-part-rows-end : tie.Need-slice-bounds-rows-end
-part-rows-end c = search rules
+slice_bounds-rows-end : tie.Need-slice_bounds-rows-end
+slice_bounds-rows-end c = search rules
 
 write_blocks-requires : tie.Need-write_blocks-requires
 unfolding states_of
@@ -38,8 +38,8 @@ write_blocks-requires c κs =
     let zeros : length (take (w.n_edges - 0) (replicate 63 (pos 0))) ≡ w.n_edges = rw (sub-zero w.n_edges) (length-take-le w.n_edges (replicate 63 (pos 0)) (omega (arith, fit.edges))) in
     rw (begin_part w) (zeros ∙ sym fit.sized, fit.walkable, fit.runs, rw fit.sized s.requires.1)
 
-same_length : tie.Need-same-length
-same_length c = search rules
+shape_of-states : tie.Need-shape_of-states
+shape_of-states c = search rules
 
 returns : tie.Need-returns
 unfolding states_of
@@ -50,13 +50,4 @@ returns c =
 pub write_states_spec : {M : Type 1} → statement M
 write_states_spec =
     tie.close
-    (tie.spec
-    sub-config
-    part-space-start
-    part-space-end
-    sub_row
-    part-rows-start
-    part-rows-end
-    write_blocks-requires
-    same_length
-    returns)
+    (tie.spec slice_bounds-config-count slice_bounds-space-start slice_bounds-space-end slice_bounds-row-count slice_bounds-rows-start slice_bounds-rows-end write_blocks-requires shape_of-states returns)

@@ -10,73 +10,61 @@ use Rattle.sheet.proofs.copy.Tie as tie
 use Rattle.sheet.proofs.copy.Reads as reads
 use Rattle.sheet.proofs.copy.Lts as lts
 
-abbrev invariant-loop : tie.invariant-loop
-invariant-loop src start count out₀ at i₀ out i = (i ≤ count) × (length out ≡ length out₀) × (out ≡ paste out₀ at (drop start src) i)
+abbrev invariant-loop-i : tie.invariant-loop-i
+invariant-loop-i src start count out₀ at i₀ out i = (i ≤ count) × (length out ≡ length out₀) × (out ≡ paste out₀ at (drop start src) i)
 
-abbrev decreases-loop : tie.decreases-loop
-decreases-loop src start count out₀ at i₀ out i = count - i
+abbrev decreases-loop-i : tie.decreases-loop-i
+decreases-loop-i src start count out₀ at i₀ out i = count - i
 
 -- src/lib.rt:78:5
-loop-holds : tie.Need-loop-init invariant-loop decreases-loop
-loop-holds c = (omega arith, refl, paste-zero c.args.out.now c.args.at (drop c.args.start c.args.src.now))
+loop-i-init : tie.Need-loop-i-init invariant-loop-i decreases-loop-i
+loop-i-init c = (omega arith, refl, paste-zero c.args.out.now c.args.at (drop c.args.start c.args.src.now))
 
 -- src/lib.rt:79:27
-add-out : tie.Need-overflow-add-out invariant-loop decreases-loop
-add-out c = search rules
+overflow_add-out : tie.Need-overflow_add-out invariant-loop-i decreases-loop-i
+overflow_add-out c = search rules
 
 -- src/lib.rt:79:23
-shared-slice-read-out : tie.Need-shared-slice-read-out invariant-loop decreases-loop
-shared-slice-read-out c = search rules
+bounds-src-start : tie.Need-bounds-src-start invariant-loop-i decreases-loop-i
+bounds-src-start c = search rules
 
 -- src/lib.rt:79:13
-add-out-2 : tie.Need-overflow-add-out-2 invariant-loop decreases-loop
-add-out-2 c = search rules
+overflow_add-out-in-loop-i : tie.Need-overflow_add-out-in-loop-i invariant-loop-i decreases-loop-i
+overflow_add-out-in-loop-i c = search rules
 
 -- src/lib.rt:79:9
-slice-write-out : tie.Need-slice-write-out invariant-loop decreases-loop
-slice-write-out c = search rules
+bounds-out-at : tie.Need-bounds-out-at invariant-loop-i decreases-loop-i
+bounds-out-at c = search rules
 
 -- src/lib.rt:78:9
-add-i : tie.Need-overflow-add-i invariant-loop decreases-loop
-add-i c = search rules
+overflow_step-i : tie.Need-overflow_step-i invariant-loop-i decreases-loop-i
+overflow_step-i c = search rules
 
 -- src/lib.rt:78:5
-loop-less : tie.Need-loop-smaller invariant-loop decreases-loop
-loop-less c = search rules
+loop-i-smaller : tie.Need-loop-i-smaller invariant-loop-i decreases-loop-i
+loop-i-smaller c = search rules
 
 -- src/lib.rt:78:5
-loop-again : tie.Need-loop-preserved invariant-loop decreases-loop
-loop-again c =
+loop-i-preserved : tie.Need-loop-i-preserved invariant-loop-i decreases-loop-i
+loop-i-preserved c =
     let at_loop = c.before.before in
     let a = at_loop.before.args in
-    let i = at_loop.loop.i in
+    let i = at_loop.loop-i.i in
     let room : a.at + i < length a.out.now = omega (arith, at_loop.before.requires.1) in
     let here : i < length (drop a.start a.src.now) = omega (arith, at_loop.before.requires.0, length-drop a.start a.src.now) in
-    (omega arith, simp length-set at_loop.loop.invariant.1, rw (at_loop.loop.invariant.2, ← get_or-drop a.start a.src.now i 0, add-one i) (paste-suc a.out.now a.at (drop a.start a.src.now) i 0 room here))
+    (omega arith, simp length-set at_loop.loop-i.invariant.1, rw (at_loop.loop-i.invariant.2, ← get_or-drop a.start a.src.now i 0, add-one i) (paste-suc a.out.now a.at (drop a.start a.src.now) i 0 room here))
 
 -- src/lib.rt:74:1
-same_length : tie.Need-same-length invariant-loop decreases-loop
-same_length c = search rules
+shape_of-out : tie.Need-shape_of-out invariant-loop-i decreases-loop-i
+shape_of-out c = search rules
 
 -- src/lib.rt:74:1
-returns : tie.Need-returns invariant-loop decreases-loop
+returns : tie.Need-returns invariant-loop-i decreases-loop-i
 returns c =
-    let past : c.before.loop.i ≡ c.before.before.args.count = omega arith in
-    rw past at c.before.loop.invariant.2
+    let past : c.before.loop-i.i ≡ c.before.before.args.count = omega arith in
+    rw past at c.before.loop-i.invariant.2
 
 pub copy_spec : {M : Type 1} → statement M
 copy_spec =
     tie.close
-    (tie.spec
-    invariant-loop
-    decreases-loop
-    loop-holds
-    add-out
-    shared-slice-read-out
-    add-out-2
-    slice-write-out
-    add-i
-    loop-less
-    loop-again
-    same_length
-    returns)
+    (tie.spec invariant-loop-i decreases-loop-i loop-i-init overflow_add-out bounds-src-start overflow_add-out-in-loop-i bounds-out-at overflow_step-i loop-i-smaller loop-i-preserved shape_of-out returns)

@@ -11,8 +11,8 @@ use Rattle.sheet.proofs.edges_in.Lts as lts
 use Rattle.sheet.proofs.copy.Reads as copy-reads
 
 -- src/lib.rt:89:27
-slice-aggregate-copy : tie.Need-slice-aggregate-copy
-slice-aggregate-copy c = search rules
+slice_bounds-copy-end : tie.Need-slice_bounds-copy-end
+slice_bounds-copy-end c = search rules
 
 -- src/lib.rt:89:5
 copy-requires : tie.Need-copy-requires
@@ -26,4 +26,4 @@ returns c =
     c.before.copy.ensures ∙ paste_padded 126 _ _ a.requires.1 here
 
 pub edges_in_spec : {M : Type 1} → statement M
-edges_in_spec = tie.close (tie.spec slice-aggregate-copy copy-requires returns)
+edges_in_spec = tie.close (tie.spec slice_bounds-copy-end copy-requires returns)

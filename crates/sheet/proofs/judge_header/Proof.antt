@@ -17,157 +17,135 @@ use Rattle.sheet.proofs.judge_header.Statement.{statement}
 use Rattle.sheet.proofs.judge_header.Tie as tie
 
 -- the bytes that are judged
-abbrev to-1 : tie.Else2 → tie.Else1
+abbrev to-1 : tie.Else-not-b → tie.Else-b-lt-SHEET_HEADER
 to-1 c = c.before.before.before.before
 
-abbrev to-2 : tie.Else3 → tie.Else2
+abbrev to-2 : tie.Else-word-ne1 → tie.Else-not-b
 to-2 c = c.before.before
 
-abbrev to-3 : tie.Else4 → tie.Else3
+abbrev to-3 : tie.Else-not-counts_right → tie.Else-word-ne1
 to-3 c = c.before.before.before.before.before.before.before
 
-abbrev to-4 : tie.Else5 → tie.Else4
+abbrev to-4 : tie.Else-word-gt-LARGEST_TRUNCATION → tie.Else-not-counts_right
 to-4 c = c.before.before
 
-abbrev bytes-1 : tie.Else1 → List ℕ
+abbrev bytes-1 : tie.Else-b-lt-SHEET_HEADER → List ℕ
 bytes-1 c = c.before.before.args.b.now
 
 -- the tests that were passed at each place
-passed_1 : (c : tie.Else1) → ltb (length (bytes-1 c)) 11 ≡ false
-passed_1 c = le-ltb _ _ c.if1.false
+passed_1 : (c : tie.Else-b-lt-SHEET_HEADER) → ltb (length (bytes-1 c)) 11 ≡ false
+passed_1 c = le-ltb _ _ c.if-b-lt-SHEET_HEADER.false
 
-long : (c : tie.Else1) → 3 ≤ length (bytes-1 c)
+long : (c : tie.Else-b-lt-SHEET_HEADER) → 3 ≤ length (bytes-1 c)
 long c = omega arith
 
-passed_2 : (c : tie.Else2) → same (take 3 (bytes-1 (to-1 c))) (71 ∷ 76 ∷ 83 ∷ []) ≡ true
-passed_2 c = mark_test (bytes-1 (to-1 c)) 71 76 83 (long (to-1 c)) ∙ not-false _ c.if2.false
+passed_2 : (c : tie.Else-not-b) → same (take 3 (bytes-1 (to-1 c))) (71 ∷ 76 ∷ 83 ∷ []) ≡ true
+passed_2 c = mark_test (bytes-1 (to-1 c)) 71 76 83 (long (to-1 c)) ∙ not-false _ c.if-not-b.false
 
-failed_2 : (c : tie.Then2) → same (take 3 (bytes-1 c.before.before.before.before)) (71 ∷ 76 ∷ 83 ∷ []) ≡ false
-failed_2 c = mark_test (bytes-1 c.before.before.before.before) 71 76 83 (long c.before.before.before.before) ∙ not-true _ c.if2.true
+failed_2 : (c : tie.Then-not-b) → same (take 3 (bytes-1 c.before.before.before.before)) (71 ∷ 76 ∷ 83 ∷ []) ≡ false
+failed_2 c = mark_test (bytes-1 c.before.before.before.before) 71 76 83 (long c.before.before.before.before) ∙ not-true _ c.if-not-b.true
 
-passed_3 : (c : tie.Else3) → eqb (word (bytes-1 (to-1 (to-2 c))) 3) 1 ≡ true
-passed_3 c = eq-eqb _ _ (sym c.before.word.ensures.0 ∙ c.if3.false)
+passed_3 : (c : tie.Else-word-ne1) → eqb (word (bytes-1 (to-1 (to-2 c))) 3) 1 ≡ true
+passed_3 c = eq-eqb _ _ (sym c.before.word.ensures.0 ∙ c.if-word-ne1.false)
 
 -- the counts as they were read
 counted : (c : tie.After-counts_right) → counts_right (get_or (bytes-1 (to-1 (to-2 c.before.before.before.before.before.before))) 5 0) (get_or (bytes-1 (to-1 (to-2 c.before.before.before.before.before.before))) 6 0) (word (bytes-1 (to-1 (to-2 c.before.before.before.before.before.before))) 7) ≡ c.counts_right.result
-counted c = rw (← c.before.byte2.ensures, ← c.before.before.before.before.byte.ensures, ← c.before.before.before.word2.ensures.0) (sym c.counts_right.ensures)
+counted c = rw (← c.before.byte.ensures, ← c.before.before.before.before.byte-m.ensures, ← c.before.before.before.word-t.ensures.0) (sym c.counts_right.ensures)
 
-passed_4 : (c : tie.Else4) → counts_right (get_or (bytes-1 (to-1 (to-2 (to-3 c)))) 5 0) (get_or (bytes-1 (to-1 (to-2 (to-3 c)))) 6 0) (word (bytes-1 (to-1 (to-2 (to-3 c)))) 7) ≡ true
-passed_4 c = counted c.before ∙ not-false _ c.if4.false
+passed_4 : (c : tie.Else-not-counts_right) → counts_right (get_or (bytes-1 (to-1 (to-2 (to-3 c)))) 5 0) (get_or (bytes-1 (to-1 (to-2 (to-3 c)))) 6 0) (word (bytes-1 (to-1 (to-2 (to-3 c)))) 7) ≡ true
+passed_4 c = counted c.before ∙ not-false _ c.if-not-counts_right.false
 
-passed_5 : (c : tie.Else5) → ltb 1000 (word (bytes-1 (to-1 (to-2 (to-3 (to-4 c))))) 9) ≡ false
-passed_5 c = rw (← c.before.word3.ensures.0) (le-ltb _ _ c.if5.false)
+passed_5 : (c : tie.Else-word-gt-LARGEST_TRUNCATION) → ltb 1000 (word (bytes-1 (to-1 (to-2 (to-3 (to-4 c))))) 9) ≡ false
+passed_5 c = rw (← c.before.word-2.ensures.0) (le-ltb _ _ c.if-word-gt-LARGEST_TRUNCATION.false)
 
 -- the counts are small
-few : (c : tie.Else5) → ((to-4 c).before.before.before.before.before.byte.result ≤ 63) × ((to-4 c).before.before.before.before.word2.result ≤ 256)
+few : (c : tie.Else-word-gt-LARGEST_TRUNCATION) → ((to-4 c).before.before.before.before.before.byte-m.result ≤ 63) × ((to-4 c).before.before.before.before.word-t.result ≤ 256)
 few c =
     let k = counts _ _ _ (passed_4 (to-4 c)) in
-    (rw (to-4 c).before.before.before.before.before.byte.ensures k.edges, rw (to-4 c).before.before.before.before.word2.ensures.0 k.triangles)
+    (rw (to-4 c).before.before.before.before.before.byte-m.ensures k.edges, rw (to-4 c).before.before.before.before.word-t.ensures.0 k.triangles)
 
-returns : tie.Need-returns
+returns-then-b-lt-SHEET_HEADER : tie.Need-returns-then-b-lt-SHEET_HEADER
 unfolding first header_tests
-returns c = rw (lt-ltb _ _ c.if1.true)
+returns-then-b-lt-SHEET_HEADER c = rw (lt-ltb _ _ c.if-b-lt-SHEET_HEADER.true)
 
-shared-slice-read-if2 : tie.Need-shared-slice-read-if2
-shared-slice-read-if2 c = search rules
+bounds-b-0 : tie.Need-bounds-b-0
+bounds-b-0 c = search rules
 
-shared-slice-read-if2-2 : tie.Need-shared-slice-read-if2-2
-shared-slice-read-if2-2 c = search rules
+bounds-b-1 : tie.Need-bounds-b-1
+bounds-b-1 c = search rules
 
-shared-slice-read-if2-3 : tie.Need-shared-slice-read-if2-3
-shared-slice-read-if2-3 c = search rules
+bounds-b-2 : tie.Need-bounds-b-2
+bounds-b-2 c = search rules
 
-returns-2 : tie.Need-returns-2
+returns-then-not-b : tie.Need-returns-then-not-b
 unfolding first header_tests
-returns-2 c = rw (passed_1 c.before.before.before.before, failed_2 c)
+returns-then-not-b c = rw (passed_1 c.before.before.before.before, failed_2 c)
 
 word-requires : tie.Need-word-requires
 word-requires c κs = search rules
 
-returns-3 : tie.Need-returns-3
+returns-then-word-ne1 : tie.Need-returns-then-word-ne1
 unfolding first header_tests
-returns-3 c = rw (passed_1 (to-1 c.before.before), passed_2 c.before.before, ← c.before.word.ensures.0, ne_eqb _ _ c.if3.true)
+returns-then-word-ne1 c = rw (passed_1 (to-1 c.before.before), passed_2 c.before.before, ← c.before.word.ensures.0, ne_eqb _ _ c.if-word-ne1.true)
 
-shared-slice-read-byte : tie.Need-shared-slice-read-byte
-shared-slice-read-byte c = search rules
+bounds-b-6 : tie.Need-bounds-b-6
+bounds-b-6 c = search rules
+
+byte-m-requires : tie.Need-byte-m-requires
+byte-m-requires c κs = search rules
+
+word-t-requires : tie.Need-word-t-requires
+word-t-requires c κs = search rules
+
+bounds-b-5 : tie.Need-bounds-b-5
+bounds-b-5 c = search rules
 
 byte-requires : tie.Need-byte-requires
 byte-requires c κs = search rules
 
-word-requires-2 : tie.Need-word-requires-2
-word-requires-2 c κs = search rules
-
-shared-slice-read-byte-2 : tie.Need-shared-slice-read-byte-2
-shared-slice-read-byte-2 c = search rules
-
-byte-requires-2 : tie.Need-byte-requires-2
-byte-requires-2 c κs = search rules
-
 counts_right-requires : tie.Need-counts_right-requires
 counts_right-requires c κs = search rules
 
-returns-4 : tie.Need-returns-4
+returns-then-not-counts_right : tie.Need-returns-then-not-counts_right
 unfolding first header_tests
-returns-4 c =
+returns-then-not-counts_right c =
     let e = c.before.before.before.before.before.before.before in
-    rw (passed_1 (to-1 (to-2 e)), passed_2 (to-2 e), passed_3 e, counted c.before, not-true c.before.counts_right.result c.if4.true)
+    rw (passed_1 (to-1 (to-2 e)), passed_2 (to-2 e), passed_3 e, counted c.before, not-true c.before.counts_right.result c.if-not-counts_right.true)
 
-word-requires-3 : tie.Need-word-requires-3
-word-requires-3 c κs = search rules
+word-requires-2 : tie.Need-word-requires-2
+word-requires-2 c κs = search rules
 
-returns-5 : tie.Need-returns-5
+returns-then-word-gt-LARGEST_TRUNCATION : tie.Need-returns-then-word-gt-LARGEST_TRUNCATION
 unfolding first header_tests
-returns-5 c =
+returns-then-word-gt-LARGEST_TRUNCATION c =
     let e = c.before.before in
-    rw (passed_1 (to-1 (to-2 (to-3 e))), passed_2 (to-2 (to-3 e)), passed_3 (to-3 e), passed_4 e, ← c.before.word3.ensures.0, lt-ltb _ _ c.if5.true)
+    rw (passed_1 (to-1 (to-2 (to-3 e))), passed_2 (to-2 (to-3 e)), passed_3 (to-3 e), passed_4 e, ← c.before.word-2.ensures.0, lt-ltb _ _ c.if-word-gt-LARGEST_TRUNCATION.true)
 
-mul-if6 : tie.Need-overflow-mul-if6
-mul-if6 c = omega (arith, few c)
+overflow_mul-m : tie.Need-overflow_mul-m
+overflow_mul-m c = omega (arith, few c)
 
-add-if6 : tie.Need-overflow-add-if6
-add-if6 c = omega (arith, few c)
+overflow_add-m : tie.Need-overflow_add-m
+overflow_add-m c = omega (arith, few c)
 
-mul-if6-2 : tie.Need-overflow-mul-if6-2
-mul-if6-2 c = search rules
+overflow_mul-t : tie.Need-overflow_mul-t
+overflow_mul-t c = search rules
 
-add-if6-2 : tie.Need-overflow-add-if6-2
-add-if6-2 c = omega (arith, few c)
+overflow_add-m-2 : tie.Need-overflow_add-m-2
+overflow_add-m-2 c = omega (arith, few c)
 
-returns-6 : tie.Need-returns-6
+returns-then-b-m : tie.Need-returns-then-b-m
 unfolding first header_tests
-returns-6 c =
+returns-then-b-m c =
     let e = to-4 c.before in
-    rw (passed_1 (to-1 (to-2 (to-3 e))), passed_2 (to-2 (to-3 e)), passed_3 (to-3 e), passed_4 e, passed_5 c.before, ← e.before.before.before.before.before.byte.ensures, ← e.before.before.before.before.word2.ensures.0, ne_eqb _ _ c.if6.true)
+    rw (passed_1 (to-1 (to-2 (to-3 e))), passed_2 (to-2 (to-3 e)), passed_3 (to-3 e), passed_4 e, passed_5 c.before, ← e.before.before.before.before.before.byte-m.ensures, ← e.before.before.before.before.word-t.ensures.0, ne_eqb _ _ c.if-b-m.true)
 
-returns-7 : tie.Need-returns-7
+returns : tie.Need-returns
 unfolding first header_tests
-returns-7 c =
+returns c =
     let e = to-4 c.before in
-    rw (passed_1 (to-1 (to-2 (to-3 e))), passed_2 (to-2 (to-3 e)), passed_3 (to-3 e), passed_4 e, passed_5 c.before, ← e.before.before.before.before.before.byte.ensures, ← e.before.before.before.before.word2.ensures.0, eq-eqb _ _ c.if6.false)
+    rw (passed_1 (to-1 (to-2 (to-3 e))), passed_2 (to-2 (to-3 e)), passed_3 (to-3 e), passed_4 e, passed_5 c.before, ← e.before.before.before.before.before.byte-m.ensures, ← e.before.before.before.before.word-t.ensures.0, eq-eqb _ _ c.if-b-m.false)
 
 pub judge_header_spec : {M : Type 1} → statement M
 judge_header_spec =
     tie.close
-    (tie.spec
-    returns
-    shared-slice-read-if2
-    shared-slice-read-if2-2
-    shared-slice-read-if2-3
-    returns-2
-    word-requires
-    returns-3
-    shared-slice-read-byte
-    byte-requires
-    word-requires-2
-    shared-slice-read-byte-2
-    byte-requires-2
-    counts_right-requires
-    returns-4
-    word-requires-3
-    returns-5
-    mul-if6
-    add-if6
-    mul-if6-2
-    add-if6-2
-    returns-6
-    returns-7)
+    (tie.spec returns-then-b-lt-SHEET_HEADER bounds-b-0 bounds-b-1 bounds-b-2 returns-then-not-b word-requires returns-then-word-ne1 bounds-b-6 byte-m-requires word-t-requires bounds-b-5 byte-requires counts_right-requires returns-then-not-counts_right word-requires-2 returns-then-word-gt-LARGEST_TRUNCATION overflow_mul-m overflow_add-m overflow_mul-t overflow_add-m-2 returns-then-b-m returns)

@@ -11,8 +11,8 @@ use Rattle.sheet.proofs.triangles_in.Lts as lts
 use Rattle.sheet.proofs.copy.Reads as copy-reads
 
 -- src/lib.rt:99:27
-slice-aggregate-copy : tie.Need-slice-aggregate-copy
-slice-aggregate-copy c = search rules
+slice_bounds-copy-end : tie.Need-slice_bounds-copy-end
+slice_bounds-copy-end c = search rules
 
 -- src/lib.rt:99:5
 copy-requires : tie.Need-copy-requires
@@ -26,4 +26,4 @@ returns c =
     c.before.copy.ensures ∙ paste_padded 768 _ _ a.requires.1 here
 
 pub triangles_in_spec : {M : Type 1} → statement M
-triangles_in_spec = tie.close (tie.spec slice-aggregate-copy copy-requires returns)
+triangles_in_spec = tie.close (tie.spec slice_bounds-copy-end copy-requires returns)

@@ -4,8 +4,8 @@ use borrow.Author.Rules.{rules}
 use Rattle.shifts.proofs.shifted_row.Statement.{statement}
 use Rattle.shifts.proofs.shifted_row.Tie as tie
 
-slice-aggregate-write-shifted : tie.Need-slice-aggregate-write-shifted
-slice-aggregate-write-shifted c = search rules
+slice_bounds-write_shifted-end : tie.Need-slice_bounds-write_shifted-end
+slice_bounds-write_shifted-end c = search rules
 
 write_shifted-requires : tie.Need-write_shifted-requires
 write_shifted-requires c κs = search rules
@@ -17,4 +17,4 @@ returns c =
 
 pub shifted_row_spec : {M : Type 1} → statement M
 shifted_row_spec =
-    tie.close (tie.spec slice-aggregate-write-shifted write_shifted-requires returns)
+    tie.close (tie.spec slice_bounds-write_shifted-end write_shifted-requires returns)

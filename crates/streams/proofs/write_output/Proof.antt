@@ -8,70 +8,55 @@ use borrow.Author.Rules.{rules}
 use Rattle.streams.proofs.write_output.Statement.{statement}
 use Rattle.streams.proofs.write_output.Tie as tie
 
-abbrev invariant-loop : tie.invariant-loop
-invariant-loop fd bytes m₀ m = m.n ≤ length bytes
+abbrev invariant-loop-m : tie.invariant-loop-m
+invariant-loop-m fd bytes m₀ m = m.n ≤ length bytes
 
-abbrev decreases-loop : tie.decreases-loop
-decreases-loop fd bytes m₀ m = left (length bytes) m
+abbrev decreases-loop-m : tie.decreases-loop-m
+decreases-loop-m fd bytes m₀ m = left (length bytes) m
 
-start-requires : tie.Need-start-requires invariant-loop decreases-loop
-start-requires c κs = search rules
+start-m-requires : tie.Need-start-m-requires invariant-loop-m decreases-loop-m
+start-m-requires c κs = search rules
 
-loop-holds : tie.Need-loop-init invariant-loop decreases-loop
-loop-holds c = search rules
+loop-m-init : tie.Need-loop-m-init invariant-loop-m decreases-loop-m
+loop-m-init c = search rules
 
-sub-room : tie.Need-overflow-sub-room invariant-loop decreases-loop
-sub-room c = search rules
+overflow_sub-room : tie.Need-overflow_sub-room invariant-loop-m decreases-loop-m
+overflow_sub-room c = search rules
 
-sub-write : tie.Need-overflow-sub-write invariant-loop decreases-loop
-sub-write c = search rules
+slice_bounds-write-count : tie.Need-slice_bounds-write-count invariant-loop-m decreases-loop-m
+slice_bounds-write-count c = search rules
 
-part-write-start : tie.Need-slice-bounds-write-start invariant-loop decreases-loop
-part-write-start c = search rules
+slice_bounds-write-start : tie.Need-slice_bounds-write-start invariant-loop-m decreases-loop-m
+slice_bounds-write-start c = search rules
 
-part-write-end : tie.Need-slice-bounds-write-end invariant-loop decreases-loop
-part-write-end c = search rules
+slice_bounds-write-end : tie.Need-slice_bounds-write-end invariant-loop-m decreases-loop-m
+slice_bounds-write-end c = search rules
 
-write-requires : tie.Need-write-requires invariant-loop decreases-loop
-write-requires c κs = search rules
+write-got-requires : tie.Need-write-got-requires invariant-loop-m decreases-loop-m
+write-got-requires c κs = search rules
 
-count-requires : tie.Need-count-requires invariant-loop decreases-loop
+count-requires : tie.Need-count-requires invariant-loop-m decreases-loop-m
 count-requires c κs = search rules
 
-smaller-requires : tie.Need-smaller-requires invariant-loop decreases-loop
+smaller-requires : tie.Need-smaller-requires invariant-loop-m decreases-loop-m
 smaller-requires c κs = search rules
 
-after-requires : tie.Need-after-requires invariant-loop decreases-loop
-after-requires c κs = search rules
+after-m-requires : tie.Need-after-m-requires invariant-loop-m decreases-loop-m
+after-m-requires c κs = search rules
 
-loop-less : tie.Need-loop-smaller invariant-loop decreases-loop
-loop-less c =
+loop-m-smaller : tie.Need-loop-m-smaller invariant-loop-m decreases-loop-m
+loop-m-smaller c =
     let at_loop = c.before.before.before.before.before.before.before.before in
-    let test = c.before.before.before.before.before.if1.true in
-    less_left _ _ _ at_loop.loop.m c.after.result (and_parts _ _ test).0 (omega (arith, c.before.smaller.ensures)) c.after.ensures
+    let test = c.before.before.before.before.before.loop-m-test.true in
+    less_left _ _ _ at_loop.loop-m.m c.after-m.result (and_parts _ _ test).0 (omega (arith, c.before.smaller.ensures)) c.after-m.ensures
 
-loop-again : tie.Need-loop-preserved invariant-loop decreases-loop
-loop-again c = search rules
+loop-m-preserved : tie.Need-loop-m-preserved invariant-loop-m decreases-loop-m
+loop-m-preserved c = search rules
 
-returns : tie.Need-returns invariant-loop decreases-loop
+returns : tie.Need-returns invariant-loop-m decreases-loop-m
 returns c = search rules
 
 pub write_output_spec : {M : Type 1} → statement M
 write_output_spec =
     tie.close
-    (tie.spec
-    invariant-loop
-    decreases-loop
-    start-requires
-    loop-holds
-    sub-room
-    sub-write
-    part-write-start
-    part-write-end
-    write-requires
-    count-requires
-    smaller-requires
-    after-requires
-    loop-less
-    loop-again
-    returns)
+    (tie.spec invariant-loop-m decreases-loop-m start-m-requires loop-m-init overflow_sub-room slice_bounds-write-count slice_bounds-write-start slice_bounds-write-end write-got-requires count-requires smaller-requires after-m-requires loop-m-smaller loop-m-preserved returns)

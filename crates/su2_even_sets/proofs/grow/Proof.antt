@@ -11,41 +11,41 @@ use borrow.Author.Rules.{rules}
 use Rattle.su2_even_sets.proofs.grow.Statement.{statement}
 use Rattle.su2_even_sets.proofs.grow.Tie as tie
 
-element-copy-out-from : tie.Need-element-copy-out-from
-element-copy-out-from c = search rules
+bounds-part-b : tie.Need-bounds-part-b
+bounds-part-b c = search rules
 
-element-copy-out-to : tie.Need-element-copy-out-to
-element-copy-out-to c = search rules
+bounds-part-a : tie.Need-bounds-part-a
+bounds-part-a c = search rules
 
-mul-cycle : tie.Need-overflow-mul-cycle
-mul-cycle c = search rules
+offset_bounds-path-a : tie.Need-offset_bounds-path-a
+offset_bounds-path-a c = search rules
 
-element-copy-out-cycle : tie.Need-element-copy-out-cycle
-element-copy-out-cycle c = search rules
+bounds-path-a : tie.Need-bounds-path-a
+bounds-path-a c = search rules
 
-mul-cycle-2 : tie.Need-overflow-mul-cycle-2
-mul-cycle-2 c = search rules
+offset_bounds-path-b : tie.Need-offset_bounds-path-b
+offset_bounds-path-b c = search rules
 
-element-copy-out-cycle-2 : tie.Need-element-copy-out-cycle-2
-element-copy-out-cycle-2 c = search rules
+bounds-path-b : tie.Need-bounds-path-b
+bounds-path-b c = search rules
 
-shl-cycle : tie.Need-overflow-shl-cycle
-shl-cycle c = search rules
+overflow_shl-cycle : tie.Need-overflow_shl-cycle
+overflow_shl-cycle c = search rules
 
-cast-closing : tie.Need-overflow-cast-closing
-cast-closing c = search rules
+overflow_cast-closing : tie.Need-overflow_cast-closing
+overflow_cast-closing c = search rules
 
-element-write-closing : tie.Need-element-write-closing
-element-write-closing c = search rules
+bounds-closing-count : tie.Need-bounds-closing-count
+bounds-closing-count c = search rules
 
-mul-loops : tie.Need-overflow-mul-loops
-mul-loops c = search rules
+offset_bounds-loops-count : tie.Need-offset_bounds-loops-count
+offset_bounds-loops-count c = search rules
 
-element-write-loops : tie.Need-element-write-loops
-element-write-loops c = search rules
+bounds-loops-count : tie.Need-bounds-loops-count
+bounds-loops-count c = search rules
 
-add-result : tie.Need-overflow-add-result
-add-result c = search rules
+overflow_add-result : tie.Need-overflow_add-result
+overflow_add-result c = search rules
 
 -- the tables at first, and the loop as the code makes it
 abbrev tables : tie.Start → Forest
@@ -57,43 +57,28 @@ paths s = bit_xor (get_or s.args.path.now s.args.a 0) (get_or s.args.path.now s.
 made_is : (s : tie.Start) → bit_xor (paths s) (1 * 2 ^ s.args.e % 2 ^ 64) ≡ bit_xor (paths s) (2 ^ s.args.e)
 made_is s = rw (power_shifted s.args.e (omega (arith, s.requires.2)))
 
-returns : tie.Need-returns
-returns c =
-    let start = c.before.before.before.before.before in
+returns-then-from-to : tie.Need-returns-then-from-to
+returns-then-from-to c =
+    let start = c.before.before.before.before.before.before.before.before.before in
     record {
       keeps = λ g k w.
-          closed_kept g (tables start) k start.args.a start.args.b start.args.e (omega (arith, start.requires.3, start.requires.5)) (omega (arith, start.requires.4, start.requires.5)) _ (made_is start) c.if1.true (omega (arith, start.requires.1, start.requires.2));
+          closed_kept g (tables start) k start.args.a start.args.b start.args.e (omega (arith, start.requires.3, start.requires.5)) (omega (arith, start.requires.4, start.requires.5)) _ (made_is start) c.before.before.if-from-to.true (omega (arith, start.requires.1, start.requires.2));
       few = omega arith;
     }
 
 join-requires : tie.Need-join-requires
 join-requires c κs = search rules
 
-returns-2 : tie.Need-returns-2
-returns-2 c =
-    let start = c.before.before.before.before.before.before.before.before in
+returns : tie.Need-returns
+returns c =
+    let start = c.before.before.before.before.before.before.before.before.before.before in
     record {
       keeps = λ g k w.
-          joined_kept g (tables start) k start.args.a start.args.b start.args.e (omega (arith, start.requires.3, start.requires.5)) (omega (arith, start.requires.4, start.requires.5)) _ (made_is start) c.before.before.before.if1.false start.args.n-vertices start.requires.4 w _ _ c.join.ensures;
+          joined_kept g (tables start) k start.args.a start.args.b start.args.e (omega (arith, start.requires.3, start.requires.5)) (omega (arith, start.requires.4, start.requires.5)) _ (made_is start) c.before.before.before.if-from-to.false start.args.n_vertices start.requires.4 w _ _ c.join.ensures;
       few = omega arith;
     }
 
 pub grow_spec : {M : Type 1} → statement M
 grow_spec =
     tie.close
-    (tie.spec
-    element-copy-out-from
-    element-copy-out-to
-    mul-cycle
-    element-copy-out-cycle
-    mul-cycle-2
-    element-copy-out-cycle-2
-    shl-cycle
-    cast-closing
-    element-write-closing
-    mul-loops
-    element-write-loops
-    add-result
-    returns
-    join-requires
-    returns-2)
+    (tie.spec bounds-part-b bounds-part-a offset_bounds-path-a bounds-path-a offset_bounds-path-b bounds-path-b overflow_shl-cycle overflow_cast-closing bounds-closing-count offset_bounds-loops-count bounds-loops-count overflow_add-result returns-then-from-to join-requires returns)

@@ -7,71 +7,56 @@ use borrow.Author.Rules.{rules}
 use Rattle.su2_even_sets.proofs.join.Statement.{statement}
 use Rattle.su2_even_sets.proofs.join.Tie as tie
 
-abbrev invariant-loop : tie.invariant-loop
-invariant-loop part₀ path₀ n-vertices from to cycle v₀ part path v = (v ≤ n-vertices) × Joined part₀ path₀ from to cycle v part path
+abbrev invariant-loop-v : tie.invariant-loop-v
+invariant-loop-v part₀ path₀ n_vertices from to cycle v₀ part path v = (v ≤ n_vertices) × Joined part₀ path₀ from to cycle v part path
 
-abbrev decreases-loop : tie.decreases-loop
-decreases-loop part₀ path₀ n-vertices from to cycle v₀ part path v = n-vertices - v
+abbrev decreases-loop-v : tie.decreases-loop-v
+decreases-loop-v part₀ path₀ n_vertices from to cycle v₀ part path v = n_vertices - v
 
-loop-holds : tie.Need-loop-init invariant-loop decreases-loop
-loop-holds c = (omega arith, joined_none _ _ _ _ _ c.requires.0 c.requires.1)
+loop-v-init : tie.Need-loop-v-init invariant-loop-v decreases-loop-v
+loop-v-init c = (omega arith, joined_none _ _ _ _ _ c.requires.0 c.requires.1)
 
-element-copy-out-p : tie.Need-element-copy-out-p invariant-loop decreases-loop
-element-copy-out-p c = search rules
+bounds-part-v : tie.Need-bounds-part-v invariant-loop-v decreases-loop-v
+bounds-part-v c = search rules
 
-mul-lengthened : tie.Need-overflow-mul-lengthened invariant-loop decreases-loop
-mul-lengthened c = search rules
+offset_bounds-path-v : tie.Need-offset_bounds-path-v invariant-loop-v decreases-loop-v
+offset_bounds-path-v c = search rules
 
-element-copy-out-lengthened : tie.Need-element-copy-out-lengthened invariant-loop decreases-loop
-element-copy-out-lengthened c = search rules
+bounds-path-v : tie.Need-bounds-path-v invariant-loop-v decreases-loop-v
+bounds-path-v c = search rules
 
-lengthened-requires : tie.Need-lengthened-requires invariant-loop decreases-loop
+lengthened-requires : tie.Need-lengthened-requires invariant-loop-v decreases-loop-v
 lengthened-requires c κs = search rules
 
-mul-path : tie.Need-overflow-mul-path invariant-loop decreases-loop
-mul-path c = search rules
+offset_bounds-path-v-in-loop-v : tie.Need-offset_bounds-path-v-in-loop-v invariant-loop-v decreases-loop-v
+offset_bounds-path-v-in-loop-v c = search rules
 
-element-write-path : tie.Need-element-write-path invariant-loop decreases-loop
-element-write-path c = search rules
+bounds-path-v-in-loop-v : tie.Need-bounds-path-v-in-loop-v invariant-loop-v decreases-loop-v
+bounds-path-v-in-loop-v c = search rules
 
-moved-requires : tie.Need-moved-requires invariant-loop decreases-loop
+moved-requires : tie.Need-moved-requires invariant-loop-v decreases-loop-v
 moved-requires c κs = search rules
 
-element-write-part : tie.Need-element-write-part invariant-loop decreases-loop
-element-write-part c = search rules
+bounds-part-v-in-loop-v : tie.Need-bounds-part-v-in-loop-v invariant-loop-v decreases-loop-v
+bounds-part-v-in-loop-v c = search rules
 
-add-v : tie.Need-overflow-add-v invariant-loop decreases-loop
-add-v c = search rules
+overflow_step-v : tie.Need-overflow_step-v invariant-loop-v decreases-loop-v
+overflow_step-v c = search rules
 
-loop-less : tie.Need-loop-smaller invariant-loop decreases-loop
-loop-less c = search rules
+loop-v-smaller : tie.Need-loop-v-smaller invariant-loop-v decreases-loop-v
+loop-v-smaller c = search rules
 
-loop-again : tie.Need-loop-preserved invariant-loop decreases-loop
-loop-again c =
-    let at_loop = c.before.before.before.before.before in
-    (omega arith, joined_more _ _ _ _ _ _ _ _ _ _ at_loop.loop.invariant.1 (omega (arith, at_loop.before.requires.2)) c.moved.ensures c.before.lengthened.ensures)
+loop-v-preserved : tie.Need-loop-v-preserved invariant-loop-v decreases-loop-v
+loop-v-preserved c =
+    let at_loop = c.before.before.before.before.before.before.before in
+    (omega arith, joined_more _ _ _ _ _ _ _ _ _ _ at_loop.loop-v.invariant.1 (omega (arith, at_loop.before.requires.2)) c.moved.ensures c.before.lengthened.ensures)
 
-returns : tie.Need-returns invariant-loop decreases-loop
+returns : tie.Need-returns invariant-loop-v decreases-loop-v
 returns c =
-    let past : c.before.loop.v ≡ c.before.before.args.n-vertices = omega arith in
-    rw past at c.before.loop.invariant.1
+    let past : c.before.loop-v.v ≡ c.before.before.args.n_vertices = omega arith in
+    rw past at c.before.loop-v.invariant.1
 
 pub join_spec : {M : Type 1} → statement M
 join_spec =
     tie.close
-    (tie.spec
-    invariant-loop
-    decreases-loop
-    loop-holds
-    element-copy-out-p
-    mul-lengthened
-    element-copy-out-lengthened
-    lengthened-requires
-    mul-path
-    element-write-path
-    moved-requires
-    element-write-part
-    add-v
-    loop-less
-    loop-again
-    returns)
+    (tie.spec invariant-loop-v decreases-loop-v loop-v-init bounds-part-v offset_bounds-path-v bounds-path-v lengthened-requires offset_bounds-path-v-in-loop-v bounds-path-v-in-loop-v moved-requires bounds-part-v-in-loop-v overflow_step-v loop-v-smaller loop-v-preserved returns)

@@ -8,18 +8,18 @@ use borrow.Author.Rules.{rules}
 use Rattle.su2_exports.proofs.export_build_csr_su2.Statement.{statement}
 use Rattle.su2_exports.proofs.export_build_csr_su2.Tie as tie
 
-open-requires : tie.Need-open-requires
-open-requires c κs = search rules
+open-opened-requires : tie.Need-open-opened-requires
+open-opened-requires c κs = search rules
 
 refused-requires : tie.Need-refused-requires
 refused-requires c κs = search rules
 
-returns : tie.Need-returns
+returns-then-number-ne0 : tie.Need-returns-then-number-ne0
 unfolding su2_rows_call
-returns c = sheet_refuses c.before.before.open.ensures _ c.before.if1.true _ (back64 _ c.refused.type-inv ∙ c.refused.ensures)
+returns-then-number-ne0 c = sheet_refuses c.before.before.open-opened.ensures _ c.before.if-number-ne0.true _ (back64 _ c.refused.type_inv ∙ c.refused.ensures)
 
-build_csr_su2-requires : tie.Need-build_csr_su2-requires
-build_csr_su2-requires c κs = search rules
+build_csr_su2-answer-requires : tie.Need-build_csr_su2-answer-requires
+build_csr_su2-answer-requires c κs = search rules
 
 told_number-requires : tie.Need-told_number-requires
 told_number-requires c κs = search rules
@@ -29,38 +29,27 @@ unfolding su2_rows_call
 signed-requires c κs =
     let t = c.before.before.before.before.before.before.before.before.before in
     let e = t.before.before.before.before.before.before in
-    small_answer t.build_csr_su2.ensures (entries_small _ (read_accepted e.before.open.ensures e.if1.false)) c.told_number.ensures
+    small_answer t.build_csr_su2-answer.ensures (entries_small _ (read_accepted e.before.open-opened.ensures e.if-number-ne0.false)) c.told_number.ensures
 
-same_length : tie.Need-same-length
-same_length c = search rules
+shape_of-states : tie.Need-shape_of-states
+shape_of-states c = search rules
 
-same-length-2 : tie.Need-same-length-2
-same-length-2 c = search rules
+shape_of-starts : tie.Need-shape_of-starts
+shape_of-starts c = search rules
 
-same-length-3 : tie.Need-same-length-3
-same-length-3 c = search rules
+shape_of-columns : tie.Need-shape_of-columns
+shape_of-columns c = search rules
 
-same-length-4 : tie.Need-same-length-4
-same-length-4 c = search rules
+shape_of-values : tie.Need-shape_of-values
+shape_of-values c = search rules
 
-returns-2 : tie.Need-returns-2
-returns-2 c =
+returns : tie.Need-returns
+returns c =
     let t = c.before.before.before.before.before.before.before.before.before.before in
     let e = t.before.before.before.before.before.before in
-    sheet_answers e.before.open.ensures _ e.if1.false t.build_csr_su2.ensures (back64 _ c.signed.type-inv ∙ c.signed.ensures ∙ signed_told _ c.before.told_number.ensures)
+    sheet_answers e.before.open-opened.ensures _ e.if-number-ne0.false t.build_csr_su2-answer.ensures (back64 _ c.signed.type_inv ∙ c.signed.ensures ∙ signed_told _ c.before.told_number.ensures)
 
 pub export_build_csr_su2_spec : {M : Type 1} → statement M
 export_build_csr_su2_spec =
     tie.close
-    (tie.spec
-    open-requires
-    refused-requires
-    returns
-    build_csr_su2-requires
-    told_number-requires
-    signed-requires
-    same_length
-    same-length-2
-    same-length-3
-    same-length-4
-    returns-2)
+    (tie.spec open-opened-requires refused-requires returns-then-number-ne0 build_csr_su2-answer-requires told_number-requires signed-requires shape_of-states shape_of-starts shape_of-columns shape_of-values returns)

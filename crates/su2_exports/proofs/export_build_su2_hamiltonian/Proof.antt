@@ -7,48 +7,39 @@ use borrow.Author.Rules.{rules}
 use Rattle.su2_exports.proofs.export_build_su2_hamiltonian.Statement.{statement}
 use Rattle.su2_exports.proofs.export_build_su2_hamiltonian.Tie as tie
 
-open-requires : tie.Need-open-requires
-open-requires c κs = search rules
+open-opened-requires : tie.Need-open-opened-requires
+open-opened-requires c κs = search rules
 
 refused-requires : tie.Need-refused-requires
 refused-requires c κs = search rules
 
-returns : tie.Need-returns
+returns-then-number-ne0 : tie.Need-returns-then-number-ne0
 unfolding su2_dense_call
-returns c = sheet_refuses c.before.before.open.ensures _ c.before.if1.true _ (back64 _ c.refused.type-inv ∙ c.refused.ensures)
+returns-then-number-ne0 c = sheet_refuses c.before.before.open-opened.ensures _ c.before.if-number-ne0.true _ (back64 _ c.refused.type_inv ∙ c.refused.ensures)
 
-build_su2_hamiltonian-requires : tie.Need-build_su2_hamiltonian-requires
-build_su2_hamiltonian-requires c κs = search rules
+build_su2_hamiltonian-answer-requires : tie.Need-build_su2_hamiltonian-answer-requires
+build_su2_hamiltonian-answer-requires c κs = search rules
 
 told_number-requires : tie.Need-told_number-requires
 told_number-requires c κs = search rules
 
 signed-requires : tie.Need-signed-requires
 unfolding su2_dense_call
-signed-requires c κs = small_answer c.before.before.before.before.before.build_su2_hamiltonian.ensures (λ k. few_small k refl) c.told_number.ensures
+signed-requires c κs = small_answer c.before.before.before.before.before.build_su2_hamiltonian-answer.ensures (λ k. few_small k refl) c.told_number.ensures
 
-same_length : tie.Need-same-length
-same_length c = search rules
+shape_of-states : tie.Need-shape_of-states
+shape_of-states c = search rules
 
-same-length-2 : tie.Need-same-length-2
-same-length-2 c = search rules
+shape_of-res : tie.Need-shape_of-res
+shape_of-res c = search rules
 
-returns-2 : tie.Need-returns-2
-returns-2 c =
+returns : tie.Need-returns
+returns c =
     let t = c.before.before.before.before.before.before in
     let e = t.before.before.before.before in
-    sheet_answers e.before.open.ensures _ e.if1.false t.build_su2_hamiltonian.ensures (back64 _ c.signed.type-inv ∙ c.signed.ensures ∙ signed_told _ c.before.told_number.ensures)
+    sheet_answers e.before.open-opened.ensures _ e.if-number-ne0.false t.build_su2_hamiltonian-answer.ensures (back64 _ c.signed.type_inv ∙ c.signed.ensures ∙ signed_told _ c.before.told_number.ensures)
 
 pub export_build_su2_hamiltonian_spec : {M : Type 1} → statement M
 export_build_su2_hamiltonian_spec =
     tie.close
-    (tie.spec
-    open-requires
-    refused-requires
-    returns
-    build_su2_hamiltonian-requires
-    told_number-requires
-    signed-requires
-    same_length
-    same-length-2
-    returns-2)
+    (tie.spec open-opened-requires refused-requires returns-then-number-ne0 build_su2_hamiltonian-answer-requires told_number-requires signed-requires shape_of-states shape_of-res returns)

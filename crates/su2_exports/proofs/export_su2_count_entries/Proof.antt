@@ -8,15 +8,15 @@ use borrow.Author.Rules.{rules}
 use Rattle.su2_exports.proofs.export_su2_count_entries.Statement.{statement}
 use Rattle.su2_exports.proofs.export_su2_count_entries.Tie as tie
 
-open-requires : tie.Need-open-requires
-open-requires c κs = search rules
+open-opened-requires : tie.Need-open-opened-requires
+open-opened-requires c κs = search rules
 
 refused-requires : tie.Need-refused-requires
 refused-requires c κs = search rules
 
-returns : tie.Need-returns
+returns-then-number-ne0 : tie.Need-returns-then-number-ne0
 unfolding su2_entries_call
-returns c = sheet_refuses c.before.before.open.ensures _ c.before.if1.true _ (back64 _ c.refused.type-inv ∙ c.refused.ensures)
+returns-then-number-ne0 c = sheet_refuses c.before.before.open-opened.ensures _ c.before.if-number-ne0.true _ (back64 _ c.refused.type_inv ∙ c.refused.ensures)
 
 su2_count_entries-requires : tie.Need-su2_count_entries-requires
 su2_count_entries-requires c κs = search rules
@@ -28,20 +28,13 @@ signed-requires : tie.Need-signed-requires
 unfolding su2_entries_call
 signed-requires c κs = small_answer c.before.su2_count_entries.ensures number_small c.told_number.ensures
 
-returns-2 : tie.Need-returns-2
-returns-2 c =
+returns : tie.Need-returns
+returns c =
     let t = c.before.before in
     let e = t.before.before in
-    sheet_answers e.before.open.ensures _ e.if1.false t.su2_count_entries.ensures (back64 _ c.signed.type-inv ∙ c.signed.ensures ∙ signed_told _ c.before.told_number.ensures)
+    sheet_answers e.before.open-opened.ensures _ e.if-number-ne0.false t.su2_count_entries.ensures (back64 _ c.signed.type_inv ∙ c.signed.ensures ∙ signed_told _ c.before.told_number.ensures)
 
 pub export_su2_count_entries_spec : {M : Type 1} → statement M
 export_su2_count_entries_spec =
     tie.close
-    (tie.spec
-    open-requires
-    refused-requires
-    returns
-    su2_count_entries-requires
-    told_number-requires
-    signed-requires
-    returns-2)
+    (tie.spec open-opened-requires refused-requires returns-then-number-ne0 su2_count_entries-requires told_number-requires signed-requires returns)

@@ -25,80 +25,80 @@ use borrow.Author.Rules.{rules}
 use Rattle.su2_loops.proofs.loop_expectation.Statement.{statement}
 use Rattle.su2_loops.proofs.loop_expectation.Tie as tie
 
-abbrev at-start : tie.Else2 → tie.Start
+abbrev at-start : tie.Else-count-gt20 → tie.Start
 at-start c = c.before.before.before.before.before.before.before
 
-good : (c : tie.Else1) → refusal (complex_of c.before.before.before.before.before.args.c) ≡ 0
-good c = sym c.before.judge.ensures ∙ c.if1.false
+good : (c : tie.Else-number-ne0) → refusal (complex_of c.before.before.before.before.before.args.c) ≡ 0
+good c = sym c.before.judge-number.ensures ∙ c.if-number-ne0.false
 
-few : (c : tie.Else2) → c.before.closing_loops.result.count ≤ 20
+few : (c : tie.Else-count-gt20) → c.before.closing_loops-f.result.count ≤ 20
 few c = omega arith
 
-loops : (c : tie.Else2) → LoopsOf (complex_of (at-start c).args.c) c.before.closing_loops.result
-loops c = loops_of _ (good c.before.before) _ c.before.closing_loops.ensures
+loops : (c : tie.Else-count-gt20) → LoopsOf (complex_of (at-start c).args.c) c.before.closing_loops-f.result
+loops c = loops_of _ (good c.before.before) _ c.before.closing_loops-f.ensures
 
 -- the number of states, as the code makes it
-number : (c : tie.Else2) → 1 * 2 ^ c.before.closing_loops.result.count % 2 ^ 64 ≡ length (su2_states (complex_of (at-start c).args.c))
-number c = power_shifted c.before.closing_loops.result.count (omega (arith, few c)) ∙ sym (states_number _ _ (loops c))
+number : (c : tie.Else-count-gt20) → 1 * 2 ^ c.before.closing_loops-f.result.count % 2 ^ 64 ≡ length (su2_states (complex_of (at-start c).args.c))
+number c = power_shifted c.before.closing_loops-f.result.count (omega (arith, few c)) ∙ sym (states_number _ _ (loops c))
 
 -- the amplitudes and the path are judged by the definition's own tests
-abbrev tested : tie.Else2 → List (ℕ × Bool)
+abbrev tested : tie.Else-count-gt20 → List (ℕ × Bool)
 tested c =
     let a = (at-start c).args in
     loop_tests (length (su2_states (complex_of a.c))) (length (complex_of a.c).edges) a.vector.now a.path.now
 
-judged : (c : tie.After-judge_loop) → c.judge_loop.result ≡ first (tested c.before)
-judged c = rw (edges_long (at-start c.before).args.c, ← (number c.before)) c.judge_loop.ensures
+judged : (c : tie.After-judge_loop-other) → c.judge_loop-other.result ≡ first (tested c.before)
+judged c = rw (edges_long (at-start c.before).args.c, ← (number c.before)) c.judge_loop-other.ensures
 
-passed : (c : tie.Else3) → first (tested c.before.before) ≡ 0
-passed c = sym (judged c.before) ∙ c.if3.false
+passed : (c : tie.Else-other-ne0) → first (tested c.before.before) ≡ 0
+passed c = sym (judged c.before) ∙ c.if-other-ne0.false
 
-room : (c : tie.Else4) → length (su2_states (complex_of (at-start c.before.before.before).args.c)) ≤ length (at-start c.before.before.before).args.states.now
-room c = rw (number c.before.before.before) at c.if4.false
+room : (c : tie.Else-states-n) → length (su2_states (complex_of (at-start c.before.before.before).args.c)) ≤ length (at-start c.before.before.before).args.states.now
+room c = rw (number c.before.before.before) at c.if-states-n.false
 
-judge-requires : tie.Need-judge-requires
-judge-requires c κs = search rules
+judge-number-requires : tie.Need-judge-number-requires
+judge-number-requires c κs = search rules
 
-returns : tie.Need-returns
+returns-then-number-ne0 : tie.Need-returns-then-number-ne0
 unfolding expectation_answer
-returns c = refuses _ (record_refuses _ c.before.judge.ensures c.if1.true _) (ne_eqb _ 0 c.if1.true)
+returns-then-number-ne0 c = refuses _ (record_refuses _ c.before.judge-number.ensures c.if-number-ne0.true _) (ne_eqb _ 0 c.if-number-ne0.true)
 
-closing_loops-requires : tie.Need-closing_loops-requires
-closing_loops-requires c κs = search rules
+closing_loops-f-requires : tie.Need-closing_loops-f-requires
+closing_loops-f-requires c κs = search rules
 
-returns-2 : tie.Need-returns-2
+returns-then-count-gt20 : tie.Need-returns-then-count-gt20
 unfolding expectation_answer
-returns-2 c =
+returns-then-count-gt20 c =
     let made = c.before in
-    refuses _ (limit_refuses (good made.before) (loops_of _ (good made.before) _ made.closing_loops.ensures) c.if2.true _) refl
+    refuses _ (limit_refuses (good made.before) (loops_of _ (good made.before) _ made.closing_loops-f.ensures) c.if-count-gt20.true _) refl
 
-shl-n : tie.Need-overflow-shl-n
-shl-n c = search rules
+overflow_shl-n : tie.Need-overflow_shl-n
+overflow_shl-n c = search rules
 
-judge_loop-requires : tie.Need-judge_loop-requires
-judge_loop-requires c κs = search rules
+judge_loop-other-requires : tie.Need-judge_loop-other-requires
+judge_loop-other-requires c κs = search rules
 
-returns-3 : tie.Need-returns-3
+returns-then-other-ne0 : tie.Need-returns-then-other-ne0
 unfolding expectation_answer
-returns-3 c =
+returns-then-other-ne0 c =
     let small = c.before.before in
-    refuses _ (past_masks (good small.before.before) (loops small) (few small) (loop_refuses _ _ _ _ (judged c.before) c.if3.true _)) (ne_eqb _ 0 c.if3.true)
+    refuses _ (past_masks (good small.before.before) (loops small) (few small) (loop_refuses _ _ _ _ (judged c.before) c.if-other-ne0.true _)) (ne_eqb _ 0 c.if-other-ne0.true)
 
-returns-4 : tie.Need-returns-4
+returns-then-states-n : tie.Need-returns-then-states-n
 unfolding expectation_answer
-returns-4 c =
+returns-then-states-n c =
     let right = c.before in
     let small = right.before.before in
-    refuses _ (past_masks (good small.before.before) (loops small) (few small) (past_loop _ _ _ _ (passed right) (here (lt-ltb _ _ (rw (number small) at c.if4.true))))) refl
+    refuses _ (past_masks (good small.before.before) (loops small) (few small) (past_loop _ _ _ _ (passed right) (here (lt-ltb _ _ (rw (number small) at c.if-states-n.true))))) refl
 
 write_masks-requires : tie.Need-write_masks-requires
 write_masks-requires c κs =
     let enough = c.before.before.before in
     let small = enough.before.before.before in
-    ((loops small).keeps.loops.long, few small, rw (← (states_number _ _ (loops small))) (room enough))
+    ((loops small).keeps.loops-1.long, few small, rw (← (states_number _ _ (loops small))) (room enough))
 
-counted_mask-requires : tie.Need-counted_mask-requires
-counted_mask-requires c κs =
+counted_mask-mask-requires : tie.Need-counted_mask-mask-requires
+counted_mask-mask-requires c κs =
     let right = c.before.before.before.before.before.before.before in
     let edges = (loops right.before.before).accepted.few_edges in
     λ k h. omega (arith, (loop_fits _ _ _ _ (passed right)).1 k h, edges)
@@ -111,12 +111,12 @@ mask_sum-requires c κs =
     let n = number right.before.before in
     (rw (n, (loop_fits _ _ _ _ (passed right)).0) (omega arith), rw n (omega (arith, room enough, masks.write_masks.auto.0)))
 
-same_length : tie.Need-same-length
-same_length c = search rules
+shape_of-states : tie.Need-shape_of-states
+shape_of-states c = search rules
 
-returns-5 : tie.Need-returns-5
+returns : tie.Need-returns
 unfolding expectation_answer
-returns-5 c =
+returns c =
     let marked = c.before.before in
     let masks = marked.before.before.before in
     let enough = masks.before.before.before.before in
@@ -128,24 +128,11 @@ returns-5 c =
     let states = rw (masks_are _ _ of) at written in
     ends _ (past_masks fine of (few small) (past_loop _ _ _ _ (passed right) (past (le-ltb _ _ (room enough)) none)))
     (sum_told _ of.accepted _ _ _ _ states _ _ c.mask_sum.ensures (number small)
-    ∙ ap (counted_expectation _ _) (counted_mask _ _ marked.counted_mask.ensures))
+    ∙ ap (counted_expectation _ _) (counted_mask _ _ marked.counted_mask-mask.ensures))
     (masks_written fine of _ _ written)
     (masks_known fine of (few small)).few
 
 pub loop_expectation_spec : {M : Type 1} → statement M
 loop_expectation_spec =
     tie.close
-    (tie.spec
-    judge-requires
-    returns
-    closing_loops-requires
-    returns-2
-    shl-n
-    judge_loop-requires
-    returns-3
-    returns-4
-    write_masks-requires
-    counted_mask-requires
-    mask_sum-requires
-    same_length
-    returns-5)
+    (tie.spec judge-number-requires returns-then-number-ne0 closing_loops-f-requires returns-then-count-gt20 overflow_shl-n judge_loop-other-requires returns-then-other-ne0 returns-then-states-n write_masks-requires counted_mask-mask-requires mask_sum-requires shape_of-states returns)

@@ -6,12 +6,12 @@ use Rattle.su2_loops.proofs.su2_wilson_passes.Tie as tie
 loop_expectation-requires : tie.Need-loop_expectation-requires
 loop_expectation-requires c κs = search rules
 
-same_length : tie.Need-same-length
-same_length c = search rules
+shape_of-states : tie.Need-shape_of-states
+shape_of-states c = search rules
 
 returns : tie.Need-returns
 unfolding su2_passes_call counting
 returns c = c.before.before.loop_expectation.ensures
 
 pub su2_wilson_passes_spec : {M : Type 1} → statement M
-su2_wilson_passes_spec = tie.close (tie.spec loop_expectation-requires same_length returns)
+su2_wilson_passes_spec = tie.close (tie.spec loop_expectation-requires shape_of-states returns)

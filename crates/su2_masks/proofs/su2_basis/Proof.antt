@@ -16,71 +16,62 @@ use borrow.Author.Rules.{rules}
 use Rattle.su2_masks.proofs.su2_basis.Statement.{statement}
 use Rattle.su2_masks.proofs.su2_basis.Tie as tie
 
-good : (c : tie.Else1) → refusal (complex_of c.before.before.before.args.c) ≡ 0
-good c = sym c.before.judge.ensures ∙ c.if1.false
+good : (c : tie.Else-number-ne0) → refusal (complex_of c.before.before.before.args.c) ≡ 0
+good c = sym c.before.judge-number.ensures ∙ c.if-number-ne0.false
 
-loops : (c : tie.After-closing_loops) → LoopsOf (complex_of c.before.before.before.before.args.c) c.closing_loops.result
-loops c = loops_of _ (good c.before) _ c.closing_loops.ensures
+loops : (c : tie.After-closing_loops-f) → LoopsOf (complex_of c.before.before.before.before.args.c) c.closing_loops-f.result
+loops c = loops_of _ (good c.before) _ c.closing_loops-f.ensures
 
-few : (c : tie.Else2) → c.before.closing_loops.result.count ≤ 20
+few : (c : tie.Else-n-gt20) → c.before.closing_loops-f.result.count ≤ 20
 few c = omega arith
 
 -- the number of states, as the code makes it
-number : (c : tie.Else2) → 1 * 2 ^ c.before.closing_loops.result.count % 2 ^ 64 ≡ 2 ^ c.before.closing_loops.result.count
-number c = power_shifted c.before.closing_loops.result.count (omega (arith, few c))
+number : (c : tie.Else-n-gt20) → 1 * 2 ^ c.before.closing_loops-f.result.count % 2 ^ 64 ≡ 2 ^ c.before.closing_loops-f.result.count
+number c = power_shifted c.before.closing_loops-f.result.count (omega (arith, few c))
 
-judge-requires : tie.Need-judge-requires
-judge-requires c κs = search rules
+judge-number-requires : tie.Need-judge-number-requires
+judge-number-requires c κs = search rules
 
-returns : tie.Need-returns
+returns-then-number-ne0 : tie.Need-returns-then-number-ne0
 unfolding su2_basis_call number_answer
-returns c = refuses _ (record_refuses _ c.before.judge.ensures c.if1.true _) (ne_eqb _ 0 c.if1.true)
+returns-then-number-ne0 c = refuses _ (record_refuses _ c.before.judge-number.ensures c.if-number-ne0.true _) (ne_eqb _ 0 c.if-number-ne0.true)
 
-closing_loops-requires : tie.Need-closing_loops-requires
-closing_loops-requires c κs = search rules
+closing_loops-f-requires : tie.Need-closing_loops-f-requires
+closing_loops-f-requires c κs = search rules
 
-returns-2 : tie.Need-returns-2
+returns-then-n-gt20 : tie.Need-returns-then-n-gt20
 unfolding su2_basis_call number_answer
-returns-2 c = refuses _ (limit_refuses (good c.before.before) (loops c.before) c.if2.true _) refl
+returns-then-n-gt20 c = refuses _ (limit_refuses (good c.before.before) (loops c.before) c.if-n-gt20.true _) refl
 
-shl-count : tie.Need-overflow-shl-count
-shl-count c = search rules
+overflow_shl-count : tie.Need-overflow_shl-count
+overflow_shl-count c = search rules
 
-returns-3 : tie.Need-returns-3
+returns-then-states-count : tie.Need-returns-then-states-count
 unfolding su2_basis_call number_answer
-returns-3 c =
+returns-then-states-count c =
     let small = c.before in
     let of = loops small.before in
-    refuses _ (past_masks (good small.before.before) of (few small) (here (rw (states_number _ _ of) (lt-ltb _ _ (rw (number small) at c.if3.true))))) refl
+    refuses _ (past_masks (good small.before.before) of (few small) (here (rw (states_number _ _ of) (lt-ltb _ _ (rw (number small) at c.if-states-count.true))))) refl
 
 write_masks-requires : tie.Need-write_masks-requires
 write_masks-requires c κs =
     let small = c.before.before.before.before in
-    (small.before.closing_loops.ensures.loops.long, few small, rw (number small) at c.before.before.before.if3.false)
+    (small.before.closing_loops-f.ensures.loops.long, few small, rw (number small) at c.before.before.before.if-states-count.false)
 
-same_length : tie.Need-same-length
-same_length c = search rules
+shape_of-states : tie.Need-shape_of-states
+shape_of-states c = search rules
 
-returns-4 : tie.Need-returns-4
+returns : tie.Need-returns
 unfolding su2_basis_call number_answer
-returns-4 c =
+returns c =
     let small = c.before.before.before.before.before.before.before in
     let enough = c.before.before.before.before.before.before in
     let right = good small.before.before in
     let of = loops small.before in
-    ends _ (past_masks right of (few small) (past (rw (states_number _ _ of) (le-ltb _ _ (rw (number small) at enough.if3.false))) none))
+    ends _ (past_masks right of (few small) (past (rw (states_number _ _ of) (le-ltb _ _ (rw (number small) at enough.if-states-count.false))) none))
     (number small ∙ sym (states_number _ _ of)) (masks_written right of _ _ c.before.before.write_masks.ensures) (masks_known right of (few small))
 
 pub su2_basis_spec : {M : Type 1} → statement M
 su2_basis_spec =
     tie.close
-    (tie.spec
-    judge-requires
-    returns
-    closing_loops-requires
-    returns-2
-    shl-count
-    returns-3
-    write_masks-requires
-    same_length
-    returns-4)
+    (tie.spec judge-number-requires returns-then-number-ne0 closing_loops-f-requires returns-then-n-gt20 overflow_shl-count returns-then-states-count write_masks-requires shape_of-states returns)

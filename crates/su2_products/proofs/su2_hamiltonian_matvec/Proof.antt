@@ -27,86 +27,86 @@ use borrow.Author.Rules.{rules}
 use Rattle.su2_products.proofs.su2_hamiltonian_matvec.Statement.{statement}
 use Rattle.su2_products.proofs.su2_hamiltonian_matvec.Tie as tie
 
-abbrev at-start : tie.Else2 → tie.Start
+abbrev at-start : tie.Else-count-gt20 → tie.Start
 at-start c = c.before.before.before.before.before.before.before.before
 
-good : (c : tie.Else1) → refusal (complex_of c.before.before.before.before.before.before.args.c) ≡ 0
-good c = sym c.before.judge.ensures ∙ c.if1.false
+good : (c : tie.Else-number-ne0) → refusal (complex_of c.before.before.before.before.before.before.args.c) ≡ 0
+good c = sym c.before.judge-number.ensures ∙ c.if-number-ne0.false
 
-few : (c : tie.Else2) → c.before.closing_loops.result.count ≤ 20
+few : (c : tie.Else-count-gt20) → c.before.closing_loops-f.result.count ≤ 20
 few c = omega arith
 
-loops : (c : tie.Else2) → LoopsOf (complex_of (at-start c).args.c) c.before.closing_loops.result
-loops c = loops_of _ (good c.before.before) _ c.before.closing_loops.ensures
+loops : (c : tie.Else-count-gt20) → LoopsOf (complex_of (at-start c).args.c) c.before.closing_loops-f.result
+loops c = loops_of _ (good c.before.before) _ c.before.closing_loops-f.ensures
 
 -- the number of states, as the code makes it
-number : (c : tie.Else2) → 1 * 2 ^ c.before.closing_loops.result.count % 2 ^ 64 ≡ length (su2_states (complex_of (at-start c).args.c))
-number c = power_shifted c.before.closing_loops.result.count (omega (arith, few c)) ∙ sym (states_number _ _ (loops c))
+number : (c : tie.Else-count-gt20) → 1 * 2 ^ c.before.closing_loops-f.result.count % 2 ^ 64 ≡ length (su2_states (complex_of (at-start c).args.c))
+number c = power_shifted c.before.closing_loops-f.result.count (omega (arith, few c)) ∙ sym (states_number _ _ (loops c))
 
 -- the weights, the coupling and the amplitudes are judged by the definition's own tests
-abbrev tested : tie.Else2 → List (ℕ × Bool)
+abbrev tested : tie.Else-count-gt20 → List (ℕ × Bool)
 tested c =
     let a = (at-start c).args in
     vector_tests (length (su2_states (complex_of a.c))) a.vector.now (length (complex_of a.c).triangles) (su2_right a.p) a.given a.weights.now
 
-judged : (c : tie.After-judge_vector) → c.judge_vector.result ≡ first (tested c.before.before)
-judged c = rw (triangles_long (at-start c.before.before).args.c, ← (number c.before.before), ← c.before.is_su2.ensures) c.judge_vector.ensures
+judged : (c : tie.After-judge_vector-other) → c.judge_vector-other.result ≡ first (tested c.before.before)
+judged c = rw (triangles_long (at-start c.before.before).args.c, ← (number c.before.before), ← c.before.is_su2.ensures) c.judge_vector-other.ensures
 
-passed : (c : tie.Else3) → first (tested c.before.before.before) ≡ 0
-passed c = sym (judged c.before) ∙ c.if3.false
+passed : (c : tie.Else-other-ne0) → first (tested c.before.before.before) ≡ 0
+passed c = sym (judged c.before) ∙ c.if-other-ne0.false
 
-abbrev too_short : tie.Else2 → Bool
+abbrev too_short : tie.Else-count-gt20 → Bool
 too_short c =
     let a = (at-start c).args in
     let n = length (su2_states (complex_of a.c)) in
-    ltb (length a.states.now) n || ltb (length a.result.now) n
+    ltb (length a.states-1.now) n || ltb (length a.result.now) n
 
-not_short : (c : tie.Else4) → too_short c.before.before.before.before ≡ false
-not_short c = rw (number c.before.before.before.before) at c.if4.false
+not_short : (c : tie.Else-states-n) → too_short c.before.before.before.before ≡ false
+not_short c = rw (number c.before.before.before.before) at c.if-states-n.false
 
-judge-requires : tie.Need-judge-requires
-judge-requires c κs = search rules
+judge-number-requires : tie.Need-judge-number-requires
+judge-number-requires c κs = search rules
 
-returns : tie.Need-returns
+returns-then-number-ne0 : tie.Need-returns-then-number-ne0
 unfolding su2_product_call number_answer
-returns c = refuses _ (record_refuses _ c.before.judge.ensures c.if1.true _) (ne_eqb _ 0 c.if1.true)
+returns-then-number-ne0 c = refuses _ (record_refuses _ c.before.judge-number.ensures c.if-number-ne0.true _) (ne_eqb _ 0 c.if-number-ne0.true)
 
-closing_loops-requires : tie.Need-closing_loops-requires
-closing_loops-requires c κs = search rules
+closing_loops-f-requires : tie.Need-closing_loops-f-requires
+closing_loops-f-requires c κs = search rules
 
-returns-2 : tie.Need-returns-2
+returns-then-count-gt20 : tie.Need-returns-then-count-gt20
 unfolding su2_product_call number_answer
-returns-2 c =
+returns-then-count-gt20 c =
     let made = c.before in
-    refuses _ (limit_refuses (good made.before) (loops_of _ (good made.before) _ made.closing_loops.ensures) c.if2.true _) refl
+    refuses _ (limit_refuses (good made.before) (loops_of _ (good made.before) _ made.closing_loops-f.ensures) c.if-count-gt20.true _) refl
 
-shl-n : tie.Need-overflow-shl-n
-shl-n c = search rules
+overflow_shl-n : tie.Need-overflow_shl-n
+overflow_shl-n c = search rules
 
 is_su2-requires : tie.Need-is_su2-requires
 is_su2-requires c κs = search rules
 
-judge_vector-requires : tie.Need-judge_vector-requires
-judge_vector-requires c κs = search rules
+judge_vector-other-requires : tie.Need-judge_vector-other-requires
+judge_vector-other-requires c κs = search rules
 
-returns-3 : tie.Need-returns-3
+returns-then-other-ne0 : tie.Need-returns-then-other-ne0
 unfolding su2_product_call number_answer
-returns-3 c =
+returns-then-other-ne0 c =
     let small = c.before.before.before in
-    refuses _ (past_masks (good small.before.before) (loops small) (few small) (vector_refuses _ _ _ _ _ _ (judged c.before) c.if3.true _)) (ne_eqb _ 0 c.if3.true)
+    refuses _ (past_masks (good small.before.before) (loops small) (few small) (vector_refuses _ _ _ _ _ _ (judged c.before) c.if-other-ne0.true _)) (ne_eqb _ 0 c.if-other-ne0.true)
 
-returns-4 : tie.Need-returns-4
+returns-then-states-n : tie.Need-returns-then-states-n
 unfolding su2_product_call number_answer
-returns-4 c =
+returns-then-states-n c =
     let right = c.before in
     let small = right.before.before.before in
-    refuses _ (past_masks (good small.before.before) (loops small) (few small) (past_vector _ _ _ _ _ _ (passed right) (here (rw (number small) at c.if4.true)))) refl
+    refuses _ (past_masks (good small.before.before) (loops small) (few small) (past_vector _ _ _ _ _ _ (passed right) (here (rw (number small) at c.if-states-n.true)))) refl
 
 write_masks-requires : tie.Need-write_masks-requires
 write_masks-requires c κs =
     let enough = c.before.before.before in
     let small = enough.before.before.before.before in
-    ((loops small).keeps.loops.long, few small, rw (← (states_number _ _ (loops small))) (long_enough _ _ _ (not_short enough)).0)
+    ((loops small).keeps.loops-1.long, few small, rw (← (states_number _ _ (loops small))) (long_enough _ _ _ (not_short enough)).0)
 
 write_product-requires : tie.Need-write_product-requires
 write_product-requires c κs =
@@ -125,15 +125,15 @@ write_product-requires c κs =
       (_, rw (masks_are _ _ (loops small)) at masks.write_masks.ensures),
     )
 
-same_length : tie.Need-same-length
-same_length c = search rules
+shape_of-states : tie.Need-shape_of-states
+shape_of-states c = search rules
 
-same-length-2 : tie.Need-same-length-2
-same-length-2 c = search rules
+shape_of-res : tie.Need-shape_of-res
+shape_of-res c = search rules
 
-returns-5 : tie.Need-returns-5
+returns : tie.Need-returns
 unfolding su2_product_call number_answer
-returns-5 c =
+returns c =
     let masks = c.before.before.before.before.before.before.before in
     let enough = masks.before.before.before.before in
     let right = enough.before in
@@ -148,18 +148,4 @@ returns-5 c =
 pub su2_hamiltonian_matvec_spec : {M : Type 1} → statement M
 su2_hamiltonian_matvec_spec =
     tie.close
-    (tie.spec
-    judge-requires
-    returns
-    closing_loops-requires
-    returns-2
-    shl-n
-    is_su2-requires
-    judge_vector-requires
-    returns-3
-    returns-4
-    write_masks-requires
-    write_product-requires
-    same_length
-    same-length-2
-    returns-5)
+    (tie.spec judge-number-requires returns-then-number-ne0 closing_loops-f-requires returns-then-count-gt20 overflow_shl-n is_su2-requires judge_vector-other-requires returns-then-other-ne0 returns-then-states-n write_masks-requires write_product-requires shape_of-states shape_of-res returns)

@@ -10,87 +10,72 @@ use borrow.Author.Rules.{rules}
 use Rattle.su2_products.proofs.write_block.Statement.{statement}
 use Rattle.su2_products.proofs.write_block.Tie as tie
 
-abbrev invariant-loop : tie.invariant-loop
-invariant-loop block₀ from electric states places terms n_triangles vector t₀ block t = (t ≤ n_triangles) × (length block ≡ length block₀) × (block ≡ map (λ i. listed_product_at electric states places terms vector t (from + i)) (below (length block₀)))
+abbrev invariant-loop-t : tie.invariant-loop-t
+invariant-loop-t block₀ from electric states places terms n_triangles vector t₀ block t = (t ≤ n_triangles) × (length block ≡ length block₀) × (block ≡ map (λ i. listed_product_at electric states places terms vector t (from + i)) (below (length block₀)))
 
-abbrev decreases-loop : tie.decreases-loop
-decreases-loop block₀ from electric states places terms n_triangles vector t₀ block t = n_triangles - t
+abbrev decreases-loop-t : tie.decreases-loop-t
+decreases-loop-t block₀ from electric states places terms n_triangles vector t₀ block t = n_triangles - t
 
-write_electric-requires : tie.Need-write_electric-requires invariant-loop decreases-loop
+write_electric-requires : tie.Need-write_electric-requires invariant-loop-t decreases-loop-t
 write_electric-requires c κs = let fits = c.before.before.before.before.before.before.requires in (fits.states_long, fits.vector_long)
 
-loop-holds : tie.Need-loop-init invariant-loop decreases-loop
-loop-holds c =
+loop-t-init : tie.Need-loop-t-init invariant-loop-t decreases-loop-t
+loop-t-init c =
     let written = c.before.before.write_electric in
     (omega arith, refl, no_triangle _ _ _ _ _ _ _ c.before.before.before.before.before.before.before.before.before.args.block.now written.ensures written.auto.0)
 
 -- the function's beginning, from its loop
-abbrev begun : tie.At-loop invariant-loop decreases-loop → tie.Start invariant-loop decreases-loop
+abbrev begun : tie.At-loop-t invariant-loop-t decreases-loop-t → tie.Start invariant-loop-t decreases-loop-t
 begun c = c.before.before.before.before.before.before.before.before.before.before
 
-mul-add-flips : tie.Need-overflow-mul-add-flips invariant-loop decreases-loop
-mul-add-flips c = let h = (begun c.before.before).pre.few_triangles in search rules
+offset_bounds-places-t : tie.Need-offset_bounds-places-t invariant-loop-t decreases-loop-t
+offset_bounds-places-t c = let h = (begun c.before.before).pre.few_triangles in search rules
 
-shared-slice-read-add-flips : tie.Need-shared-slice-read-add-flips invariant-loop decreases-loop
-shared-slice-read-add-flips c = let h = (begun c.before.before.before).pre.places_long in omega arith
+bounds-places-t : tie.Need-bounds-places-t invariant-loop-t decreases-loop-t
+bounds-places-t c = let h = (begun c.before.before.before).pre.places_long in omega arith
 
-cast-add-flips : tie.Need-overflow-cast-add-flips invariant-loop decreases-loop
-cast-add-flips c = omega (arith, c.shared-slice-known5.given c.before.before.before.loop.t)
+overflow_cast-places : tie.Need-overflow_cast-places invariant-loop-t decreases-loop-t
+overflow_cast-places c = omega (arith, c.shared_slice_known-in-loop-t-1.given c.before.before.before.loop-t.t)
 
-mul-add-flips-2 : tie.Need-overflow-mul-add-flips-2 invariant-loop decreases-loop
-mul-add-flips-2 c = let h = (begun c.before.before.before).pre.few_triangles in search rules
+offset_bounds-terms-t : tie.Need-offset_bounds-terms-t invariant-loop-t decreases-loop-t
+offset_bounds-terms-t c = let h = (begun c.before.before.before).pre.few_triangles in search rules
 
-shared-slice-read-add-flips-2 : tie.Need-shared-slice-read-add-flips-2 invariant-loop decreases-loop
-shared-slice-read-add-flips-2 c = let h = (begun c.before.before.before.before).pre.terms_long in omega arith
+bounds-terms-t : tie.Need-bounds-terms-t invariant-loop-t decreases-loop-t
+bounds-terms-t c = let h = (begun c.before.before.before.before).pre.terms_long in omega arith
 
-add_flips-requires : tie.Need-add_flips-requires invariant-loop decreases-loop
+add_flips-requires : tie.Need-add_flips-requires invariant-loop-t decreases-loop-t
 add_flips-requires c κs =
     let at_loop = c.before.before.before.before in
     let fits = (begun at_loop).requires in
     let a = (begun at_loop).args in
-    let same : length at_loop.loop.block ≡ length a.block.now = at_loop.loop.invariant.1 ∙ at_loop.before.before.before.write_electric.auto.0 in
-    (rw same fits.vector_long, λ i h. fits.within i at_loop.loop.t (rw same at h) (omega arith))
+    let same : length at_loop.loop-t.block ≡ length a.block-1.now = at_loop.loop-t.invariant.1 ∙ at_loop.before.before.before.write_electric.auto.0 in
+    (rw same fits.vector_long, λ i h. fits.within i at_loop.loop-t.t (rw same at h) (omega arith))
 
-add-t : tie.Need-overflow-add-t invariant-loop decreases-loop
-add-t c = let h = (begun c.before.before.before.before.before.before.before).pre.few_triangles in search rules
+overflow_step-t : tie.Need-overflow_step-t invariant-loop-t decreases-loop-t
+overflow_step-t c = let h = (begun c.before.before.before.before.before.before.before).pre.few_triangles in search rules
 
-loop-less : tie.Need-loop-smaller invariant-loop decreases-loop
-loop-less c = search rules
+loop-t-smaller : tie.Need-loop-t-smaller invariant-loop-t decreases-loop-t
+loop-t-smaller c = search rules
 
-loop-again : tie.Need-loop-preserved invariant-loop decreases-loop
-loop-again c =
+loop-t-preserved : tie.Need-loop-t-preserved invariant-loop-t decreases-loop-t
+loop-t-preserved c =
     let at_loop = c.before.before.before.before.before.before.before in
     let added = c.before.before.add_flips in
-    let inv = at_loop.loop.invariant in
-    (omega arith, added.auto.0 ∙ inv.1, next_triangle _ _ _ _ _ _ at_loop.loop.t _ at_loop.loop.block _ inv.2 inv.1 added.ensures)
+    let inv = at_loop.loop-t.invariant in
+    (omega arith, added.auto.0 ∙ inv.1, next_triangle _ _ _ _ _ _ at_loop.loop-t.t _ at_loop.loop-t.block _ inv.2 inv.1 added.ensures)
 
-same_length : tie.Need-same-length invariant-loop decreases-loop
-same_length c = c.before.loop.invariant.1 ∙ c.before.before.before.before.write_electric.auto.0
+shape_of-block : tie.Need-shape_of-block invariant-loop-t decreases-loop-t
+shape_of-block c = c.before.loop-t.invariant.1 ∙ c.before.before.before.before.write_electric.auto.0
 
-returns : tie.Need-returns invariant-loop decreases-loop
+returns : tie.Need-returns invariant-loop-t decreases-loop-t
 returns c =
     let at_loop = c.before in
     let a = (begun at_loop).args in
-    let past : at_loop.loop.t ≡ a.n_triangles = omega arith in
+    let past : at_loop.loop-t.t ≡ a.n_triangles = omega arith in
     let same = at_loop.before.before.before.write_electric.auto.0 in
-    rw (past, same) at at_loop.loop.invariant.2
+    rw (past, same) at at_loop.loop-t.invariant.2
 
 pub write_block_spec : {M : Type 1} → statement M
 write_block_spec =
     tie.close
-    (tie.spec
-    invariant-loop
-    decreases-loop
-    write_electric-requires
-    loop-holds
-    mul-add-flips
-    shared-slice-read-add-flips
-    cast-add-flips
-    mul-add-flips-2
-    shared-slice-read-add-flips-2
-    add_flips-requires
-    add-t
-    loop-less
-    loop-again
-    same_length
-    returns)
+    (tie.spec invariant-loop-t decreases-loop-t write_electric-requires loop-t-init offset_bounds-places-t bounds-places-t overflow_cast-places offset_bounds-terms-t bounds-terms-t add_flips-requires overflow_step-t loop-t-smaller loop-t-preserved shape_of-block returns)

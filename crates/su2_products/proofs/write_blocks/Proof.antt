@@ -10,53 +10,53 @@ use borrow.Author.Rules.{rules}
 use Rattle.su2_products.proofs.write_blocks.Statement.{statement}
 use Rattle.su2_products.proofs.write_blocks.Tie as tie
 
-abbrev invariant-loop : tie.invariant-loop
-invariant-loop n electric states places terms n_triangles vector result₀ from₀ result from = (from ≤ n) × (length result ≡ length result₀) × (result ≡ begun (listed_product_at electric states places terms vector n_triangles) result₀ from)
+abbrev invariant-loop-from : tie.invariant-loop-from
+invariant-loop-from n electric states places terms n_triangles vector result₀ from₀ result from = (from ≤ n) × (length result ≡ length result₀) × (result ≡ begun (listed_product_at electric states places terms vector n_triangles) result₀ from)
 
-abbrev decreases-loop : tie.decreases-loop
-decreases-loop n electric states places terms n_triangles vector result₀ from₀ result from = n - from
+abbrev decreases-loop-from : tie.decreases-loop-from
+decreases-loop-from n electric states places terms n_triangles vector result₀ from₀ result from = n - from
 
-loop-holds : tie.Need-loop-init invariant-loop decreases-loop
-loop-holds c = (omega arith, refl, none_begun _ _)
+loop-from-init : tie.Need-loop-from-init invariant-loop-from decreases-loop-from
+loop-from-init c = (omega arith, refl, none_begun _ _)
 
-add-smaller : tie.Need-overflow-add-smaller invariant-loop decreases-loop
-add-smaller c = search rules
+overflow_add-from : tie.Need-overflow_add-from invariant-loop-from decreases-loop-from
+overflow_add-from c = search rules
 
 -- the function's beginning, from its loop
-abbrev started : tie.At-loop invariant-loop decreases-loop → tie.Start invariant-loop decreases-loop
+abbrev started : tie.At-loop-from invariant-loop-from decreases-loop-from → tie.Start invariant-loop-from decreases-loop-from
 started c = c.before.before.before.before.before.before
 
 -- where the block ends
-ends : (c : tie.After-smaller invariant-loop decreases-loop) → (c.before.before.loop.from < c.smaller.result) × (c.smaller.result ≤ (started c.before.before).args.n)
-ends c = let e = c.smaller.ensures in (omega arith, omega arith)
+ends : (c : tie.After-smaller-to invariant-loop-from decreases-loop-from) → (c.before.before.loop-from.from < c.smaller-to.result) × (c.smaller-to.result ≤ (started c.before.before).args.n)
+ends c = let e = c.smaller-to.ensures in (omega arith, omega arith)
 
-room : (c : tie.After-smaller invariant-loop decreases-loop) → c.smaller.result ≤ length c.before.before.loop.result
+room : (c : tie.After-smaller-to invariant-loop-from decreases-loop-from) → c.smaller-to.result ≤ length c.before.before.loop-from.result
 room c =
     let at_loop = c.before.before in
-    omega (arith, (ends c).1, at_loop.loop.invariant.1, (started at_loop).requires.2)
+    omega (arith, (ends c).1, at_loop.loop-from.invariant.1, (started at_loop).requires.2)
 
-smaller-requires : tie.Need-smaller-requires invariant-loop decreases-loop
-smaller-requires c κs = search rules
+smaller-to-requires : tie.Need-smaller-to-requires invariant-loop-from decreases-loop-from
+smaller-to-requires c κs = search rules
 
-mul-write-block : tie.Need-overflow-mul-write-block invariant-loop decreases-loop
-mul-write-block c = search rules
+offset_bounds-res-from : tie.Need-offset_bounds-res-from invariant-loop-from decreases-loop-from
+offset_bounds-res-from c = search rules
 
-sub-write-block : tie.Need-overflow-sub-write-block invariant-loop decreases-loop
-sub-write-block c = omega (arith, (ends c).0)
+slice_bounds-write_block-count : tie.Need-slice_bounds-write_block-count invariant-loop-from decreases-loop-from
+slice_bounds-write_block-count c = omega (arith, (ends c).0)
 
-part-write-block-start : tie.Need-slice-bounds-write-block-start invariant-loop decreases-loop
-part-write-block-start c = let h = ends c in let enough = room c in search rules
+slice_bounds-write_block-start : tie.Need-slice_bounds-write_block-start invariant-loop-from decreases-loop-from
+slice_bounds-write_block-start c = let h = ends c in let enough = room c in search rules
 
-part-write-block-end : tie.Need-slice-bounds-write-block-end invariant-loop decreases-loop
-part-write-block-end c = let h = ends c in let enough = room c in search rules
+slice_bounds-write_block-end : tie.Need-slice_bounds-write_block-end invariant-loop-from decreases-loop-from
+slice_bounds-write_block-end c = let h = ends c in let enough = room c in search rules
 
-write_block-requires : tie.Need-write_block-requires invariant-loop decreases-loop
+write_block-requires : tie.Need-write_block-requires invariant-loop-from decreases-loop-from
 write_block-requires c κs =
     let cut = c.before in
     let at_loop = cut.before.before in
     let fits = (started at_loop).requires.1 in
-    let long = mid_len at_loop.loop.from cut.smaller.result at_loop.loop.result (room cut) in
-    let whole : at_loop.loop.from + (cut.smaller.result - at_loop.loop.from) ≤ (started at_loop).args.n = omega (arith, ends cut) in
+    let long = mid_len at_loop.loop-from.from cut.smaller-to.result at_loop.loop-from.result (room cut) in
+    let whole : at_loop.loop-from.from + (cut.smaller-to.result - at_loop.loop-from.from) ≤ (started at_loop).args.n = omega (arith, ends cut) in
     record {
       few_triangles = fits.few_triangles;
       states_long = rw long (omega (arith, whole, fits.states_long));
@@ -66,42 +66,28 @@ write_block-requires c κs =
       within = λ i t h b. fits.within i t (omega (arith, whole, rw long at h)) b;
     }
 
-loop-less : tie.Need-loop-smaller invariant-loop decreases-loop
-loop-less c = omega (arith, ends c.before.before.before.before)
+loop-from-smaller : tie.Need-loop-from-smaller invariant-loop-from decreases-loop-from
+loop-from-smaller c = omega (arith, ends c.before.before.before.before)
 
-loop-again : tie.Need-loop-preserved invariant-loop decreases-loop
-loop-again c =
+loop-from-preserved : tie.Need-loop-from-preserved invariant-loop-from decreases-loop-from
+loop-from-preserved c =
     let cut = c.before.before.before.before in
     let at_loop = cut.before.before in
-    let inv = at_loop.loop.invariant in
+    let inv = at_loop.loop-from.invariant in
     let written = c.before.before.write_block in
-    let rises : at_loop.loop.from ≤ cut.smaller.result = omega (arith, (ends cut).0) in
-    ((ends cut).1, same_len_mid {X = Float} at_loop.loop.from (cut.smaller.result - at_loop.loop.from) at_loop.loop.result written.new.0 written.auto.0 ∙ inv.1, next_begun _ _ _ _ _ _ rises (room cut) inv.2 written.ensures)
+    let rises : at_loop.loop-from.from ≤ cut.smaller-to.result = omega (arith, (ends cut).0) in
+    ((ends cut).1, same_len_mid {X = Float} at_loop.loop-from.from (cut.smaller-to.result - at_loop.loop-from.from) at_loop.loop-from.result written.new.0 written.auto.0 ∙ inv.1, next_begun _ _ _ _ _ _ rises (room cut) inv.2 written.ensures)
 
-same_length : tie.Need-same-length invariant-loop decreases-loop
-same_length c = c.before.loop.invariant.1
+shape_of-res : tie.Need-shape_of-res invariant-loop-from decreases-loop-from
+shape_of-res c = c.before.loop-from.invariant.1
 
-returns : tie.Need-returns invariant-loop decreases-loop
+returns : tie.Need-returns invariant-loop-from decreases-loop-from
 returns c =
     let at_loop = c.before in
-    let past : at_loop.loop.from ≡ (started at_loop).args.n = omega arith in
-    (rw past at at_loop.loop.invariant.2) ∙ all_begun _ _ _
+    let past : at_loop.loop-from.from ≡ (started at_loop).args.n = omega arith in
+    (rw past at at_loop.loop-from.invariant.2) ∙ all_begun _ _ _
 
 pub write_blocks_spec : {M : Type 1} → statement M
 write_blocks_spec =
     tie.close
-    (tie.spec
-    invariant-loop
-    decreases-loop
-    loop-holds
-    add-smaller
-    smaller-requires
-    mul-write-block
-    sub-write-block
-    part-write-block-start
-    part-write-block-end
-    write_block-requires
-    loop-less
-    loop-again
-    same_length
-    returns)
+    (tie.spec invariant-loop-from decreases-loop-from loop-from-init overflow_add-from smaller-to-requires offset_bounds-res-from slice_bounds-write_block-count slice_bounds-write_block-start slice_bounds-write_block-end write_block-requires loop-from-smaller loop-from-preserved shape_of-res returns)

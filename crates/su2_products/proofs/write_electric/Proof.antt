@@ -10,55 +10,55 @@ use borrow.Author.Rules.{rules}
 use Rattle.su2_products.proofs.write_electric.Statement.{statement}
 use Rattle.su2_products.proofs.write_electric.Tie as tie
 
-abbrev invariant-loop : tie.invariant-loop
-invariant-loop block₀ from electric states vector i₀ i-end block i = (i ≤ length block₀) × (i-end ≡ length block₀) × (length block ≡ length block₀) × (block ≡ part_filled (λ j. listed_part electric states vector (from + j)) block₀ i)
+abbrev invariant-loop-i : tie.invariant-loop-i
+invariant-loop-i block₀ from electric states vector i₀ i-end block i = (i ≤ length block₀) × (i-end ≡ length block₀) × (length block ≡ length block₀) × (block ≡ part_filled (λ j. listed_part electric states vector (from + j)) block₀ i)
 
-abbrev decreases-loop : tie.decreases-loop
-decreases-loop block₀ from electric states vector i₀ i-end block i = length block₀ - i
+abbrev decreases-loop-i : tie.decreases-loop-i
+decreases-loop-i block₀ from electric states vector i₀ i-end block i = length block₀ - i
 
-loop-holds : tie.Need-loop-init invariant-loop decreases-loop
-loop-holds c = (omega arith, refl, refl, none_filled _ _)
+loop-i-init : tie.Need-loop-i-init invariant-loop-i decreases-loop-i
+loop-i-init c = (omega arith, refl, refl, none_filled _ _)
 
-add-mask : tie.Need-overflow-add-mask invariant-loop decreases-loop
-add-mask c = search rules
+overflow_add-mask : tie.Need-overflow_add-mask invariant-loop-i decreases-loop-i
+overflow_add-mask c = search rules
 
-mul-mask : tie.Need-overflow-mul-mask invariant-loop decreases-loop
-mul-mask c = search rules
+offset_bounds-states-from : tie.Need-offset_bounds-states-from invariant-loop-i decreases-loop-i
+offset_bounds-states-from c = search rules
 
-shared-slice-read-mask : tie.Need-shared-slice-read-mask invariant-loop decreases-loop
-shared-slice-read-mask c = search rules
+bounds-states-from : tie.Need-bounds-states-from invariant-loop-i decreases-loop-i
+bounds-states-from c = search rules
 
-add-amplitude : tie.Need-overflow-add-amplitude invariant-loop decreases-loop
-add-amplitude c = search rules
+overflow_add-amplitude : tie.Need-overflow_add-amplitude invariant-loop-i decreases-loop-i
+overflow_add-amplitude c = search rules
 
-mul-amplitude : tie.Need-overflow-mul-amplitude invariant-loop decreases-loop
-mul-amplitude c = search rules
+offset_bounds-vector-from : tie.Need-offset_bounds-vector-from invariant-loop-i decreases-loop-i
+offset_bounds-vector-from c = search rules
 
-shared-slice-read-amplitude : tie.Need-shared-slice-read-amplitude invariant-loop decreases-loop
-shared-slice-read-amplitude c = search rules
+bounds-vector-from : tie.Need-bounds-vector-from invariant-loop-i decreases-loop-i
+bounds-vector-from c = search rules
 
-mask_energy-requires : tie.Need-mask_energy-requires invariant-loop decreases-loop
+mask_energy-requires : tie.Need-mask_energy-requires invariant-loop-i decreases-loop-i
 mask_energy-requires c κs = search rules
 
-mul-block : tie.Need-overflow-mul-block invariant-loop decreases-loop
-mul-block c = search rules
+offset_bounds-block-i : tie.Need-offset_bounds-block-i invariant-loop-i decreases-loop-i
+offset_bounds-block-i c = search rules
 
-slice-write-block : tie.Need-slice-write-block invariant-loop decreases-loop
-slice-write-block c = search rules
+bounds-block-i : tie.Need-bounds-block-i invariant-loop-i decreases-loop-i
+bounds-block-i c = search rules
 
-add-i : tie.Need-overflow-add-i invariant-loop decreases-loop
-add-i c = search rules
+overflow_step-i : tie.Need-overflow_step-i invariant-loop-i decreases-loop-i
+overflow_step-i c = search rules
 
-loop-less : tie.Need-loop-smaller invariant-loop decreases-loop
-loop-less c = search rules
+loop-i-smaller : tie.Need-loop-i-smaller invariant-loop-i decreases-loop-i
+loop-i-smaller c = search rules
 
-loop-again : tie.Need-loop-preserved invariant-loop decreases-loop
+loop-i-preserved : tie.Need-loop-i-preserved invariant-loop-i decreases-loop-i
 unfolding listed_part
-loop-again c =
+loop-i-preserved c =
     let at_loop = c.before.before.before.before in
     let a = at_loop.before.before.before.before.args in
-    let inv = at_loop.loop.invariant in
-    let i = at_loop.loop.i in
+    let inv = at_loop.loop-i.invariant in
+    let i = at_loop.loop-i.i in
     let room : i < length a.block.now = omega arith in (
       omega arith,
       refl,
@@ -66,33 +66,16 @@ loop-again c =
       one_filled _ _ _ i _ room inv.3 (ap₂ (λ z x. add binary64 z (mul binary64 x (get_or a.vector.now (a.from + i) nan))) zero c.mask_energy.ensures),
     )
 
-same_length : tie.Need-same-length invariant-loop decreases-loop
-same_length c = search rules
+shape_of-block : tie.Need-shape_of-block invariant-loop-i decreases-loop-i
+shape_of-block c = search rules
 
-returns : tie.Need-returns invariant-loop decreases-loop
+returns : tie.Need-returns invariant-loop-i decreases-loop-i
 returns c =
     let at_loop = c.before in
-    let past : length at_loop.before.before.before.before.args.block.now ≤ at_loop.loop.i = omega arith in
-    all_filled _ _ _ _ past at_loop.loop.invariant.3
+    let past : length at_loop.before.before.before.before.args.block.now ≤ at_loop.loop-i.i = omega arith in
+    all_filled _ _ _ _ past at_loop.loop-i.invariant.3
 
 pub write_electric_spec : {M : Type 1} → statement M
 write_electric_spec =
     tie.close
-    (tie.spec
-    invariant-loop
-    decreases-loop
-    loop-holds
-    add-mask
-    mul-mask
-    shared-slice-read-mask
-    add-amplitude
-    mul-amplitude
-    shared-slice-read-amplitude
-    mask_energy-requires
-    mul-block
-    slice-write-block
-    add-i
-    loop-less
-    loop-again
-    same_length
-    returns)
+    (tie.spec invariant-loop-i decreases-loop-i loop-i-init overflow_add-mask offset_bounds-states-from bounds-states-from overflow_add-amplitude offset_bounds-vector-from bounds-vector-from mask_energy-requires offset_bounds-block-i bounds-block-i overflow_step-i loop-i-smaller loop-i-preserved shape_of-block returns)

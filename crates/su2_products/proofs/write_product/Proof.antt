@@ -6,20 +6,20 @@ use borrow.Author.Rules.{rules}
 use Rattle.su2_products.proofs.write_product.Statement.{statement}
 use Rattle.su2_products.proofs.write_product.Tie as tie
 
-slice-aggregate-write-tables : tie.Need-slice-aggregate-write-tables
-slice-aggregate-write-tables c = search rules
+slice_bounds-write_tables-end : tie.Need-slice_bounds-write_tables-end
+slice_bounds-write_tables-end c = search rules
 
-slice-aggregate-write-tables-2 : tie.Need-slice-aggregate-write-tables-2
-slice-aggregate-write-tables-2 c = search rules
+slice_bounds-write_tables-end-2 : tie.Need-slice_bounds-write_tables-end-2
+slice_bounds-write_tables-end-2 c = search rules
 
 write_tables-requires : tie.Need-write_tables-requires
 write_tables-requires c κs = search rules
 
-slice-aggregate-write-blocks : tie.Need-slice-aggregate-write-blocks
-slice-aggregate-write-blocks c = search rules
+slice_bounds-write_blocks-end : tie.Need-slice_bounds-write_blocks-end
+slice_bounds-write_blocks-end c = search rules
 
-slice-aggregate-write-blocks-2 : tie.Need-slice-aggregate-write-blocks-2
-slice-aggregate-write-blocks-2 c = search rules
+slice_bounds-write_blocks-end-2 : tie.Need-slice_bounds-write_blocks-end-2
+slice_bounds-write_blocks-end-2 c = search rules
 
 write_blocks-requires : tie.Need-write_blocks-requires
 write_blocks-requires c κs =
@@ -31,8 +31,8 @@ write_blocks-requires c κs =
       start.requires.0.long,
     )
 
-same_length : tie.Need-same-length
-same_length c = search rules
+shape_of-res : tie.Need-shape_of-res
+shape_of-res c = search rules
 
 returns : tie.Need-returns
 returns c =
@@ -44,12 +44,4 @@ returns c =
 pub write_product_spec : {M : Type 1} → statement M
 write_product_spec =
     tie.close
-    (tie.spec
-    slice-aggregate-write-tables
-    slice-aggregate-write-tables-2
-    write_tables-requires
-    slice-aggregate-write-blocks
-    slice-aggregate-write-blocks-2
-    write_blocks-requires
-    same_length
-    returns)
+    (tie.spec slice_bounds-write_tables-end slice_bounds-write_tables-end-2 write_tables-requires slice_bounds-write_blocks-end slice_bounds-write_blocks-end-2 write_blocks-requires shape_of-res returns)

@@ -15,7 +15,7 @@ unfolding su2_entries_agrees
 returns c =
     let answered = c.before in
     let start = answered.before.before in
-    told_as answered.export_su2_count_entries.ensures answered.export_su2_count_entries.type-inv start.ranges.told c.same_number.ensures
+    told_as answered.export_su2_count_entries.ensures answered.export_su2_count_entries.type_inv start.ranges.told c.same_number.ensures
 
 pub su2_count_entries_same_spec : {M : Type 1} → statement M
 su2_count_entries_same_spec =

@@ -15,7 +15,7 @@ unfolding su2_counted_agrees
 returns c =
     let answered = c.before in
     let start = answered.before.before in
-    told_as answered.export_su2_count_states.ensures answered.export_su2_count_states.type-inv start.ranges.told c.same_number.ensures
+    told_as answered.export_su2_count_states.ensures answered.export_su2_count_states.type_inv start.ranges.told c.same_number.ensures
 
 pub su2_count_states_same_spec : {M : Type 1} → statement M
 su2_count_states_same_spec =

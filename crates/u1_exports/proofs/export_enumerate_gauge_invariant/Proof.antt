@@ -7,15 +7,15 @@ use borrow.Author.Rules.{rules}
 use Rattle.u1_exports.proofs.export_enumerate_gauge_invariant.Statement.{statement}
 use Rattle.u1_exports.proofs.export_enumerate_gauge_invariant.Tie as tie
 
-open-requires : tie.Need-open-requires
-open-requires c κs = search rules
+open-opened-requires : tie.Need-open-opened-requires
+open-opened-requires c κs = search rules
 
 refused-requires : tie.Need-refused-requires
 refused-requires c κs = search rules
 
-returns : tie.Need-returns
+returns-then-number-ne0 : tie.Need-returns-then-number-ne0
 unfolding enumerated_call
-returns c = sheet_refuses c.before.before.open.ensures _ c.before.if1.true _ (back64 _ c.refused.type-inv ∙ c.refused.ensures)
+returns-then-number-ne0 c = sheet_refuses c.before.before.open-opened.ensures _ c.before.if-number-ne0.true _ (back64 _ c.refused.type_inv ∙ c.refused.ensures)
 
 enumerate_gauge_invariant-requires : tie.Need-enumerate_gauge_invariant-requires
 enumerate_gauge_invariant-requires c κs = search rules
@@ -27,24 +27,16 @@ signed-requires : tie.Need-signed-requires
 unfolding enumerated_call
 signed-requires c κs = small_answer c.before.before.enumerate_gauge_invariant.ensures.0 (λ k. few_small k.few refl) c.told_number.ensures
 
-same_length : tie.Need-same-length
-same_length c = search rules
+shape_of-states : tie.Need-shape_of-states
+shape_of-states c = search rules
 
-returns-2 : tie.Need-returns-2
-returns-2 c =
+returns : tie.Need-returns
+returns c =
     let t = c.before.before.before in
     let e = t.before.before.before in
-    sheet_answers e.before.open.ensures _ e.if1.false t.enumerate_gauge_invariant.ensures.0 (back64 _ c.signed.type-inv ∙ c.signed.ensures ∙ signed_told _ c.before.told_number.ensures)
+    sheet_answers e.before.open-opened.ensures _ e.if-number-ne0.false t.enumerate_gauge_invariant.ensures.0 (back64 _ c.signed.type_inv ∙ c.signed.ensures ∙ signed_told _ c.before.told_number.ensures)
 
 pub export_enumerate_gauge_invariant_spec : {M : Type 1} → statement M
 export_enumerate_gauge_invariant_spec =
     tie.close
-    (tie.spec
-    open-requires
-    refused-requires
-    returns
-    enumerate_gauge_invariant-requires
-    told_number-requires
-    signed-requires
-    same_length
-    returns-2)
+    (tie.spec open-opened-requires refused-requires returns-then-number-ne0 enumerate_gauge_invariant-requires told_number-requires signed-requires shape_of-states returns)

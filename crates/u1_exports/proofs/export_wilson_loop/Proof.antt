@@ -8,40 +8,33 @@ use borrow.Author.Rules.{rules}
 use Rattle.u1_exports.proofs.export_wilson_loop.Statement.{statement}
 use Rattle.u1_exports.proofs.export_wilson_loop.Tie as tie
 
-open-requires : tie.Need-open-requires
-open-requires c κs = search rules
+open-opened-requires : tie.Need-open-opened-requires
+open-opened-requires c κs = search rules
 
 refused-requires : tie.Need-refused-requires
 refused-requires c κs = search rules
 
-returns : tie.Need-returns
+returns-then-number-ne0 : tie.Need-returns-then-number-ne0
 unfolding wilson_call value_lent
-returns c = sheet_refuses c.before.before.open.ensures _ c.before.if1.true _ (back64 _ c.refused.type-inv ∙ c.refused.ensures)
+returns-then-number-ne0 c = sheet_refuses c.before.before.open-opened.ensures _ c.before.if-number-ne0.true _ (back64 _ c.refused.type_inv ∙ c.refused.ensures)
 
-wilson_loop-requires : tie.Need-wilson_loop-requires
-wilson_loop-requires c κs = search rules
+wilson_loop-answer-requires : tie.Need-wilson_loop-answer-requires
+wilson_loop-answer-requires c κs = search rules
 
 store_expectation-requires : tie.Need-store_expectation-requires
 store_expectation-requires c κs = search rules
 
-same_length : tie.Need-same-length
-same_length c = search rules
+shape_of-states : tie.Need-shape_of-states
+shape_of-states c = search rules
 
-returns-2 : tie.Need-returns-2
-returns-2 c =
+returns : tie.Need-returns
+returns c =
     let t = c.before.before.before in
     let e = t.before.before.before in
-    sheet_answers e.before.open.ensures _ e.if1.false (lent_answers t.wilson_loop.ensures _ c.store_expectation.ensures.1)
-    (back64 _ c.store_expectation.type-inv ∙ c.store_expectation.ensures.0)
+    sheet_answers e.before.open-opened.ensures _ e.if-number-ne0.false (lent_answers t.wilson_loop-answer.ensures _ c.store_expectation.ensures.1)
+    (back64 _ c.store_expectation.type_inv ∙ c.store_expectation.ensures.0)
 
 pub export_wilson_loop_spec : {M : Type 1} → statement M
 export_wilson_loop_spec =
     tie.close
-    (tie.spec
-    open-requires
-    refused-requires
-    returns
-    wilson_loop-requires
-    store_expectation-requires
-    same_length
-    returns-2)
+    (tie.spec open-opened-requires refused-requires returns-then-number-ne0 wilson_loop-answer-requires store_expectation-requires shape_of-states returns)

@@ -5,28 +5,28 @@ use borrow.Author.Rules.{rules}
 use Rattle.u1_exports.proofs.told_index.Statement.{statement}
 use Rattle.u1_exports.proofs.told_index.Tie as tie
 
-enum-known-answer : tie.Need-enum-known-answer
-enum-known-answer c = search rules
+enum_known-answer : tie.Need-enum_known-answer
+enum_known-answer c = search rules
 
-enum_told : tie.Need-enum-told
-enum_told c = search rules
+enum_told-1 : tie.Need-enum_told-1
+enum_told-1 c = search rules
 
-enum-known-answer-2 : tie.Need-enum-known-answer-2
-enum-known-answer-2 c = search rules
+enum_known-answer-in-Refused-1 : tie.Need-enum_known-answer-in-Refused-1
+enum_known-answer-in-Refused-1 c = search rules
 
-returns : tie.Need-returns
+returns-in-Place : tie.Need-returns-in-Place
 unfolding outcome_told index_answer
-returns c = sym (ap (λ w. outcome_told (index_answer w)) c.before.answer.given.1)
+returns-in-Place c = sym (ap (λ w. outcome_told (index_answer w)) c.before.answer-1.given.1)
 
-returns-2 : tie.Need-returns-2
+returns-in-NotInBasis : tie.Need-returns-in-NotInBasis
 unfolding outcome_told index_answer
-returns-2 c = sym (ap (λ w. outcome_told (index_answer w)) c.enum_told.given.1)
+returns-in-NotInBasis c = sym (ap (λ w. outcome_told (index_answer w)) c.enum_told-1.given.1)
 
-returns-3 : tie.Need-returns-3
+returns-in-Refused : tie.Need-returns-in-Refused
 unfolding outcome_told index_answer
-returns-3 c = sym (ap (λ w. outcome_told (index_answer w)) c.before.answer2.given.1)
+returns-in-Refused c = sym (ap (λ w. outcome_told (index_answer w)) c.before.answer-in-Refused-1.given.1)
 
 pub told_index_spec : {M : Type 1} → statement M
 told_index_spec =
     tie.close
-    (tie.spec enum-known-answer enum_told enum-known-answer-2 returns returns-2 returns-3)
+    (tie.spec enum_known-answer enum_told-1 enum_known-answer-in-Refused-1 returns-in-Place returns-in-NotInBasis returns-in-Refused)

@@ -6,23 +6,23 @@ use borrow.Author.Rules.{rules}
 use Rattle.u1_exports.proofs.told_law.Statement.{statement}
 use Rattle.u1_exports.proofs.told_law.Tie as tie
 
-enum-known-answer : tie.Need-enum-known-answer
-enum-known-answer c = search rules
+enum_known-answer : tie.Need-enum_known-answer
+enum_known-answer c = search rules
 
-cast-t5 : tie.Need-overflow-cast-t5
-cast-t5 c = search rules
+overflow_cast-result : tie.Need-overflow_cast-result
+overflow_cast-result c = search rules
 
-enum-known-answer-2 : tie.Need-enum-known-answer-2
-enum-known-answer-2 c = search rules
+enum_known-answer-in-Refused-1 : tie.Need-enum_known-answer-in-Refused-1
+enum_known-answer-in-Refused-1 c = search rules
 
-returns : tie.Need-returns
+returns-in-Answer : tie.Need-returns-in-Answer
 unfolding outcome_told yes_of law_answer
-returns c = ap (λ n. record { refusal = 0; value = n }) (yes_number c.before.answer.given.0.0) ∙ sym (ap (λ w. outcome_told (yes_of (law_answer w))) c.before.answer.given.1)
+returns-in-Answer c = ap (λ n. record { refusal = 0; value = n }) (yes_number c.before.answer-1.given.0.0) ∙ sym (ap (λ w. outcome_told (yes_of (law_answer w))) c.before.answer-1.given.1)
 
-returns-2 : tie.Need-returns-2
+returns-in-Refused : tie.Need-returns-in-Refused
 unfolding outcome_told yes_of law_answer
-returns-2 c = sym (ap (λ w. outcome_told (yes_of (law_answer w))) c.before.answer2.given.1)
+returns-in-Refused c = sym (ap (λ w. outcome_told (yes_of (law_answer w))) c.before.answer-in-Refused-1.given.1)
 
 pub told_law_spec : {M : Type 1} → statement M
 told_law_spec =
-    tie.close (tie.spec enum-known-answer cast-t5 enum-known-answer-2 returns returns-2)
+    tie.close (tie.spec enum_known-answer overflow_cast-result enum_known-answer-in-Refused-1 returns-in-Answer returns-in-Refused)

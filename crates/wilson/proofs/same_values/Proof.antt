@@ -13,62 +13,51 @@ use borrow.Author.Rules.{rules}
 use Rattle.wilson.proofs.same_values.Statement.{statement}
 use Rattle.wilson.proofs.same_values.Tie as tie
 
-abbrev invariant-loop : tie.invariant-loop
-invariant-loop s t so-far₀ e₀ e-end so_far e = (e ≤ length s) × (e-end ≡ length s) × (so_far ≡ every (λ k. equal (get_or s k (pos 0)) (get_or t k (pos 0))) e)
+abbrev invariant-loop-e : tie.invariant-loop-e
+invariant-loop-e s t so_far₀ e₀ e-end so_far e = (e ≤ length s) × (e-end ≡ length s) × (so_far ≡ every (λ k. equal (get_or s k (pos 0)) (get_or t k (pos 0))) e)
 
-abbrev decreases-loop : tie.decreases-loop
-decreases-loop s t so-far₀ e₀ e-end so_far e = length s - e
+abbrev decreases-loop-e : tie.decreases-loop-e
+decreases-loop-e s t so_far₀ e₀ e-end so_far e = length s - e
 
-loop-holds : tie.Need-loop-init invariant-loop decreases-loop
+loop-e-init : tie.Need-loop-e-init invariant-loop-e decreases-loop-e
 unfolding every
-loop-holds c = (omega arith, refl, refl)
+loop-e-init c = (omega arith, refl, refl)
 
-mul-so-far : tie.Need-overflow-mul-so-far invariant-loop decreases-loop
-mul-so-far c = search rules
+offset_bounds-s-e : tie.Need-offset_bounds-s-e invariant-loop-e decreases-loop-e
+offset_bounds-s-e c = search rules
 
-shared-slice-copy-out-so-far : tie.Need-shared-slice-copy-out-so-far invariant-loop decreases-loop
-shared-slice-copy-out-so-far c = search rules
+bounds-s-e : tie.Need-bounds-s-e invariant-loop-e decreases-loop-e
+bounds-s-e c = search rules
 
-mul-so-far-2 : tie.Need-overflow-mul-so-far-2 invariant-loop decreases-loop
-mul-so-far-2 c = search rules
+offset_bounds-t-e : tie.Need-offset_bounds-t-e invariant-loop-e decreases-loop-e
+offset_bounds-t-e c = search rules
 
-shared-slice-copy-out-so-far-2 : tie.Need-shared-slice-copy-out-so-far-2 invariant-loop decreases-loop
-shared-slice-copy-out-so-far-2 c = search rules
+bounds-t-e : tie.Need-bounds-t-e invariant-loop-e decreases-loop-e
+bounds-t-e c = search rules
 
-add-e : tie.Need-overflow-add-e invariant-loop decreases-loop
-add-e c = search rules
+overflow_step-e : tie.Need-overflow_step-e invariant-loop-e decreases-loop-e
+overflow_step-e c = search rules
 
-loop-less : tie.Need-loop-smaller invariant-loop decreases-loop
-loop-less c = search rules
+loop-e-smaller : tie.Need-loop-e-smaller invariant-loop-e decreases-loop-e
+loop-e-smaller c = search rules
 
-loop-again : tie.Need-loop-preserved invariant-loop decreases-loop
+loop-e-preserved : tie.Need-loop-e-preserved invariant-loop-e decreases-loop-e
 unfolding every
-loop-again c =
+loop-e-preserved c =
     let at_loop = c.before.before.before in
     let a = at_loop.before.args in
-    let e = at_loop.loop.e in
-    let told = equal_bits w32 (get_or a.s.now e (pos 0)) (get_or a.t.now e (pos 0)) (record { sfits = c.before.so_far.given }) (record { sfits = c.so-far2.given }) in
-    (omega arith, refl, rw (add-one e, at_loop.loop.invariant.2, told))
+    let e = at_loop.loop-e.e in
+    let told = equal_bits w32 (get_or a.s.now e (pos 0)) (get_or a.t.now e (pos 0)) (record { sfits = c.before.so_far-1.given }) (record { sfits = c.so_far-in-loop-e-1.given }) in
+    (omega arith, refl, rw (add-one e, at_loop.loop-e.invariant.2, told))
 
-returns : tie.Need-returns invariant-loop decreases-loop
+returns : tie.Need-returns invariant-loop-e decreases-loop-e
 unfolding same_values
 returns c =
     let a = c.before.before.args in
-    let past : c.before.loop.e ≡ length a.s.now = omega arith in
-    rw past at c.before.loop.invariant.2
+    let past : c.before.loop-e.e ≡ length a.s.now = omega arith in
+    rw past at c.before.loop-e.invariant.2
 
 pub same_values_spec : {M : Type 1} → statement M
 same_values_spec =
     tie.close
-    (tie.spec
-    invariant-loop
-    decreases-loop
-    loop-holds
-    mul-so-far
-    shared-slice-copy-out-so-far
-    mul-so-far-2
-    shared-slice-copy-out-so-far-2
-    add-e
-    loop-less
-    loop-again
-    returns)
+    (tie.spec invariant-loop-e decreases-loop-e loop-e-init offset_bounds-s-e bounds-s-e offset_bounds-t-e bounds-t-e overflow_step-e loop-e-smaller loop-e-preserved returns)

@@ -21,103 +21,103 @@ use borrow.Author.Rules.{rules}
 use Rattle.wilson.proofs.wilson_loop.Statement.{statement}
 use Rattle.wilson.proofs.wilson_loop.Tie as tie
 
-basis : (c : tie.Else1) → BasisWalks (complex_of c.before.before.before.before.args.c) c.before.before.before.before.args.lambda c.before.prepare_basis.result.walker c.before.prepare_basis.result.blocks
-basis c = c.before.prepare_basis.ensures.basis c.if1.false
+basis : (c : tie.Else-number-ne0) → BasisWalks (complex_of c.before.before.before.before.args.c) c.before.before.before.before.args.lambda c.before.prepare_basis-basis.result.walker c.before.prepare_basis-basis.result.blocks
+basis c = c.before.prepare_basis-basis.ensures.basis c.if-number-ne0.false
 
 -- the states are counted
-counted : (c : tie.After-count_states) → c.count_states.result ≡ length (states (complex_of c.before.before.before.before.before.before.args.c) c.before.before.before.before.before.before.args.lambda)
-counted c = c.count_states.ensures ∙ ap length (basis c.before.before).listed
+counted : (c : tie.After-count_states-n) → c.count_states-n.result ≡ length (states (complex_of c.before.before.before.before.before.before.args.c) c.before.before.before.before.before.before.args.lambda)
+counted c = c.count_states-n.ensures ∙ ap length (basis c.before.before).listed
 
-abbrev start : tie.Else2 → tie.Start
+abbrev start : tie.Else-amplitudes-n → tie.Start
 start c = c.before.before.before.before.before.before.before
 
-abbrev judged : tie.Else2 → tie.Else1
+abbrev judged : tie.Else-amplitudes-n → tie.Else-number-ne0
 judged c = c.before.before.before
 
 -- ---- the tests
-lengths : (c : tie.After-count_states)
+lengths : (c : tie.After-count_states-n)
     → (not (eqb (length c.before.before.before.before.before.before.args.amplitudes.now) (length (states (complex_of c.before.before.before.before.before.before.args.c) c.before.before.before.before.before.before.args.lambda))) || not (eqb (length c.before.before.before.before.before.before.args.directions.now) (length c.before.before.before.before.before.before.args.edges.now)))
-    ≡ (not (eqb (length c.before.before.before.before.before.before.args.amplitudes.now) c.count_states.result) || not (eqb (length c.before.before.before.before.before.before.args.directions.now) (length c.before.before.before.before.before.before.args.edges.now)))
+    ≡ (not (eqb (length c.before.before.before.before.before.before.args.amplitudes.now) c.count_states-n.result) || not (eqb (length c.before.before.before.before.before.before.args.directions.now) (length c.before.before.before.before.before.before.args.edges.now)))
 lengths c = rw (counted c)
 
 -- one amplitude for each state, and one direction for each edge
-as_many : (c : tie.Else2) → (length (start c).args.amplitudes.now ≡ c.before.count_states.result) × (length (start c).args.directions.now ≡ length (start c).args.edges.now)
+as_many : (c : tie.Else-amplitudes-n) → (length (start c).args.amplitudes.now ≡ c.before.count_states-n.result) × (length (start c).args.directions.now ≡ length (start c).args.edges.now)
 as_many c =
-    let fell = or_fell _ _ c.if2.false in
+    let fell = or_fell _ _ c.if-amplitudes-n.false in
     (eqb-true _ _ (not-false _ fell.0), eqb-true _ _ (not-false _ fell.1))
 
 steps : (c : tie.After-path_right) → every_entry (step_right (length (complex_of (start c.before).args.c).edges)) (path_of (start c.before).args.edges.now (start c.before).args.directions.now) ≡ c.path_right.result
 steps c = sym (rw (basis (judged c.before)).walks.edges at c.path_right.ensures)
 
-prepare_basis-requires : tie.Need-prepare_basis-requires
-prepare_basis-requires c κs = search rules
+prepare_basis-basis-requires : tie.Need-prepare_basis-basis-requires
+prepare_basis-basis-requires c κs = search rules
 
-returns : tie.Need-returns
+returns-then-number-ne0 : tie.Need-returns-then-number-ne0
 unfolding wilson_call expectation_answer
-returns c = refuses _ (basis_refuses c.before.prepare_basis.ensures c.if1.true _) (ne_eqb _ 0 c.if1.true)
+returns-then-number-ne0 c = refuses _ (basis_refuses c.before.prepare_basis-basis.ensures c.if-number-ne0.true _) (ne_eqb _ 0 c.if-number-ne0.true)
 
-count_states-requires : tie.Need-count_states-requires
-count_states-requires c κs = (basis c.before).fit
+count_states-n-requires : tie.Need-count_states-n-requires
+count_states-n-requires c κs = (basis c.before).fit
 
-returns-2 : tie.Need-returns-2
+returns-then-amplitudes-n : tie.Need-returns-then-amplitudes-n
 unfolding wilson_call expectation_answer
-returns-2 c =
+returns-then-amplitudes-n c =
     let judged = c.before.before.before in
-    refuses _ (past_basis judged.before.prepare_basis.ensures judged.if1.false (here (lengths c.before ∙ c.if2.true))) refl
+    refuses _ (past_basis judged.before.prepare_basis-basis.ensures judged.if-number-ne0.false (here (lengths c.before ∙ c.if-amplitudes-n.true))) refl
 
 path_right-requires : tie.Need-path_right-requires
 path_right-requires c κs = (as_many c).1
 
-returns-3 : tie.Need-returns-3
+returns-then-not-path_right : tie.Need-returns-then-not-path_right
 unfolding wilson_call expectation_answer
-returns-3 c =
+returns-then-not-path_right c =
     let long = c.before.before in
-    refuses _ (past_basis (judged long).before.prepare_basis.ensures (judged long).if1.false (past (lengths long.before ∙ long.if2.false) (here (rw (steps c.before ∙ not-true _ c.if3.true))))) refl
+    refuses _ (past_basis (judged long).before.prepare_basis-basis.ensures (judged long).if-number-ne0.false (past (lengths long.before ∙ long.if-amplitudes-n.false) (here (rw (steps c.before ∙ not-true _ c.if-not-path_right.true))))) refl
 
 all_bounded-requires : tie.Need-all_bounded-requires
 all_bounded-requires c κs = search rules
 
-returns-4 : tie.Need-returns-4
+returns-then-not-all_bounded : tie.Need-returns-then-not-all_bounded
 unfolding wilson_call expectation_answer
-returns-4 c =
+returns-then-not-all_bounded c =
     let fits = c.before.before in
     let long = fits.before.before in
-    refuses _ (past_basis (judged long).before.prepare_basis.ensures (judged long).if1.false (past (lengths long.before ∙ long.if2.false) (past (rw (steps fits.before ∙ not-false _ fits.if3.false)) (here (rw (sym c.before.all_bounded.ensures ∙ not-true _ c.if4.true)))))) refl
+    refuses _ (past_basis (judged long).before.prepare_basis-basis.ensures (judged long).if-number-ne0.false (past (lengths long.before ∙ long.if-amplitudes-n.false) (past (rw (steps fits.before ∙ not-false _ fits.if-not-path_right.false)) (here (rw (sym c.before.all_bounded.ensures ∙ not-true _ c.if-not-all_bounded.true)))))) refl
 
 -- ---- the room
-abbrev measured : tie.Else4 → tie.Else2
+abbrev measured : tie.Else-not-all_bounded → tie.Else-amplitudes-n
 measured c = c.before.before.before.before
 
 -- the number of values in the basis is a number of the machine
-few : (c : tie.Else4) → (measured c).before.count_states.result * (judged (measured c)).before.prepare_basis.result.walker.n_edges ≤ 1048576 * 63
+few : (c : tie.Else-not-all_bounded) → (measured c).before.count_states-n.result * (judged (measured c)).before.prepare_basis-basis.result.walker.n_edges ≤ 1048576 * 63
 few c =
     let b = basis (judged (measured c)) in
-    let many : (measured c).before.count_states.result ≤ 1048576 = rw (counted (measured c).before) b.few in
+    let many : (measured c).before.count_states-n.result ≤ 1048576 = rw (counted (measured c).before) b.few in
     mul-le-mul many b.fit.edges
 
-shortage : (c : tie.Else4) → short (complex_of (start (measured c)).args.c) (start (measured c)).args.lambda (length (start (measured c)).args.states.now) ≡ ltb (length (start (measured c)).args.states.now) ((measured c).before.count_states.result * (judged (measured c)).before.prepare_basis.result.walker.n_edges)
-shortage c = rw (short_told _ _ _ _ (basis (judged (measured c))) (length (start (measured c)).args.states.now), ← (measured c).before.count_states.ensures)
+shortage : (c : tie.Else-not-all_bounded) → short (complex_of (start (measured c)).args.c) (start (measured c)).args.lambda (length (start (measured c)).args.states.now) ≡ ltb (length (start (measured c)).args.states.now) ((measured c).before.count_states-n.result * (judged (measured c)).before.prepare_basis-basis.result.walker.n_edges)
+shortage c = rw (short_told _ _ _ _ (basis (judged (measured c))) (length (start (measured c)).args.states.now), ← (measured c).before.count_states-n.ensures)
 
 -- none of the tests before holds
-judged_so_far : (c : tie.Else4) {k : ℕ} → Tells ((15, short (complex_of (start (measured c)).args.c) (start (measured c)).args.lambda (length (start (measured c)).args.states.now)) ∷ []) k
+judged_so_far : (c : tie.Else-not-all_bounded) {k : ℕ} → Tells ((15, short (complex_of (start (measured c)).args.c) (start (measured c)).args.lambda (length (start (measured c)).args.states.now)) ∷ []) k
     → Tells (wilson_tests (complex_of (start (measured c)).args.c) (start (measured c)).args.lambda (start (measured c)).args.amplitudes.now (start (measured c)).args.edges.now (start (measured c)).args.directions.now (length (start (measured c)).args.states.now)) k
 judged_so_far c t =
     let fits = c.before.before in
     let long = measured c in
-    past_basis (judged long).before.prepare_basis.ensures (judged long).if1.left (past (lengths long.before ∙ long.if2.left) (past (rw (steps fits.before ∙ not-false _ fits.if3.false)) (past (rw (sym c.before.all_bounded.ensures ∙ not-false _ c.if4.false)) t)))
+    past_basis (judged long).before.prepare_basis-basis.ensures (judged long).if-number-ne0.left (past (lengths long.before ∙ long.if-amplitudes-n.left) (past (rw (steps fits.before ∙ not-false _ fits.if-not-path_right.false)) (past (rw (sym c.before.all_bounded.ensures ∙ not-false _ c.if-not-all_bounded.false)) t)))
 
-mul-if5 : tie.Need-overflow-mul-if5
-mul-if5 c = let h = few c in search rules
+overflow_mul-n : tie.Need-overflow_mul-n
+overflow_mul-n c = let h = few c in search rules
 
-returns-5 : tie.Need-returns-5
+returns-then-states-n : tie.Need-returns-then-states-n
 unfolding wilson_call expectation_answer
-returns-5 c = refuses _ (judged_so_far c.before (here (shortage c.before ∙ lt-ltb _ _ c.if5.true))) refl
+returns-then-states-n c = refuses _ (judged_so_far c.before (here (shortage c.before ∙ lt-ltb _ _ c.if-states-n.true))) refl
 
 write_states-requires : tie.Need-write_states-requires
 write_states-requires c κs =
     let enough = c.before.before in
     let right = enough.before in
-    ((basis (judged (measured right))).fit, rw (← (measured right).before.count_states.ensures) enough.if5.false)
+    ((basis (judged (measured right))).fit, rw (← (measured right).before.count_states-n.ensures) enough.if-states-n.false)
 
 wilson_sum-requires : tie.Need-wilson_sum-requires
 wilson_sum-requires c κs =
@@ -129,40 +129,26 @@ wilson_sum-requires c κs =
       record {
         complex = _;
         basis = basis_listed _ _ _ _ b _ _ _ listed.write_states.ensures _ refl;
-        one_each = (as_many long).0 ∙ long.before.count_states.ensures ∙ sym listed.write_states.ensures.count;
+        one_each = (as_many long).0 ∙ long.before.count_states-n.ensures ∙ sym listed.write_states.ensures.count;
       },
-      rw b.walks.edges (path_fits _ _ _ (as_many long).1 (steps fits.before ∙ not-false _ fits.if3.false)),
+      rw b.walks.edges (path_fits _ _ _ (as_many long).1 (steps fits.before ∙ not-false _ fits.if-not-path_right.false)),
     )
 
-same_length : tie.Need-same-length
-same_length c = search rules
+shape_of-states : tie.Need-shape_of-states
+shape_of-states c = search rules
 
-returns-6 : tie.Need-returns-6
+returns : tie.Need-returns
 unfolding wilson_call expectation_answer
-returns-6 c =
+returns c =
     let listed = c.before.before.before.before in
     let enough = listed.before.before.before in
     let right = enough.before in
     let b = basis (judged (measured right)) in
-    ends _ (judged_so_far right (past (shortage right ∙ le-ltb _ _ enough.if5.false) none))
+    ends _ (judged_so_far right (past (shortage right ∙ le-ltb _ _ enough.if-states-n.false) none))
     (c.wilson_sum.ensures _ (basis_listed _ _ _ _ b _ _ _ listed.write_states.ensures _ refl))
     (basis_written _ _ _ _ b _ _ _ listed.write_states.ensures).1 tt
 
 pub wilson_loop_spec : {M : Type 1} → statement M
 wilson_loop_spec =
     tie.close
-    (tie.spec
-    prepare_basis-requires
-    returns
-    count_states-requires
-    returns-2
-    path_right-requires
-    returns-3
-    all_bounded-requires
-    returns-4
-    mul-if5
-    returns-5
-    write_states-requires
-    wilson_sum-requires
-    same_length
-    returns-6)
+    (tie.spec prepare_basis-basis-requires returns-then-number-ne0 count_states-n-requires returns-then-amplitudes-n path_right-requires returns-then-not-path_right all_bounded-requires returns-then-not-all_bounded overflow_mul-n returns-then-states-n write_states-requires wilson_sum-requires shape_of-states returns)

@@ -27,12 +27,12 @@ use borrow.Author.Rules.{rules}
 use Rattle.wilson.proofs.wilson_sum.Statement.{statement}
 use Rattle.wilson.proofs.wilson_sum.Tie as tie
 
-abbrev invariant-loop : tie.invariant-loop
-invariant-loop list s free amplitudes edges directions n m lambda reached₀ from total i₀ at k₀ k-end reached i k =
+abbrev invariant-loop-k : tie.invariant-loop-k
+invariant-loop-k list s free amplitudes edges directions n m lambda reached₀ from total i₀ at k₀ k-end reached i k =
     (i ≡ i₀) × (k-end ≡ length edges) × (k ≤ length edges) × Underway s.lambda s.edges (row s.edges list i₀) (path_of edges directions) k reached
 
-abbrev decreases-loop : tie.decreases-loop
-decreases-loop list s free amplitudes edges directions n m lambda reached₀ from total i₀ at k₀ k-end reached i k =
+abbrev decreases-loop-k : tie.decreases-loop-k
+decreases-loop-k list s free amplitudes edges directions n m lambda reached₀ from total i₀ at k₀ k-end reached i k =
     length edges - k
 
 abbrev invariant-states : tie.invariant-states
@@ -45,23 +45,23 @@ decreases-states list s free amplitudes edges directions n m lambda reached₀ f
     s.states - i
 
 abbrev States : Type 0
-States = tie.At-states invariant-loop decreases-loop invariant-states decreases-states
+States = tie.At-states invariant-loop-k decreases-loop-k invariant-states decreases-states
 
 abbrev Loop : Type 0
-Loop = tie.At-loop invariant-loop decreases-loop invariant-states decreases-states
+Loop = tie.At-loop-k invariant-loop-k decreases-loop-k invariant-states decreases-states
 
-abbrev start : States → tie.Start invariant-loop decreases-loop invariant-states decreases-states
+abbrev start : States → tie.Start invariant-loop-k decreases-loop-k invariant-states decreases-states
 start c = c.before.before.before
 
 abbrev outer : Loop → States
 outer c = c.before.before.before.before.before
 
-states-holds : tie.Need-states-init invariant-loop decreases-loop invariant-states decreases-states
+states-init : tie.Need-states-init invariant-loop-k decreases-loop-k invariant-states decreases-states
 unfolding wilson_sum
-states-holds c = (omega arith, omega arith, refl, λ complex basis. rw zero (summed_none complex _ _ _ basis _ _ _ c.before.before.requires.1))
+states-init c = (omega arith, omega arith, refl, λ complex basis. rw zero (summed_none complex _ _ _ basis _ _ _ c.before.before.requires.1))
 
 -- the row lies in the list
-room : (c : tie.In-states invariant-loop decreases-loop invariant-states decreases-states)
+room : (c : tie.In-states invariant-loop-k decreases-loop-k invariant-states decreases-states)
     → (c.before.states.i * (start c.before).args.s.edges + (start c.before).args.s.edges ≤ length (start c.before).args.list.now)
     × (c.before.states.i * (start c.before).args.s.edges ≤ 1048576 * 63)
 room c =
@@ -70,33 +70,33 @@ room c =
     let few : i ≤ 1048576 = omega (arith, basis.few) in
     (row_within _ _ _ _ basis i (omega arith), mul-le-mul few (edges_few _ _ _ _ basis))
 
-mul_at : tie.Need-overflow-mul-at invariant-loop decreases-loop invariant-states decreases-states
-mul_at c = let h = room c in search rules
+overflow_mul-at : tie.Need-overflow_mul-at invariant-loop-k decreases-loop-k invariant-states decreases-states
+overflow_mul-at c = let h = room c in search rules
 
-add-copy-state : tie.Need-overflow-add-copy-state invariant-loop decreases-loop invariant-states decreases-states
-add-copy-state c = let h = room c.before in search rules
+overflow_add-at : tie.Need-overflow_add-at invariant-loop-k decreases-loop-k invariant-states decreases-states
+overflow_add-at c = let h = room c.before in search rules
 
-mul-copy-state : tie.Need-overflow-mul-copy-state invariant-loop decreases-loop invariant-states decreases-states
-mul-copy-state c = let h = room c.before in search rules
+offset_bounds-list-at : tie.Need-offset_bounds-list-at invariant-loop-k decreases-loop-k invariant-states decreases-states
+offset_bounds-list-at c = let h = room c.before in search rules
 
-sub-copy-state : tie.Need-overflow-sub-copy-state invariant-loop decreases-loop invariant-states decreases-states
-sub-copy-state c = search rules
+slice_bounds-copy_state-count : tie.Need-slice_bounds-copy_state-count invariant-loop-k decreases-loop-k invariant-states decreases-states
+slice_bounds-copy_state-count c = search rules
 
-part-copy-state-start : tie.Need-slice-bounds-copy-state-start invariant-loop decreases-loop invariant-states decreases-states
-part-copy-state-start c = search rules
+slice_bounds-copy_state-start : tie.Need-slice_bounds-copy_state-start invariant-loop-k decreases-loop-k invariant-states decreases-states
+slice_bounds-copy_state-start c = search rules
 
-part-copy-state-end : tie.Need-slice-bounds-copy-state-end invariant-loop decreases-loop invariant-states decreases-states
-part-copy-state-end c = let h = room c.before in search rules
+slice_bounds-copy_state-end : tie.Need-slice_bounds-copy_state-end invariant-loop-k decreases-loop-k invariant-states decreases-states
+slice_bounds-copy_state-end c = let h = room c.before in search rules
 
-copy_state-requires : tie.Need-copy_state-requires invariant-loop decreases-loop invariant-states decreases-states
+copy_state-requires : tie.Need-copy_state-requires invariant-loop-k decreases-loop-k invariant-states decreases-states
 copy_state-requires c κs =
     let at_states = c.before.before.before in
     let begun = start at_states in
     let basis = begun.pre.0.basis in
     (at_states.states.invariant.2, rw (row_part begun.args.list.now begun.args.s.edges at_states.states.i, row_long _ _ _ _ basis at_states.states.i (omega arith)) (edges_few _ _ _ _ basis))
 
-loop-holds : tie.Need-loop-init invariant-loop decreases-loop invariant-states decreases-states
-loop-holds c =
+loop-k-init : tie.Need-loop-k-init invariant-loop-k decreases-loop-k invariant-states decreases-states
+loop-k-init c =
     let at_states = c.before.before.before.before in
     let begun = start at_states in
     let i = at_states.states.i in
@@ -107,46 +107,46 @@ loop-holds c =
     (refl, refl, omega arith, walk_begins _ _ _ _ c.copy_state.new.0 c.copy_state.ensures.0 front (row_small _ _ _ _ basis i inside))
 
 shared_slice_read_take_step :
-    tie.Need-shared-slice-read-take-step invariant-loop decreases-loop invariant-states decreases-states
+    tie.Need-bounds-edges-k invariant-loop-k decreases-loop-k invariant-states decreases-states
 shared_slice_read_take_step c = search rules
 
 shared_slice_copy_out_take_step :
-    tie.Need-shared-slice-copy-out-take-step invariant-loop decreases-loop invariant-states decreases-states
+    tie.Need-bounds-directions-k invariant-loop-k decreases-loop-k invariant-states decreases-states
 shared_slice_copy_out_take_step c = search rules
 
-take_step-requires : tie.Need-take_step-requires invariant-loop decreases-loop invariant-states decreases-states
+take_step-requires : tie.Need-take_step-requires invariant-loop-k decreases-loop-k invariant-states decreases-states
 take_step-requires c κs =
     let at_loop = c.before.before.before.before in
     let begun = start (outer at_loop) in
-    let k = at_loop.loop.k in
+    let k = at_loop.loop-k.k in
     let basis = begun.pre.0.basis in
-    rw (back8 (get_or begun.args.directions.now k (pos 0)) c.take-step-arg.given)
-    (step_ready _ _ _ _ _ begun.pre.1 (edges_few _ _ _ _ basis) k _ at_loop.loop.invariant.3 (omega arith) basis.truncation)
+    rw (back8 (get_or begun.args.directions.now k (pos 0)) c.take_step-arg-1.given)
+    (step_ready _ _ _ _ _ begun.pre.1 (edges_few _ _ _ _ basis) k _ at_loop.loop-k.invariant.3 (omega arith) basis.truncation)
 
 -- what the step did
-stepped : (c : tie.After-take_step invariant-loop decreases-loop invariant-states decreases-states)
-    → Stepped (start (outer c.before.before.before.before.before)).args.s.lambda c.before.before.before.before.before.loop.reached (get_or (start (outer c.before.before.before.before.before)).args.edges.now c.before.before.before.before.before.loop.k 0) (get_or (start (outer c.before.before.before.before.before)).args.directions.now c.before.before.before.before.before.loop.k (pos 0)) c.take_step.result c.take_step.new.0
+stepped : (c : tie.After-take_step invariant-loop-k decreases-loop-k invariant-states decreases-states)
+    → Stepped (start (outer c.before.before.before.before.before)).args.s.lambda c.before.before.before.before.before.loop-k.reached (get_or (start (outer c.before.before.before.before.before)).args.edges.now c.before.before.before.before.before.loop-k.k 0) (get_or (start (outer c.before.before.before.before.before)).args.directions.now c.before.before.before.before.before.loop-k.k (pos 0)) c.take_step.result c.take_step.new.0
 stepped c =
     let at_loop = c.before.before.before.before.before in
-    rw (back8 (get_or (start (outer at_loop)).args.directions.now at_loop.loop.k (pos 0)) c.before.take-step-arg.given) at c.take_step.ensures
+    rw (back8 (get_or (start (outer at_loop)).args.directions.now at_loop.loop-k.k (pos 0)) c.before.take_step-arg-1.given) at c.take_step.ensures
 
-add-i : tie.Need-overflow-add-i invariant-loop decreases-loop invariant-states decreases-states
-add-i c = search rules
+overflow_step-i : tie.Need-overflow_step-i invariant-loop-k decreases-loop-k invariant-states decreases-states
+overflow_step-i c = search rules
 
-states-less : tie.Need-states-smaller invariant-loop decreases-loop invariant-states decreases-states
-states-less c = search rules
+states-smaller-then-not-take_step : tie.Need-states-smaller-then-not-take_step invariant-loop-k decreases-loop-k invariant-states decreases-states
+states-smaller-then-not-take_step c = search rules
 
-states-again : tie.Need-states-preserved invariant-loop decreases-loop invariant-states decreases-states
-states-again c =
+states-preserved-then-not-take_step : tie.Need-states-preserved-then-not-take_step invariant-loop-k decreases-loop-k invariant-states decreases-states
+states-preserved-then-not-take_step c =
     let at_loop = c.before.before.before.before.before.before in
     let at_states = outer at_loop in
     let begun = start at_states in
     let i = at_states.states.i in
-    let u = at_loop.loop.invariant.3 in
-    let same : at_loop.loop.i ≡ i = at_loop.loop.invariant.0 in
-    let more : at_loop.loop.k < length begun.args.edges.now = omega arith in
+    let u = at_loop.loop-k.invariant.3 in
+    let same : at_loop.loop-k.i ≡ i = at_loop.loop-k.invariant.0 in
+    let more : at_loop.loop-k.k < length begun.args.edges.now = omega arith in
     let step = stepped c.before in
-    let out = step_leaves _ _ _ _ _ begun.pre.1 (edges_few _ _ _ _ begun.pre.0.basis) at_loop.loop.k _ u more (sym step.stays ∙ not-true _ c.if1.true) in
+    let out = step_leaves _ _ _ _ _ begun.pre.1 (edges_few _ _ _ _ begun.pre.0.basis) at_loop.loop-k.k _ u more (sym step.stays ∙ not-true _ c.if-not-take_step.true) in
     rw same (
       omega arith,
       at_states.states.inv.1,
@@ -154,36 +154,36 @@ states-again c =
       λ complex basis. summed_left complex _ _ _ basis _ _ _ begun.pre.1 i _ _ (at_states.states.inv.3 complex basis) (rw (row_is complex _ _ _ basis i (omega arith)) at out),
     )
 
-add-k : tie.Need-overflow-add-k invariant-loop decreases-loop invariant-states decreases-states
-add-k c = search rules
+overflow_step-k : tie.Need-overflow_step-k invariant-loop-k decreases-loop-k invariant-states decreases-states
+overflow_step-k c = search rules
 
-loop-less : tie.Need-loop-smaller invariant-loop decreases-loop invariant-states decreases-states
-loop-less c = search rules
+loop-k-smaller : tie.Need-loop-k-smaller invariant-loop-k decreases-loop-k invariant-states decreases-states
+loop-k-smaller c = search rules
 
-loop-again : tie.Need-loop-preserved invariant-loop decreases-loop invariant-states decreases-states
-loop-again c =
+loop-k-preserved : tie.Need-loop-k-preserved invariant-loop-k decreases-loop-k invariant-states decreases-states
+loop-k-preserved c =
     let at_loop = c.before.before.before.before.before.before in
     let begun = start (outer at_loop) in
-    let more : at_loop.loop.k < length begun.args.edges.now = omega arith in
+    let more : at_loop.loop-k.k < length begun.args.edges.now = omega arith in
     let step = stepped c.before in (
-      at_loop.loop.invariant.0,
+      at_loop.loop-k.invariant.0,
       refl,
       omega arith,
-      rw step.row_is (step_stays _ _ _ _ _ begun.pre.1 (edges_few _ _ _ _ begun.pre.0.basis) at_loop.loop.k _ at_loop.loop.invariant.3 more (sym step.stays ∙ not-false _ c.if1.false)),
+      rw step.row_is (step_stays _ _ _ _ _ begun.pre.1 (edges_few _ _ _ _ begun.pre.0.basis) at_loop.loop-k.k _ at_loop.loop-k.invariant.3 more (sym step.stays ∙ not-false _ c.if-not-take_step.false)),
     )
 
 -- ---- the walk is over
 abbrev Arrived : Type 0
-Arrived = tie.After-loop invariant-loop decreases-loop invariant-states decreases-states
+Arrived = tie.After-loop-k invariant-loop-k decreases-loop-k invariant-states decreases-states
 
 abbrev config : Arrived → List ℤ
-config c = take (start (outer c.before)).args.s.edges c.before.loop.reached
+config c = take (start (outer c.before)).args.s.edges c.before.loop-k.reached
 
 config_long : (c : Arrived) → length (config c) ≡ (start (outer c.before)).args.s.edges
 config_long c =
     let few = edges_few _ _ _ _ (start (outer c.before)).pre.0.basis in
-    let long = c.before.loop.invariant.3.long in
-    length-take-le (start (outer c.before)).args.s.edges c.before.loop.reached (omega arith)
+    let long = c.before.loop-k.invariant.3.long in
+    length-take-le (start (outer c.before)).args.s.edges c.before.loop-k.reached (omega arith)
 
 abbrev state : Arrived → Complex → List ℤ
 state c complex = get_or (states complex (start (outer c.before)).args.s.lambda) (outer c.before).states.i []
@@ -202,125 +202,97 @@ arrived : (c : Arrived) (complex : Complex) → Basis c complex → (stays (star
 arrived c complex basis =
     let at_loop = c.before in
     let begun = start (outer at_loop) in
-    let past : at_loop.loop.k ≡ length begun.args.edges.now = omega arith in
+    let past : at_loop.loop-k.k ≡ length begun.args.edges.now = omega arith in
     let is = row_is complex _ _ _ basis (outer at_loop).states.i (inside c) in (
-      rw is at (walk_stays _ _ _ _ _ begun.pre.1 at_loop.loop.k _ at_loop.loop.invariant.3 past),
-      rw is at (walk_leads _ _ _ _ _ begun.pre.1 at_loop.loop.k _ at_loop.loop.invariant.3 past),
+      rw is at (walk_stays _ _ _ _ _ begun.pre.1 at_loop.loop-k.k _ at_loop.loop-k.invariant.3 past),
+      rw is at (walk_leads _ _ _ _ _ begun.pre.1 at_loop.loop-k.k _ at_loop.loop-k.invariant.3 past),
     )
 
-sub-advance : tie.Need-overflow-sub-advance invariant-loop decreases-loop invariant-states decreases-states
-sub-advance c = search rules
+slice_bounds-advance-count : tie.Need-slice_bounds-advance-count invariant-loop-k decreases-loop-k invariant-states decreases-states
+slice_bounds-advance-count c = search rules
 
-part-advance-start : tie.Need-slice-bounds-advance-start invariant-loop decreases-loop invariant-states decreases-states
-part-advance-start c = search rules
+slice_bounds-advance-start : tie.Need-slice_bounds-advance-start invariant-loop-k decreases-loop-k invariant-states decreases-states
+slice_bounds-advance-start c = search rules
 
-part-advance-end : tie.Need-slice-bounds-advance-end invariant-loop decreases-loop invariant-states decreases-states
-part-advance-end c =
+slice_bounds-advance-end : tie.Need-slice_bounds-advance-end invariant-loop-k decreases-loop-k invariant-states decreases-states
+slice_bounds-advance-end c =
     let few = edges_few _ _ _ _ (start (outer c.before.before)).pre.0.basis in
-    let long = c.before.before.loop.invariant.3.long in
+    let long = c.before.before.loop-k.invariant.3.long in
     search rules
 
-advance-requires : tie.Need-advance-requires invariant-loop decreases-loop invariant-states decreases-states
-advance-requires c κs =
+advance-from-requires : tie.Need-advance-from-requires invariant-loop-k decreases-loop-k invariant-states decreases-states
+advance-from-requires c κs =
     let over = c.before.before in
     let begun = start (outer over.before) in
     (rw (sub-zero begun.args.s.edges) (list_rows _ _ _ _ begun.pre.0.basis (config over) (config_long over)), (outer over.before).states.inv.1)
 
 -- the place of what was reached
-found : (c : tie.After-advance invariant-loop decreases-loop invariant-states decreases-states) (complex : Complex) → Basis c.before.before.before complex → c.advance.result ≡ place complex (start (outer c.before.before.before.before)).args.s.lambda (config c.before.before.before)
+found : (c : tie.After-advance-from invariant-loop-k decreases-loop-k invariant-states decreases-states) (complex : Complex) → Basis c.before.before.before complex → c.advance-from.result ≡ place complex (start (outer c.before.before.before.before)).args.s.lambda (config c.before.before.before)
 found c complex basis =
     let over = c.before.before.before in
     let at_states = outer over.before in
     let begun = start at_states in
     let there = arrived over complex basis in
-    (rw (sub-zero begun.args.s.edges) at c.advance.ensures) _ (place_ranked complex _ _ _ basis (config over) (config_long over))
+    (rw (sub-zero begun.args.s.edges) at c.advance-from.ensures) _ (place_ranked complex _ _ _ basis (config over) (config_long over))
     (sought complex _ _ _ basis _ _ _ begun.pre.1 at_states.states.i _ _ (at_states.states.inv.3 complex basis) (inside over) there.0 (config over) there.1 (config_long over))
 
-sub-add-reached : tie.Need-overflow-sub-add-reached invariant-loop decreases-loop invariant-states decreases-states
-sub-add-reached c = search rules
+slice_bounds-add_reached-count : tie.Need-slice_bounds-add_reached-count invariant-loop-k decreases-loop-k invariant-states decreases-states
+slice_bounds-add_reached-count c = search rules
 
-part-add-reached-start : tie.Need-slice-bounds-add-reached-start invariant-loop decreases-loop invariant-states decreases-states
-part-add-reached-start c = search rules
+slice_bounds-add_reached-start : tie.Need-slice_bounds-add_reached-start invariant-loop-k decreases-loop-k invariant-states decreases-states
+slice_bounds-add_reached-start c = search rules
 
-part-add-reached-end : tie.Need-slice-bounds-add-reached-end invariant-loop decreases-loop invariant-states decreases-states
-part-add-reached-end c =
+slice_bounds-add_reached-end : tie.Need-slice_bounds-add_reached-end invariant-loop-k decreases-loop-k invariant-states decreases-states
+slice_bounds-add_reached-end c =
     let few = edges_few _ _ _ _ (start (outer c.before.before.before.before.before)).pre.0.basis in
-    let long = c.before.before.before.before.before.loop.invariant.3.long in
+    let long = c.before.before.before.before.before.loop-k.invariant.3.long in
     search rules
 
-add_reached-requires : tie.Need-add_reached-requires invariant-loop decreases-loop invariant-states decreases-states
-add_reached-requires c κs =
+add_reached-total-requires : tie.Need-add_reached-total-requires invariant-loop-k decreases-loop-k invariant-states decreases-states
+add_reached-total-requires c κs =
     let over = c.before.before.before.before.before in
     let begun = start (outer over.before) in
     let basis = begun.pre.0.basis in
-    let same : over.before.loop.i ≡ (outer over.before).states.i = over.before.loop.invariant.0 in
+    let same : over.before.loop-k.i ≡ (outer over.before).states.i = over.before.loop-k.invariant.0 in
     rw (sub-zero begun.args.s.edges, config_long over) (basis.few, edges_few _ _ _ _ basis, list_long _ _ _ _ basis, begun.pre.0.one_each, omega arith)
 
-add-i-2 : tie.Need-overflow-add-i-2 invariant-loop decreases-loop invariant-states decreases-states
-add-i-2 c = search rules
+overflow_step-i-in-states : tie.Need-overflow_step-i-in-states invariant-loop-k decreases-loop-k invariant-states decreases-states
+overflow_step-i-in-states c = search rules
 
-states-less-2 : tie.Need-states-smaller-2 invariant-loop decreases-loop invariant-states decreases-states
-states-less-2 c = search rules
+states-smaller : tie.Need-states-smaller invariant-loop-k decreases-loop-k invariant-states decreases-states
+states-smaller c = search rules
 
-states-again-2 : tie.Need-states-preserved-2 invariant-loop decreases-loop invariant-states decreases-states
-states-again-2 c =
+states-preserved : tie.Need-states-preserved invariant-loop-k decreases-loop-k invariant-states decreases-states
+states-preserved c =
     let sought_out = c.before.before.before in
     let over = sought_out.before.before.before in
     let at_loop = over.before in
     let at_states = outer at_loop in
     let begun = start at_states in
-    let same : at_loop.loop.i ≡ at_states.states.i = at_loop.loop.invariant.0 in
+    let same : at_loop.loop-k.i ≡ at_states.states.i = at_loop.loop-k.invariant.0 in
     let own = begun.pre.0.basis in
     rw same (
       omega (arith, inside over),
       omega (arith, found sought_out _ own, place_within _ own.accepted begun.args.s.lambda (config over), own.count),
-      at_loop.loop.invariant.3.long,
+      at_loop.loop-k.invariant.3.long,
       λ complex basis.
           let there = arrived over complex basis in
           summed_more complex _ _ _ basis _ _ _ begun.pre.1 at_states.states.i _ _ (at_states.states.inv.3 complex basis) (inside over) there.0 (config over) there.1 (config_long over)
-          sought_out.advance.result (found sought_out complex basis) c.add_reached.result ((rw (sub-zero begun.args.s.edges) at c.add_reached.ensures) ∙ ap (λ (k : ℕ). with_product begun.args.list.now begun.args.s.states begun.args.amplitudes.now k sought_out.advance.result (config over) at_states.states.total) same),
+          sought_out.advance-from.result (found sought_out complex basis) c.add_reached-total.result ((rw (sub-zero begun.args.s.edges) at c.add_reached-total.ensures) ∙ ap (λ (k : ℕ). with_product begun.args.list.now begun.args.s.states begun.args.amplitudes.now k sought_out.advance-from.result (config over) at_states.states.total) same),
     )
 
-returns : tie.Need-returns invariant-loop decreases-loop invariant-states decreases-states
+returns : tie.Need-returns invariant-loop-k decreases-loop-k invariant-states decreases-states
 returns c complex basis =
     let begun = start c.before in
     summed_all complex _ _ _ basis _ _ _ begun.pre.1 c.before.states.i _ _ (c.before.states.invariant.3 complex basis) (omega arith)
 
+bounds-edges-k : tie.Need-bounds-edges-k invariant-loop-k decreases-loop-k invariant-states decreases-states
+bounds-edges-k c = search rules
+
+bounds-directions-k : tie.Need-bounds-directions-k invariant-loop-k decreases-loop-k invariant-states decreases-states
+bounds-directions-k c = search rules
+
 pub wilson_sum_spec : {M : Type 1} → statement M
 wilson_sum_spec =
     tie.close
-    (tie.spec
-    invariant-loop
-    decreases-loop
-    invariant-states
-    decreases-states
-    states-holds
-    mul_at
-    add-copy-state
-    mul-copy-state
-    sub-copy-state
-    part-copy-state-start
-    part-copy-state-end
-    copy_state-requires
-    loop-holds
-    shared_slice_read_take_step
-    shared_slice_copy_out_take_step
-    take_step-requires
-    add-i
-    states-less
-    states-again
-    add-k
-    loop-less
-    loop-again
-    sub-advance
-    part-advance-start
-    part-advance-end
-    advance-requires
-    sub-add-reached
-    part-add-reached-start
-    part-add-reached-end
-    add_reached-requires
-    add-i-2
-    states-less-2
-    states-again-2
-    returns)
+    (tie.spec invariant-loop-k decreases-loop-k invariant-states decreases-states states-init overflow_mul-at overflow_add-at offset_bounds-list-at slice_bounds-copy_state-count slice_bounds-copy_state-start slice_bounds-copy_state-end copy_state-requires loop-k-init bounds-edges-k bounds-directions-k take_step-requires overflow_step-i states-smaller-then-not-take_step states-preserved-then-not-take_step overflow_step-k loop-k-smaller loop-k-preserved slice_bounds-advance-count slice_bounds-advance-start slice_bounds-advance-end advance-from-requires slice_bounds-add_reached-count slice_bounds-add_reached-start slice_bounds-add_reached-end add_reached-total-requires overflow_step-i-in-states states-smaller states-preserved returns)

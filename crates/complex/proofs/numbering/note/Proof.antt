@@ -8,84 +8,69 @@ use Rattle.complex.proofs.numbering.note.Reads as reads
 use Rattle.complex.proofs.numbering.note.Lts as lts
 
 -- src/numbering.rt:17:9
-returns : tie.Need-returns
-returns c = λ l n. note_over _ _ _ _ _ c.before.requires.0 l n c.if1.true
+returns-then-limit-count : tie.Need-returns-then-limit-count
+returns-then-limit-count c = λ l n. note_over _ _ _ _ _ c.before.requires.0 l n c.if-limit-count.true
 
 -- src/numbering.rt:19:8
-mul-if2 : tie.Need-overflow-mul-if2
-mul-if2 c = search rules
+offset_bounds-table-key : tie.Need-offset_bounds-table-key
+offset_bounds-table-key c = search rules
 
 -- src/numbering.rt:19:8
-element-copy-out-if2 : tie.Need-element-copy-out-if2
-element-copy-out-if2 c = search rules
+bounds-table-key : tie.Need-bounds-table-key
+bounds-table-key c = search rules
 
 -- src/numbering.rt:20:9
-returns-2 : tie.Need-returns-2
-returns-2 c = λ l n. note_old _ _ _ _ _ c.before.before.before.requires.0 l n c.before.before.if1.false c.if2.true
+returns-then-table-key-ne0 : tie.Need-returns-then-table-key-ne0
+returns-then-table-key-ne0 c = λ l n. note_old _ _ _ _ _ c.before.before.before.before.requires.0 l n c.before.before.before.if-limit-count.false c.if-table-key-ne0.true
 
 -- src/numbering.rt:23:16
-add-result : tie.Need-overflow-add-result
-add-result c = search rules
+overflow_add-result : tie.Need-overflow_add-result
+overflow_add-result c = search rules
 
 -- src/numbering.rt:23:9
-returns-3 : tie.Need-returns-3
-returns-3 c = λ l n. note_past _ _ _ _ _ c.before.before.before.before.requires.0 l n c.if3.true c.before.if2.false
+returns-then-limit-count-2 : tie.Need-returns-then-limit-count-2
+returns-then-limit-count-2 c = λ l n. note_past _ _ _ _ _ c.before.before.before.before.before.requires.0 l n c.if-limit-count-2.true c.before.if-table-key-ne0.false
 
 -- src/numbering.rt:25:19
-add-table : tie.Need-overflow-add-table
-add-table c = search rules
+overflow_add-table : tie.Need-overflow_add-table
+overflow_add-table c = search rules
 
 -- src/numbering.rt:25:18
-cast-table : tie.Need-overflow-cast-table
-cast-table c = search rules
+overflow_cast-table : tie.Need-overflow_cast-table
+overflow_cast-table c = search rules
 
 -- src/numbering.rt:25:5
-mul-table : tie.Need-overflow-mul-table
-mul-table c = search rules
+offset_bounds-table-key-2 : tie.Need-offset_bounds-table-key-2
+offset_bounds-table-key-2 c = search rules
 
 -- src/numbering.rt:25:5
-element-write-table : tie.Need-element-write-table
-element-write-table c = search rules
+bounds-table-key-2 : tie.Need-bounds-table-key-2
+bounds-table-key-2 c = search rules
 
 -- src/numbering.rt:26:19
-cast-keys : tie.Need-overflow-cast-keys
-cast-keys c = search rules
+overflow_cast-keys : tie.Need-overflow_cast-keys
+overflow_cast-keys c = search rules
 
 -- src/numbering.rt:26:5
-mul-keys : tie.Need-overflow-mul-keys
-mul-keys c = search rules
+offset_bounds-keys-count : tie.Need-offset_bounds-keys-count
+offset_bounds-keys-count c = search rules
 
 -- src/numbering.rt:26:5
-element-write-keys : tie.Need-element-write-keys
-element-write-keys c = search rules
+bounds-keys-count : tie.Need-bounds-keys-count
+bounds-keys-count c = search rules
 
 -- src/numbering.rt:27:5
-add-result-2 : tie.Need-overflow-add-result-2
-add-result-2 c = search rules
+overflow_add-result-2 : tie.Need-overflow_add-result-2
+overflow_add-result-2 c = search rules
 
 -- src/numbering.rt:12:1
-returns-4 : tie.Need-returns-4
-returns-4 c =
-    let a = c.before.before.before.before in
-    let few : a.args.count < a.args.limit = omega (arith, c.before.before.before.if1.false, c.if3.false) in
-    λ l n. note_new _ _ _ _ _ a.requires.0 l n few a.requires.1 c.before.if2.false
+returns : tie.Need-returns
+returns c =
+    let a = c.before.before.before.before.before.before in
+    let few : a.args.count < a.args.limit = omega (arith, c.before.before.before.before.before.if-limit-count.false, c.before.if-limit-count-2.false) in
+    λ l n. note_new _ _ _ _ _ a.requires.0 l n few a.requires.1 c.before.before.if-table-key-ne0.false
 
 pub note_spec : {M : Type 1} → statement M
 note_spec =
     tie.close
-    (tie.spec
-    returns
-    mul-if2
-    element-copy-out-if2
-    returns-2
-    add-result
-    returns-3
-    add-table
-    cast-table
-    mul-table
-    element-write-table
-    cast-keys
-    mul-keys
-    element-write-keys
-    add-result-2
-    returns-4)
+    (tie.spec returns-then-limit-count offset_bounds-table-key bounds-table-key returns-then-table-key-ne0 overflow_add-result returns-then-limit-count-2 overflow_add-table overflow_cast-table offset_bounds-table-key-2 bounds-table-key-2 overflow_cast-keys offset_bounds-keys-count bounds-keys-count overflow_add-result-2 returns)

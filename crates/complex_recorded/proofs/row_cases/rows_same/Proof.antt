@@ -14,68 +14,68 @@ use Rattle.complex_recorded.proofs.row_cases.rows_same.Tie as tie
 field-requires : tie.Need-field-requires
 field-requires c κs = search rules
 
-slice-aggregate-u32s : tie.Need-slice-aggregate-u32s
-slice-aggregate-u32s c = search rules
+slice_bounds-u32s-end : tie.Need-slice_bounds-u32s-end
+slice_bounds-u32s-end c = search rules
 
-u32s-requires : tie.Need-u32s-requires
-u32s-requires c κs = search rules
+u32s-n_starts-requires : tie.Need-u32s-n_starts-requires
+u32s-n_starts-requires c κs = search rules
 
 field-requires-2 : tie.Need-field-requires-2
 field-requires-2 c κs = search rules
 
-slice-aggregate-u32s-2 : tie.Need-slice-aggregate-u32s-2
-slice-aggregate-u32s-2 c = search rules
+slice_bounds-u32s-end-2 : tie.Need-slice_bounds-u32s-end-2
+slice_bounds-u32s-end-2 c = search rules
 
-u32s-requires-2 : tie.Need-u32s-requires-2
-u32s-requires-2 c κs = search rules
+u32s-n_columns-requires : tie.Need-u32s-n_columns-requires
+u32s-n_columns-requires c κs = search rules
 
 field-requires-3 : tie.Need-field-requires-3
 field-requires-3 c κs = search rules
 
-slice-aggregate-floats : tie.Need-slice-aggregate-floats
-slice-aggregate-floats c = search rules
+slice_bounds-floats-end : tie.Need-slice_bounds-floats-end
+slice_bounds-floats-end c = search rules
 
-floats-requires : tie.Need-floats-requires
-floats-requires c κs = search rules
+floats-n_values-requires : tie.Need-floats-n_values-requires
+floats-n_values-requires c κs = search rules
 
 field-requires-4 : tie.Need-field-requires-4
 field-requires-4 c κs = search rules
 
-slice-aggregate-floats-2 : tie.Need-slice-aggregate-floats-2
-slice-aggregate-floats-2 c = search rules
+slice_bounds-floats-end-2 : tie.Need-slice_bounds-floats-end-2
+slice_bounds-floats-end-2 c = search rules
 
-floats-requires-2 : tie.Need-floats-requires-2
-floats-requires-2 c κs = search rules
+floats-n_vector-requires : tie.Need-floats-n_vector-requires
+floats-n_vector-requires c κs = search rules
 
-told-requires : tie.Need-told-requires
-told-requires c κs = search rules
+told-told-requires : tie.Need-told-told-requires
+told-told-requires c κs = search rules
 
-field-requires-5 : tie.Need-field-requires-5
-field-requires-5 c κs = search rules
+field-product-requires : tie.Need-field-product-requires
+field-product-requires c κs = search rules
 
-array-share-prefix-starts : tie.Need-array-share-prefix-starts
-array-share-prefix-starts c = search rules
+slice_bounds-starts-end : tie.Need-slice_bounds-starts-end
+slice_bounds-starts-end c = search rules
 
-slice-aggregate-matvec-same : tie.Need-slice-aggregate-matvec-same
-slice-aggregate-matvec-same c = sym (length-take-le _ _ (array-share-prefix-starts c.before))
+slice_bounds-matvec_same-end : tie.Need-slice_bounds-matvec_same-end
+slice_bounds-matvec_same-end c = sym (length-take-le _ _ (slice_bounds-starts-end c.before))
 
-array-share-prefix-columns : tie.Need-array-share-prefix-columns
-array-share-prefix-columns c = search rules
+slice_bounds-columns-end : tie.Need-slice_bounds-columns-end
+slice_bounds-columns-end c = search rules
 
-slice-aggregate-matvec-same-2 : tie.Need-slice-aggregate-matvec-same-2
-slice-aggregate-matvec-same-2 c = sym (length-take-le _ _ (array-share-prefix-columns c.before))
+slice_bounds-matvec_same-end-2 : tie.Need-slice_bounds-matvec_same-end-2
+slice_bounds-matvec_same-end-2 c = sym (length-take-le _ _ (slice_bounds-columns-end c.before))
 
-array-share-prefix-values : tie.Need-array-share-prefix-values
-array-share-prefix-values c = search rules
+slice_bounds-values-end : tie.Need-slice_bounds-values-end
+slice_bounds-values-end c = search rules
 
-slice-aggregate-matvec-same-3 : tie.Need-slice-aggregate-matvec-same-3
-slice-aggregate-matvec-same-3 c = sym (length-take-le _ _ (array-share-prefix-values c.before))
+slice_bounds-matvec_same-end-3 : tie.Need-slice_bounds-matvec_same-end-3
+slice_bounds-matvec_same-end-3 c = sym (length-take-le _ _ (slice_bounds-values-end c.before))
 
-array-share-prefix-vector : tie.Need-array-share-prefix-vector
-array-share-prefix-vector c = search rules
+slice_bounds-vector-end : tie.Need-slice_bounds-vector-end
+slice_bounds-vector-end c = search rules
 
-slice-aggregate-matvec-same-4 : tie.Need-slice-aggregate-matvec-same-4
-slice-aggregate-matvec-same-4 c = sym (length-take-le _ _ (array-share-prefix-vector c.before))
+slice_bounds-matvec_same-end-4 : tie.Need-slice_bounds-matvec_same-end-4
+slice_bounds-matvec_same-end-4 c = sym (length-take-le _ _ (slice_bounds-vector-end c.before))
 
 matvec_same-requires : tie.Need-matvec_same-requires
 matvec_same-requires c κs = search rules
@@ -93,38 +93,14 @@ returns c =
     let columns = second.before.before in
     let first = columns.before.before in
     let starts = first.before.before in
-    let all_starts = all_read 4 (λ n. n) first.u32s.ensures starts.field.ensures.0 (omega (arith, starts.field.ensures.1)) in
-    let all_columns = all_read 4 (λ n. n) second.u32s2.ensures columns.field2.ensures.0 (omega (arith, columns.field2.ensures.1)) in
-    let all_values = all_read 8 float_of third.floats.ensures values.field3.ensures.0 (omega (arith, values.field3.ensures.1)) in
-    let all_vector = all_read 8 float_of fourth.floats2.ensures vector.field4.ensures.0 (omega (arith, vector.field4.ensures.1)) in
-    let told = back64 _ number.told.type-inv ∙ number.told.ensures in
-    c.matvec_same.ensures ∙ (λ i. matvec_agrees (all_starts i) (all_columns i) (all_values i) (all_vector i) (told i) (product.field5.ensures.0 i))
+    let all_starts = all_read 4 (λ n. n) first.u32s-n_starts.ensures starts.field.ensures.0 (omega (arith, starts.field.ensures.1)) in
+    let all_columns = all_read 4 (λ n. n) second.u32s-n_columns.ensures columns.field-2.ensures.0 (omega (arith, columns.field-2.ensures.1)) in
+    let all_values = all_read 8 float_of third.floats-n_values.ensures values.field-3.ensures.0 (omega (arith, values.field-3.ensures.1)) in
+    let all_vector = all_read 8 float_of fourth.floats-n_vector.ensures vector.field-4.ensures.0 (omega (arith, vector.field-4.ensures.1)) in
+    let told = back64 _ number.told-told.type_inv ∙ number.told-told.ensures in
+    c.matvec_same.ensures ∙ (λ i. matvec_agrees (all_starts i) (all_columns i) (all_values i) (all_vector i) (told i) (product.field-product.ensures.0 i))
 
 pub rows_same_spec : {M : Type 1} → statement M
 rows_same_spec =
     tie.close
-    (tie.spec
-    field-requires
-    slice-aggregate-u32s
-    u32s-requires
-    field-requires-2
-    slice-aggregate-u32s-2
-    u32s-requires-2
-    field-requires-3
-    slice-aggregate-floats
-    floats-requires
-    field-requires-4
-    slice-aggregate-floats-2
-    floats-requires-2
-    told-requires
-    field-requires-5
-    array-share-prefix-starts
-    slice-aggregate-matvec-same
-    array-share-prefix-columns
-    slice-aggregate-matvec-same-2
-    array-share-prefix-values
-    slice-aggregate-matvec-same-3
-    array-share-prefix-vector
-    slice-aggregate-matvec-same-4
-    matvec_same-requires
-    returns)
+    (tie.spec field-requires slice_bounds-u32s-end u32s-n_starts-requires field-requires-2 slice_bounds-u32s-end-2 u32s-n_columns-requires field-requires-3 slice_bounds-floats-end floats-n_values-requires field-requires-4 slice_bounds-floats-end-2 floats-n_vector-requires told-told-requires field-product-requires slice_bounds-starts-end slice_bounds-matvec_same-end slice_bounds-columns-end slice_bounds-matvec_same-end-2 slice_bounds-values-end slice_bounds-matvec_same-end-3 slice_bounds-vector-end slice_bounds-matvec_same-end-4 matvec_same-requires returns)

@@ -45,11 +45,11 @@ is : (c : Numbers) → WalkOf (the_complex c) (start c).args.s.lambda (start c).
 is c =
     walk_made (the_complex c) (start c).args.list.now (start c).args.s (start c).args.free.now (basis c) (start c).requires.2 (start c).args.p (weight (start c).args.given (start c).args.weights.now) (start c).args.starts.now c.write_numbers.new.1.1.1.0 c.write_numbers.ensures _ _ _ _ (triangles c) c.before.before.before.before.write_moves.ensures
 
-slice-aggregate-write-moves : tie.Need-slice-aggregate-write-moves
-slice-aggregate-write-moves c = search rules
+slice_bounds-write_moves-end : tie.Need-slice_bounds-write_moves-end
+slice_bounds-write_moves-end c = search rules
 
-slice-aggregate-write-moves-2 : tie.Need-slice-aggregate-write-moves-2
-slice-aggregate-write-moves-2 c = search rules
+slice_bounds-write_moves-end-2 : tie.Need-slice_bounds-write_moves-end-2
+slice_bounds-write_moves-end-2 c = search rules
 
 write_moves-requires : tie.Need-write_moves-requires
 write_moves-requires c κs =
@@ -66,8 +66,8 @@ write_numbers-requires c κs =
     let s = c.before.before.before.before.before.before.before.before.before.before in
     (small_rows _ _ _ _ s.requires.0, numbered _ _ _ _ s.requires.0 s.requires.2, omega (arith, s.requires.4))
 
-mul-write-rows : tie.Need-overflow-mul-write-rows
-mul-write-rows c =
+overflow_mul-c : tie.Need-overflow_mul-c
+overflow_mul-c c =
     let made = c.before.before.before.before.before in
     let h = (basis made).accepted.few_triangles in
     let e = triangles made in
@@ -89,14 +89,14 @@ write_starts-requires c κs =
     let walked = c.before.before.before.before.before.before.before.write_rows.ensures.2 in
     (omega (arith, walked.long, made.write_numbers.ensures.long, s.pre.4), starts_fit (is made) s.args.s.states (basis made).count _ _ _ _ _ _ _ _ walked (few made))
 
-same_length : tie.Need-same-length
-same_length c = search rules
+shape_of-starts : tie.Need-shape_of-starts
+shape_of-starts c = search rules
 
-same-length-2 : tie.Need-same-length-2
-same-length-2 c = search rules
+shape_of-columns : tie.Need-shape_of-columns
+shape_of-columns c = search rules
 
-same-length-3 : tie.Need-same-length-3
-same-length-3 c = search rules
+shape_of-values : tie.Need-shape_of-values
+shape_of-values c = search rules
 
 returns : tie.Need-returns
 returns c =
@@ -107,15 +107,4 @@ returns c =
 pub write_lists_spec : {M : Type 1} → statement M
 write_lists_spec =
     tie.close
-    (tie.spec
-    slice-aggregate-write-moves
-    slice-aggregate-write-moves-2
-    write_moves-requires
-    write_numbers-requires
-    mul-write-rows
-    write_rows-requires
-    write_starts-requires
-    same_length
-    same-length-2
-    same-length-3
-    returns)
+    (tie.spec slice_bounds-write_moves-end slice_bounds-write_moves-end-2 write_moves-requires write_numbers-requires overflow_mul-c write_rows-requires write_starts-requires shape_of-starts shape_of-columns shape_of-values returns)

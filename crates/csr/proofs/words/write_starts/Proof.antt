@@ -8,94 +8,79 @@ use borrow.Author.Rules.{rules}
 use Rattle.csr.proofs.words.write_starts.Statement.{statement}
 use Rattle.csr.proofs.words.write_starts.Tie as tie
 
-abbrev invariant-loop : tie.invariant-loop
-invariant-loop words₀ n at₀ i₀ words at i = (i ≤ n) × (at ≡ begins (upper words₀) i) × FirstWords (begins (upper words₀)) i words₀ words
+abbrev invariant-loop-i : tie.invariant-loop-i
+invariant-loop-i words₀ n at₀ i₀ words at i = (i ≤ n) × (at ≡ begins (upper words₀) i) × FirstWords (begins (upper words₀)) i words₀ words
 
-abbrev decreases-loop : tie.decreases-loop
-decreases-loop words₀ n at₀ i₀ words at i = n - i
+abbrev decreases-loop-i : tie.decreases-loop-i
+decreases-loop-i words₀ n at₀ i₀ words at i = n - i
 
 abbrev Turn : Type 0
-Turn = tie.After-slice-known invariant-loop decreases-loop
+Turn = tie.After-slice_known-1 invariant-loop-i decreases-loop-i
 
-inside : (c : Turn) → c.before.before.loop.i < length c.before.before.loop.words
-inside c = omega (arith, c.before.before.loop.invariant.2.long, c.before.before.before.requires.0, c.before.loop-test.true)
+inside : (c : Turn) → c.before.before.loop-i.i < length c.before.before.loop-i.words
+inside c = omega (arith, c.before.before.loop-i.invariant.2.long, c.before.before.before.requires.0, c.before.loop-i-test.true)
 
 -- the length that is read
-count_is : (c : Turn) → get_or c.before.before.loop.words c.before.before.loop.i 0 / 1048576 ≡ upper c.before.before.before.args.words.now c.before.before.loop.i
-count_is c = ap (λ x. x / 1048576) (c.before.before.loop.invariant.2.rest c.before.before.loop.i (omega arith))
+count_is : (c : Turn) → get_or c.before.before.loop-i.words c.before.before.loop-i.i 0 / 1048576 ≡ upper c.before.before.before.args.words.now c.before.before.loop-i.i
+count_is c = ap (λ x. x / 1048576) (c.before.before.loop-i.invariant.2.rest c.before.before.loop-i.i (omega arith))
 
-loop-holds : tie.Need-loop-init invariant-loop decreases-loop
+loop-i-init : tie.Need-loop-i-init invariant-loop-i decreases-loop-i
 unfolding begins
-loop-holds c = (omega arith, refl, none_first _ _)
+loop-i-init c = (omega arith, refl, none_first _ _)
 
-mul-count : tie.Need-overflow-mul-count invariant-loop decreases-loop
-mul-count c = search rules
+offset_bounds-words-i : tie.Need-offset_bounds-words-i invariant-loop-i decreases-loop-i
+offset_bounds-words-i c = search rules
 
-slice-read-count : tie.Need-slice-read-count invariant-loop decreases-loop
-slice-read-count c = inside c
+bounds-words-i : tie.Need-bounds-words-i invariant-loop-i decreases-loop-i
+bounds-words-i c = inside c
 
-mul_words : tie.Need-overflow-mul-words invariant-loop decreases-loop
-mul_words c = search rules
+offset_bounds-words-i-in-loop-i : tie.Need-offset_bounds-words-i-in-loop-i invariant-loop-i decreases-loop-i
+offset_bounds-words-i-in-loop-i c = search rules
 
-slice-write-words : tie.Need-slice-write-words invariant-loop decreases-loop
-slice-write-words c = inside c
+bounds-words-i-in-loop-i : tie.Need-bounds-words-i-in-loop-i invariant-loop-i decreases-loop-i
+bounds-words-i-in-loop-i c = inside c
 
-add_at : tie.Need-overflow-add-at invariant-loop decreases-loop
-add_at c =
+overflow_add-at : tie.Need-overflow_add-at invariant-loop-i decreases-loop-i
+overflow_add-at c =
     let at_loop = c.before.before in
     let s = at_loop.before in
     let few = s.requires.1 in
-    let rise = begins_rise (upper s.args.words.now) (at_loop.loop.i + 1) s.args.n (omega (arith, c.before.loop-test.true)) in
-    let next = begins_next (upper s.args.words.now) at_loop.loop.i in
+    let rise = begins_rise (upper s.args.words.now) (at_loop.loop-i.i + 1) s.args.n (omega (arith, c.before.loop-i-test.true)) in
+    let next = begins_next (upper s.args.words.now) at_loop.loop-i.i in
     let told = count_is c in
-    let start = at_loop.loop.invariant.1 in
+    let start = at_loop.loop-i.invariant.1 in
     record { fits = omega arith }
 
-add-i : tie.Need-overflow-add-i invariant-loop decreases-loop
-add-i c = search rules
+overflow_step-i : tie.Need-overflow_step-i invariant-loop-i decreases-loop-i
+overflow_step-i c = search rules
 
-loop-less : tie.Need-loop-smaller invariant-loop decreases-loop
-loop-less c = search rules
+loop-i-smaller : tie.Need-loop-i-smaller invariant-loop-i decreases-loop-i
+loop-i-smaller c = search rules
 
-loop-again : tie.Need-loop-preserved invariant-loop decreases-loop
-loop-again c =
+loop-i-preserved : tie.Need-loop-i-preserved invariant-loop-i decreases-loop-i
+loop-i-preserved c =
     let at_loop = c.before.before in
     let s = at_loop.before in (
       omega arith,
-      omega (arith, count_is c, at_loop.loop.invariant.1, begins_next (upper s.args.words.now) at_loop.loop.i),
-      first_next _ _ _ _ _ at_loop.loop.invariant.2 (omega (arith, s.requires.0, c.before.loop-test.true)) at_loop.loop.invariant.1,
+      omega (arith, count_is c, at_loop.loop-i.invariant.1, begins_next (upper s.args.words.now) at_loop.loop-i.i),
+      first_next _ _ _ _ _ at_loop.loop-i.invariant.2 (omega (arith, s.requires.0, c.before.loop-i-test.true)) at_loop.loop-i.invariant.1,
     )
 
-mul-words-2 : tie.Need-overflow-mul-words-2 invariant-loop decreases-loop
-mul-words-2 c = search rules
+offset_bounds-words-n : tie.Need-offset_bounds-words-n invariant-loop-i decreases-loop-i
+offset_bounds-words-n c = search rules
 
-slice-write-words-2 : tie.Need-slice-write-words-2 invariant-loop decreases-loop
-slice-write-words-2 c = omega (arith, c.before.loop.invariant.2.long, c.before.before.requires.0)
+bounds-words-n : tie.Need-bounds-words-n invariant-loop-i decreases-loop-i
+bounds-words-n c = omega (arith, c.before.loop-i.invariant.2.long, c.before.before.requires.0)
 
-same_length : tie.Need-same-length invariant-loop decreases-loop
-same_length c = length-set c.before.loop.words _ _ ∙ c.before.loop.invariant.2.long
+shape_of-words : tie.Need-shape_of-words invariant-loop-i decreases-loop-i
+shape_of-words c = length-set c.before.loop-i.words _ _ ∙ c.before.loop-i.invariant.2.long
 
-returns : tie.Need-returns invariant-loop decreases-loop
+returns : tie.Need-returns invariant-loop-i decreases-loop-i
 returns c =
-    let past : c.before.loop.i ≡ c.before.before.args.n = omega arith in
-    first_next _ _ _ _ _ (rw past at c.before.loop.invariant.2) c.before.before.requires.0 (rw past at c.before.loop.invariant.1)
+    let past : c.before.loop-i.i ≡ c.before.before.args.n = omega arith in
+    first_next _ _ _ _ _ (rw past at c.before.loop-i.invariant.2) c.before.before.requires.0 (rw past at c.before.loop-i.invariant.1)
 
 pub write_starts_spec : {M : Type 1} → statement M
 write_starts_spec =
     tie.close
-    (tie.spec
-    invariant-loop
-    decreases-loop
-    loop-holds
-    mul-count
-    slice-read-count
-    mul_words
-    slice-write-words
-    add_at
-    add-i
-    loop-less
-    loop-again
-    mul-words-2
-    slice-write-words-2
-    same_length
-    returns)
+    (tie.spec invariant-loop-i decreases-loop-i loop-i-init offset_bounds-words-i bounds-words-i offset_bounds-words-i-in-loop-i bounds-words-i-in-loop-i overflow_add-at overflow_step-i loop-i-smaller loop-i-preserved offset_bounds-words-n bounds-words-n shape_of-words returns)

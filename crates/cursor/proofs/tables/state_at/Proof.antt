@@ -8,14 +8,14 @@ use borrow.Author.Rules.{rules}
 use Rattle.cursor.proofs.tables.state_at.Statement.{statement}
 use Rattle.cursor.proofs.tables.state_at.Tie as tie
 
-sub-config : tie.Need-overflow-sub-config
-sub-config c = search rules
+slice_bounds-config-count : tie.Need-slice_bounds-config-count
+slice_bounds-config-count c = search rules
 
-part-space-start : tie.Need-slice-bounds-space-start
-part-space-start c = search rules
+slice_bounds-space-start : tie.Need-slice_bounds-space-start
+slice_bounds-space-start c = search rules
 
-part-space-end : tie.Need-slice-bounds-space-end
-part-space-end c = search rules
+slice_bounds-space-end : tie.Need-slice_bounds-space-end
+slice_bounds-space-end c = search rules
 
 find_state-requires : tie.Need-find_state-requires
 unfolding states_of
@@ -30,8 +30,8 @@ returns c =
     let w = s.args.t1 in
     let found = c.before.find_state in
     let long = found.auto.0 ∙ ap length (begin_part w) ∙ s.requires.0.sized in
-    (anew_long found.new.0 w.first w.n_edges long s.requires.0.edges s.requires.0.space, take_at found.new.0 _ w.n_edges long ∙ (rw (begin_part w, s.requires.0.sized) at found.ensures))
+    (anew_long found.new.0 w.first w.n_edges long s.requires.0.edges s.requires.0.space-1, take_at found.new.0 _ w.n_edges long ∙ (rw (begin_part w, s.requires.0.sized) at found.ensures))
 
 pub state_at_spec : {M : Type 1} → statement M
 state_at_spec =
-    tie.close (tie.spec sub-config part-space-start part-space-end find_state-requires returns)
+    tie.close (tie.spec slice_bounds-config-count slice_bounds-space-start slice_bounds-space-end find_state-requires returns)

@@ -4,14 +4,14 @@ use borrow.Author.Rules.{rules}
 use Rattle.entries.proofs.count.count_rows.Statement.{statement}
 use Rattle.entries.proofs.count.count_rows.Tie as tie
 
-sub-config : tie.Need-overflow-sub-config
-sub-config c = search rules
+slice_bounds-config-count : tie.Need-slice_bounds-config-count
+slice_bounds-config-count c = search rules
 
-part-space-start : tie.Need-slice-bounds-space-start
-part-space-start c = search rules
+slice_bounds-space-start : tie.Need-slice_bounds-space-start
+slice_bounds-space-start c = search rules
 
-part-space-end : tie.Need-slice-bounds-space-end
-part-space-end c = search rules
+slice_bounds-space-end : tie.Need-slice_bounds-space-end
+slice_bounds-space-end c = search rules
 
 count_walked-requires : tie.Need-count_walked-requires
 unfolding states_of
@@ -27,4 +27,4 @@ returns c =
 
 pub count_rows_spec : {M : Type 1} → statement M
 count_rows_spec =
-    tie.close (tie.spec sub-config part-space-start part-space-end count_walked-requires returns)
+    tie.close (tie.spec slice_bounds-config-count slice_bounds-space-start slice_bounds-space-end count_walked-requires returns)

@@ -18,179 +18,161 @@ use borrow.Author.Rules.{rules}
 use Rattle.entries.proofs.count.count_walked.Statement.{statement}
 use Rattle.entries.proofs.count.count_walked.Tie as tie
 
-abbrev invariant-loop : tie.invariant-loop
-invariant-loop config₀ free n_free cycles lambda blocks all n m state₀ total₀ here₀ config state total here =
+abbrev invariant-loop-here : tie.invariant-loop-here
+invariant-loop-here config₀ free n_free cycles lambda blocks all n m state₀ total₀ here₀ config state total here =
     (length config ≡ length config₀) × (length state ≡ length config₀) × Standing free cycles lambda n_free config here × CursorAt free cycles lambda n_free (states_from free cycles lambda n_free config₀ here₀) config here
     × (total ≡ over_states (row_entries lambda all n) (take here.number (states_from free cycles lambda n_free config₀ here₀))) × (total ≤ 513 * here.number)
 
-abbrev decreases-loop : tie.decreases-loop
-decreases-loop config₀ free n_free cycles lambda blocks all n m state₀ total₀ here₀ config state total here =
+abbrev decreases-loop-here : tie.decreases-loop-here
+decreases-loop-here config₀ free n_free cycles lambda blocks all n m state₀ total₀ here₀ config state total here =
     length (states_from free cycles lambda n_free config here)
 
 abbrev Loop : Type 0
-Loop = tie.At-loop invariant-loop decreases-loop
+Loop = tie.At-loop-here invariant-loop-here decreases-loop-here
 
-abbrev start : Loop → tie.Start invariant-loop decreases-loop
+abbrev start : Loop → tie.Start invariant-loop-here decreases-loop-here
 start c = c.before.before.before.before.before
 
 -- all states
 abbrev whole : Loop → List (List ℤ)
 whole c =
     let s = (start c).args in
-    let first = c.before.before.first_state in
+    let first = c.before.before.first_state-here in
     states_from s.free.now s.cycles.now s.lambda s.n_free first.new.0 first.result
 
 abbrev listed : Loop → List (List ℤ)
 listed c =
     let s = (start c).args in
-    walked_states s.free.now (row (length s.config.now) s.cycles.now) s.lambda s.n_free s.config.now s.blocks
+    walked_states s.free.now (row (length s.config-1.now) s.cycles.now) s.lambda s.n_free s.config-1.now s.blocks
 
 whole_is : (c : Loop) → whole c ≡ listed c
-whole_is c = c.before.before.first_state.ensures.states
+whole_is c = c.before.before.first_state-here.ensures.states
 
 -- the cursor's state is that with its number
-here_is : (c : Loop) → 0 < c.loop.here.left → (c.loop.here.number < length (whole c)) × (state_here (start c).args.cycles.now c.loop.config c.loop.here ≡ get_or (whole c) c.loop.here.number [])
+here_is : (c : Loop) → 0 < c.loop-here.here.left → (c.loop-here.here.number < length (whole c)) × (state_here (start c).args.cycles.now c.loop-here.config c.loop-here.here ≡ get_or (whole c) c.loop-here.here.number [])
 here_is c some =
     let s = (start c).args in
-    at_state s.free.now s.cycles.now s.lambda s.n_free (whole c) c.loop.config c.loop.here c.loop.invariant.3 c.loop.invariant.2 some
+    at_state s.free.now s.cycles.now s.lambda s.n_free (whole c) c.loop-here.config c.loop-here.here c.loop-here.invariant.3 c.loop-here.invariant.2 some
 
-sub-state : tie.Need-overflow-sub-state invariant-loop decreases-loop
-sub-state c = search rules
+slice_bounds-state-count : tie.Need-slice_bounds-state-count invariant-loop-here decreases-loop-here
+slice_bounds-state-count c = search rules
 
-part-space-start : tie.Need-slice-bounds-space-start invariant-loop decreases-loop
-part-space-start c = search rules
+slice_bounds-space-start : tie.Need-slice_bounds-space-start invariant-loop-here decreases-loop-here
+slice_bounds-space-start c = search rules
 
-part-space-end : tie.Need-slice-bounds-space-end invariant-loop decreases-loop
-part-space-end c = search rules
+slice_bounds-space-end : tie.Need-slice_bounds-space-end invariant-loop-here decreases-loop-here
+slice_bounds-space-end c = search rules
 
-first_state-requires : tie.Need-first_state-requires invariant-loop decreases-loop
-first_state-requires c κs =
+first_state-here-requires : tie.Need-first_state-here-requires invariant-loop-here decreases-loop-here
+first_state-here-requires c κs =
     let s = c.before.before in
     let a = s.args in
-    (s.requires.0, few_states a.free.now a.cycles.now a.lambda a.n_free a.config.now a.blocks s.requires.0)
+    (s.requires.0, few_states a.free.now a.cycles.now a.lambda a.n_free a.config-1.now a.blocks s.requires.0)
 
-loop-holds : tie.Need-loop-init invariant-loop decreases-loop
-loop-holds c =
+loop-here-init : tie.Need-loop-here-init invariant-loop-here decreases-loop-here
+loop-here-init c =
     let s = c.before.before.before.before in
     let a = s.args in
-    let first = c.before.first_state in
+    let first = c.before.first_state-here in
     let few = s.requires.0.cycles_fit.edges_few in
-    let inside : length a.config.now - 0 ≤ 63 = omega arith in
+    let inside : length a.config-1.now - 0 ≤ 63 = omega arith in
     let all = states_from a.free.now a.cycles.now a.lambda a.n_free first.new.0 first.result in (
       refl,
-      length-take-le _ _ inside ∙ sub-zero (length a.config.now) ∙ sym first.auto.0,
+      length-take-le _ _ inside ∙ sub-zero (length a.config-1.now) ∙ sym first.auto.0,
       first.ensures.standing,
       at_first a.free.now a.cycles.now a.lambda a.n_free _ first.new.0 first.result refl first.ensures.numbered,
       over_none _ ∙ ap (λ k. over_states (row_entries a.lambda a.all.now a.n) (take k all)) (sym first.ensures.numbered),
       omega arith,
     )
 
-sub-fill-row : tie.Need-overflow-sub-fill-row invariant-loop decreases-loop
-sub-fill-row c = search rules
+slice_bounds-fill_row-count : tie.Need-slice_bounds-fill_row-count invariant-loop-here decreases-loop-here
+slice_bounds-fill_row-count c = search rules
 
-part-fill-row-start : tie.Need-slice-bounds-fill-row-start invariant-loop decreases-loop
-part-fill-row-start c = search rules
+slice_bounds-fill_row-start : tie.Need-slice_bounds-fill_row-start invariant-loop-here decreases-loop-here
+slice_bounds-fill_row-start c = search rules
 
-part-fill-row-end : tie.Need-slice-bounds-fill-row-end invariant-loop decreases-loop
-part-fill-row-end c = search rules
+slice_bounds-fill_row-end : tie.Need-slice_bounds-fill_row-end invariant-loop-here decreases-loop-here
+slice_bounds-fill_row-end c = search rules
 
-fill_row-requires : tie.Need-fill_row-requires invariant-loop decreases-loop
+fill_row-requires : tie.Need-fill_row-requires invariant-loop-here decreases-loop-here
 fill_row-requires c κs =
     let at_loop = c.before.before.before.before.before in
     let s = (start at_loop).args in
-    let standing = at_loop.loop.invariant.2 in
+    let standing = at_loop.loop-here.invariant.2 in
     let few = standing.few in
-    let more : 0 < at_loop.loop.here.left = omega arith in
+    let more : 0 < at_loop.loop-here.here.left = omega arith in
     let low = standing.some more in
-    (row_ready s.free.now s.cycles.now s.lambda s.n_free at_loop.loop.config _ standing.walkable more, omega arith, at_loop.loop.invariant.1 ∙ sym at_loop.loop.invariant.0)
+    (row_ready s.free.now s.cycles.now s.lambda s.n_free at_loop.loop-here.config _ standing.walkable more, omega arith, at_loop.loop-here.invariant.1 ∙ sym at_loop.loop-here.invariant.0)
 
 abbrev Row : Type 0
-Row = tie.After-fill_row invariant-loop decreases-loop
+Row = tie.After-fill_row invariant-loop-here decreases-loop-here
 
 abbrev loop_of : Row → Loop
 loop_of c = c.before.before.before.before.before.before
 
-more : (c : Row) → 0 < (loop_of c).loop.here.left
+more : (c : Row) → 0 < (loop_of c).loop-here.here.left
 more c = omega arith
 
-row_here : (c : Row) → c.fill_row.new.0 ≡ get_or (whole (loop_of c)) (loop_of c).loop.here.number []
+row_here : (c : Row) → c.fill_row.new.0 ≡ get_or (whole (loop_of c)) (loop_of c).loop-here.here.number []
 row_here c =
     let at_loop = loop_of c in
     let s = (start at_loop).args in
-    c.fill_row.ensures ∙ row_is s.free.now s.cycles.now s.lambda s.n_free at_loop.loop.config _ at_loop.loop.inv.2.walkable (more c) at_loop.loop.here.d ∙ (here_is at_loop (more c)).1
+    c.fill_row.ensures ∙ row_is s.free.now s.cycles.now s.lambda s.n_free at_loop.loop-here.config _ at_loop.loop-here.inv.2.walkable (more c) at_loop.loop-here.here.d ∙ (here_is at_loop (more c)).1
 
 row_countable : (c : Row) → Countable (start (loop_of c)).args.lambda c.fill_row.new.0 (start (loop_of c)).args.all.now (start (loop_of c)).args.n
 row_countable c =
     let at_loop = loop_of c in
-    let number = at_loop.loop.here.number in
+    let number = at_loop.loop-here.here.number in
     let there : number < length (listed at_loop) = omega (arith, (here_is at_loop (more c)).0, ap length (whole_is at_loop)) in
     same_countable _ _ _ _ _ (row_here c ∙ ap (λ l. get_or l number []) (whole_is at_loop)) ((start at_loop).pre.1.each number there)
 
-count_row-requires : tie.Need-count_row-requires invariant-loop decreases-loop
-count_row-requires c κs = row_countable c.before.before
+count_row-total-requires : tie.Need-count_row-total-requires invariant-loop-here decreases-loop-here
+count_row-total-requires c κs = row_countable c.before.before
 
-add_total : tie.Need-overflow-add-total invariant-loop decreases-loop
-add_total c =
+overflow_add-total : tie.Need-overflow_add-total invariant-loop-here decreases-loop-here
+overflow_add-total c =
     let filled = c.before.before.before in
     let at_loop = loop_of filled in
     let below = (here_is at_loop (more filled)).0 in
     let few = (start at_loop).pre.1.few in
-    let bound : at_loop.loop.total + c.count_row.result ≤ 600000000 = omega (arith, below, few, ap length (whole_is at_loop), at_loop.loop.inv.5, c.count_row.ensures.1) in
+    let bound : at_loop.loop-here.total + c.count_row-total.result ≤ 600000000 = omega (arith, below, few, ap length (whole_is at_loop), at_loop.loop-here.inv.5, c.count_row-total.ensures.1) in
     search rules
 
-next_state-requires : tie.Need-next_state-requires invariant-loop decreases-loop
-next_state-requires c κs = search rules
+next_state-here-requires : tie.Need-next_state-here-requires invariant-loop-here decreases-loop-here
+next_state-here-requires c κs = search rules
 
-loop-less : tie.Need-loop-smaller invariant-loop decreases-loop
-loop-less c = omega (arith, ap length c.before.next_state.ensures.states)
+loop-here-smaller : tie.Need-loop-here-smaller invariant-loop-here decreases-loop-here
+loop-here-smaller c = omega (arith, ap length c.before.next_state-here.ensures.states)
 
-loop-again : tie.Need-loop-preserved invariant-loop decreases-loop
-loop-again c =
-    let next = c.before.next_state in
-    let counted = c.before.before.before.count_row in
+loop-here-preserved : tie.Need-loop-here-preserved invariant-loop-here decreases-loop-here
+loop-here-preserved c =
+    let next = c.before.next_state-here in
+    let counted = c.before.before.before.count_row-total in
     let filled = c.before.before.before.before.before.before in
     let at_loop = loop_of filled in
     let a = (start at_loop).args in
     let f = row_entries a.lambda a.all.now a.n in
-    let number = at_loop.loop.here.number in (
-      next.auto.1.0 ∙ at_loop.loop.inv.0,
-      filled.fill_row.auto.0 ∙ at_loop.loop.inv.1,
+    let number = at_loop.loop-here.here.number in (
+      next.auto.1.0 ∙ at_loop.loop-here.inv.0,
+      filled.fill_row.auto.0 ∙ at_loop.loop-here.inv.1,
       next.ensures.standing,
-      next.ensures.at _ at_loop.loop.inv.3,
-      ap₂ (λ a b. a + b) at_loop.loop.inv.4 (counted.ensures.0 ∙ ap f (row_here filled)) ∙ sym (over_next f (whole at_loop) number (here_is at_loop (more filled)).0)
+      next.ensures.at _ at_loop.loop-here.inv.3,
+      ap₂ (λ a b. a + b) at_loop.loop-here.inv.4 (counted.ensures.0 ∙ ap f (row_here filled)) ∙ sym (over_next f (whole at_loop) number (here_is at_loop (more filled)).0)
           ∙ ap (λ k. over_states f (take k (whole at_loop))) (sym next.ensures.numbered),
-      omega (arith, at_loop.loop.inv.5, counted.ensures.1, next.ensures.numbered),
+      omega (arith, at_loop.loop-here.inv.5, counted.ensures.1, next.ensures.numbered),
     )
 
-same_length : tie.Need-same-length invariant-loop decreases-loop
-same_length c = search rules
+shape_of-config : tie.Need-shape_of-config invariant-loop-here decreases-loop-here
+shape_of-config c = search rules
 
-returns : tie.Need-returns invariant-loop decreases-loop
+returns : tie.Need-returns invariant-loop-here decreases-loop-here
 returns c =
     let at_loop = c.before.before.before in
     let a = (start at_loop).args in
-    let end : at_loop.loop.here.number ≡ length (whole at_loop) = at_end a.free.now a.cycles.now a.lambda a.n_free (whole at_loop) at_loop.loop.config at_loop.loop.here at_loop.loop.invariant.3 (omega arith) in
-    at_loop.loop.invariant.4 ∙ ap (over_states (row_entries a.lambda a.all.now a.n)) (take_all at_loop.loop.here.number (whole at_loop) (omega (arith, end)) ∙ whole_is at_loop)
+    let end : at_loop.loop-here.here.number ≡ length (whole at_loop) = at_end a.free.now a.cycles.now a.lambda a.n_free (whole at_loop) at_loop.loop-here.config at_loop.loop-here.here at_loop.loop-here.invariant.3 (omega arith) in
+    at_loop.loop-here.invariant.4 ∙ ap (over_states (row_entries a.lambda a.all.now a.n)) (take_all at_loop.loop-here.here.number (whole at_loop) (omega (arith, end)) ∙ whole_is at_loop)
 
 pub count_walked_spec : {M : Type 1} → statement M
 count_walked_spec =
     tie.close
-    (tie.spec
-    invariant-loop
-    decreases-loop
-    sub-state
-    part-space-start
-    part-space-end
-    first_state-requires
-    loop-holds
-    sub-fill-row
-    part-fill-row-start
-    part-fill-row-end
-    fill_row-requires
-    count_row-requires
-    add_total
-    next_state-requires
-    loop-less
-    loop-again
-    same_length
-    returns)
+    (tie.spec invariant-loop-here decreases-loop-here slice_bounds-state-count slice_bounds-space-start slice_bounds-space-end first_state-here-requires loop-here-init slice_bounds-fill_row-count slice_bounds-fill_row-start slice_bounds-fill_row-end fill_row-requires count_row-total-requires overflow_add-total next_state-here-requires loop-here-smaller loop-here-preserved shape_of-config returns)

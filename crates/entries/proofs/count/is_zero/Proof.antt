@@ -10,57 +10,47 @@ use borrow.Author.Rules.{rules}
 use Rattle.entries.proofs.count.is_zero.Statement.{statement}
 use Rattle.entries.proofs.count.is_zero.Tie as tie
 
-abbrev invariant-loop : tie.invariant-loop
-invariant-loop state e₀ e-end e = (e ≤ length state) × (e-end ≡ length state) × (squares (take e state) ≡ 0)
+abbrev invariant-loop-e : tie.invariant-loop-e
+invariant-loop-e state e₀ e-end e = (e ≤ length state) × (e-end ≡ length state) × (squares (take e state) ≡ 0)
 
-abbrev decreases-loop : tie.decreases-loop
-decreases-loop state e₀ e-end e = length state - e
+abbrev decreases-loop-e : tie.decreases-loop-e
+decreases-loop-e state e₀ e-end e = length state - e
 
-loop-holds : tie.Need-loop-init invariant-loop decreases-loop
+loop-e-init : tie.Need-loop-e-init invariant-loop-e decreases-loop-e
 unfolding squares
-loop-holds c = (omega arith, refl, refl)
+loop-e-init c = (omega arith, refl, refl)
 
-mul-x : tie.Need-overflow-mul-x invariant-loop decreases-loop
-mul-x c = search rules
+offset_bounds-state-e : tie.Need-offset_bounds-state-e invariant-loop-e decreases-loop-e
+offset_bounds-state-e c = search rules
 
-shared-slice-copy-out-x : tie.Need-shared-slice-copy-out-x invariant-loop decreases-loop
-shared-slice-copy-out-x c = search rules
+bounds-state-e : tie.Need-bounds-state-e invariant-loop-e decreases-loop-e
+bounds-state-e c = search rules
 
-returns : tie.Need-returns invariant-loop decreases-loop
-returns c =
+returns-then-x : tie.Need-returns-then-x invariant-loop-e decreases-loop-e
+returns-then-x c =
     let at_loop = c.before.before.before in
     let s = at_loop.before.args.state.now in
-    zero_not s at_loop.loop.e (omega (arith, c.before.before.loop-test.true)) at_loop.loop.invariant.2 (rw (back32 (get_or s at_loop.loop.e (pos 0)) c.before.x.given) at c.if1.true)
+    zero_not s at_loop.loop-e.e (omega (arith, c.before.before.loop-e-test.true)) at_loop.loop-e.invariant.2 (rw (back32 (get_or s at_loop.loop-e.e (pos 0)) c.before.x-1.given) at c.if-x.true)
 
-add-e : tie.Need-overflow-add-e invariant-loop decreases-loop
-add-e c = search rules
+overflow_step-e : tie.Need-overflow_step-e invariant-loop-e decreases-loop-e
+overflow_step-e c = search rules
 
-loop-less : tie.Need-loop-smaller invariant-loop decreases-loop
-loop-less c = search rules
+loop-e-smaller : tie.Need-loop-e-smaller invariant-loop-e decreases-loop-e
+loop-e-smaller c = search rules
 
-loop-again : tie.Need-loop-preserved invariant-loop decreases-loop
-loop-again c =
+loop-e-preserved : tie.Need-loop-e-preserved invariant-loop-e decreases-loop-e
+loop-e-preserved c =
     let at_loop = c.before.before.before in
     let s = at_loop.before.args.state.now in (
       omega arith,
       refl,
-      zero_next s at_loop.loop.e (omega (arith, c.before.before.loop-test.true)) at_loop.loop.invariant.2 (rw (back32 (get_or s at_loop.loop.e (pos 0)) c.before.x.given) at c.if1.false),
+      zero_next s at_loop.loop-e.e (omega (arith, c.before.before.loop-e-test.true)) at_loop.loop-e.invariant.2 (rw (back32 (get_or s at_loop.loop-e.e (pos 0)) c.before.x-1.given) at c.if-x.false),
     )
 
-returns-2 : tie.Need-returns-2 invariant-loop decreases-loop
-returns-2 c = zero_all _ c.before.loop.e (omega arith) c.before.loop.invariant.2
+returns : tie.Need-returns invariant-loop-e decreases-loop-e
+returns c = zero_all _ c.before.loop-e.e (omega arith) c.before.loop-e.invariant.2
 
 pub is_zero_spec : {M : Type 1} → statement M
 is_zero_spec =
     tie.close
-    (tie.spec
-    invariant-loop
-    decreases-loop
-    loop-holds
-    mul-x
-    shared-slice-copy-out-x
-    returns
-    add-e
-    loop-less
-    loop-again
-    returns-2)
+    (tie.spec invariant-loop-e decreases-loop-e loop-e-init offset_bounds-state-e bounds-state-e returns-then-x overflow_step-e loop-e-smaller loop-e-preserved returns)

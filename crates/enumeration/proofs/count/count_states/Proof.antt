@@ -10,25 +10,25 @@ use borrow.Author.Rules.{rules}
 use Rattle.enumeration.proofs.count.count_states.Statement.{statement}
 use Rattle.enumeration.proofs.count.count_states.Tie as tie
 
-basis : (c : tie.Else1) → BasisWalks (complex_of c.before.before.args.c) c.before.before.args.lambda c.before.prepare_basis.result.walker c.before.prepare_basis.result.blocks
-basis c = c.before.prepare_basis.ensures.basis c.if1.false
+basis : (c : tie.Else-number-ne0) → BasisWalks (complex_of c.before.before.args.c) c.before.before.args.lambda c.before.prepare_basis-basis.result.walker c.before.prepare_basis-basis.result.blocks
+basis c = c.before.prepare_basis-basis.ensures.basis c.if-number-ne0.false
 
-prepare_basis-requires : tie.Need-prepare_basis-requires
-prepare_basis-requires c κs = search rules
+prepare_basis-basis-requires : tie.Need-prepare_basis-basis-requires
+prepare_basis-basis-requires c κs = search rules
 
-returns : tie.Need-returns
+returns-then-number-ne0 : tie.Need-returns-then-number-ne0
 unfolding counted_call number_answer
-returns c = refuses _ (basis_refuses c.before.prepare_basis.ensures c.if1.true _) (ne_eqb _ 0 c.if1.true)
+returns-then-number-ne0 c = refuses _ (basis_refuses c.before.prepare_basis-basis.ensures c.if-number-ne0.true _) (ne_eqb _ 0 c.if-number-ne0.true)
 
 count_states-requires : tie.Need-count_states-requires
 count_states-requires c κs = (basis c).fit
 
-returns-2 : tie.Need-returns-2
+returns : tie.Need-returns
 unfolding counted_call number_answer
-returns-2 c =
+returns c =
     let judged = c.before in
-    ends (counted_call _ _) (past_basis judged.before.prepare_basis.ensures judged.if1.false none) (c.count_states.ensures ∙ ap length (basis judged).listed) refl (basis_known _ _ _ _ (basis judged))
+    ends (counted_call _ _) (past_basis judged.before.prepare_basis-basis.ensures judged.if-number-ne0.false none) (c.count_states.ensures ∙ ap length (basis judged).listed) refl (basis_known _ _ _ _ (basis judged))
 
 pub count_states_spec : {M : Type 1} → statement M
 count_states_spec =
-    tie.close (tie.spec prepare_basis-requires returns count_states-requires returns-2)
+    tie.close (tie.spec prepare_basis-basis-requires returns-then-number-ne0 count_states-requires returns)

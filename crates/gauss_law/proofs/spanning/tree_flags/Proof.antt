@@ -9,61 +9,51 @@ use Rattle.gauss_law.proofs.Spanned.{none_flagged, one_flagged}
 use Rattle.gauss_law.proofs.spanning.tree_flags.Statement.{statement}
 use Rattle.gauss_law.proofs.spanning.tree_flags.Tie as tie
 
-abbrev invariant-loop : tie.invariant-loop
-invariant-loop tree_edges found flags₀ i₀ flags i = (i ≤ found) × Flagged flags (take i tree_edges)
+abbrev invariant-loop-i : tie.invariant-loop-i
+invariant-loop-i tree_edges found flags₀ i₀ flags i = (i ≤ found) × Flagged flags (take i tree_edges)
 
-abbrev decreases-loop : tie.decreases-loop
-decreases-loop tree_edges found flags₀ i₀ flags i = found - i
+abbrev decreases-loop-i : tie.decreases-loop-i
+decreases-loop-i tree_edges found flags₀ i₀ flags i = found - i
 
-loop-holds : tie.Need-loop-init invariant-loop decreases-loop
-loop-holds c = (omega arith, none_flagged)
+loop-i-init : tie.Need-loop-i-init invariant-loop-i decreases-loop-i
+loop-i-init c = (omega arith, none_flagged)
 
-element-copy-out-byte : tie.Need-element-copy-out-byte invariant-loop decreases-loop
-element-copy-out-byte c = search rules
+bounds-tree_edges-i : tie.Need-bounds-tree_edges-i invariant-loop-i decreases-loop-i
+bounds-tree_edges-i c = search rules
 
-byte-requires : tie.Need-byte-requires invariant-loop decreases-loop
+byte-requires : tie.Need-byte-requires invariant-loop-i decreases-loop-i
 byte-requires c κs = tt
 
-inside : (c : tie.After-byte invariant-loop decreases-loop) → c.byte.result < 63
+inside : (c : tie.After-byte invariant-loop-i decreases-loop-i) → c.byte.result < 63
 inside c =
-    let at_loop = c.before.before.before in
-    let e : c.byte.result ≡ get_or at_loop.before.args.tree_edges.now at_loop.loop.i 0 = c.byte.ensures in
-    rw e (at_loop.before.requires.2 at_loop.loop.i c.before.before.loop-test.true)
+    let at_loop = c.before.before.before.before in
+    let e : c.byte.result ≡ get_or at_loop.before.args.tree_edges.now at_loop.loop-i.i 0 = c.byte.ensures in
+    rw e (at_loop.before.requires.2 at_loop.loop-i.i c.before.before.before.loop-i-test.true)
 
-array-write-flags : tie.Need-array-write-flags invariant-loop decreases-loop
-array-write-flags c = inside c
+bounds-flags-byte : tie.Need-bounds-flags-byte invariant-loop-i decreases-loop-i
+bounds-flags-byte c = inside c
 
-add-i : tie.Need-overflow-add-i invariant-loop decreases-loop
-add-i c = search rules
+overflow_step-i : tie.Need-overflow_step-i invariant-loop-i decreases-loop-i
+overflow_step-i c = search rules
 
-loop-less : tie.Need-loop-smaller invariant-loop decreases-loop
-loop-less c = search rules
+loop-i-smaller : tie.Need-loop-i-smaller invariant-loop-i decreases-loop-i
+loop-i-smaller c = search rules
 
-loop-again : tie.Need-loop-preserved invariant-loop decreases-loop
-loop-again c =
-    let at_loop = c.before.before.before in
+loop-i-preserved : tie.Need-loop-i-preserved invariant-loop-i decreases-loop-i
+loop-i-preserved c =
+    let at_loop = c.before.before.before.before in
     let l = at_loop.before.args.tree_edges.now in
-    let i = at_loop.loop.i in
+    let i = at_loop.loop-i.i in
     let here : i < length l = omega arith in
     let e : c.byte.result ≡ get_or l i 0 = c.byte.ensures in
-    (omega arith, rw (take_next l i 0 here, ← e) (one_flagged _ _ _ (inside c) at_loop.loop.invariant.1))
+    (omega arith, rw (take_next l i 0 here, ← e) (one_flagged _ _ _ (inside c) at_loop.loop-i.invariant.1))
 
-returns : tie.Need-returns invariant-loop decreases-loop
+returns : tie.Need-returns invariant-loop-i decreases-loop-i
 returns c =
-    let past : c.before.loop.i ≡ c.before.before.args.found = omega arith in
-    rw past at c.before.loop.invariant.1
+    let past : c.before.loop-i.i ≡ c.before.before.args.found = omega arith in
+    rw past at c.before.loop-i.invariant.1
 
 pub tree_flags_spec : {M : Type 1} → statement M
 tree_flags_spec =
     tie.close
-    (tie.spec
-    invariant-loop
-    decreases-loop
-    loop-holds
-    element-copy-out-byte
-    byte-requires
-    array-write-flags
-    add-i
-    loop-less
-    loop-again
-    returns)
+    (tie.spec invariant-loop-i decreases-loop-i loop-i-init bounds-tree_edges-i byte-requires bounds-flags-byte overflow_step-i loop-i-smaller loop-i-preserved returns)

@@ -7,33 +7,33 @@ use Rattle.gauss_law.proofs.Spanned.{none_unflagged}
 use Rattle.gauss_law.proofs.spanning.unflagged.Statement.{statement}
 use Rattle.gauss_law.proofs.spanning.unflagged.Tie as tie
 
-abbrev invariant-loop : tie.invariant-loop
-invariant-loop flags n-edges free₀ e₀ free e = (e ≤ n-edges) × Unflagged flags e free
+abbrev invariant-loop-e : tie.invariant-loop-e
+invariant-loop-e flags n_edges free₀ e₀ free e = (e ≤ n_edges) × Unflagged flags e free
 
-abbrev decreases-loop : tie.decreases-loop
-decreases-loop flags n-edges free₀ e₀ free e = n-edges - e
+abbrev decreases-loop-e : tie.decreases-loop-e
+decreases-loop-e flags n_edges free₀ e₀ free e = n_edges - e
 
-loop-holds : tie.Need-loop-init invariant-loop decreases-loop
-loop-holds c = (omega arith, none_unflagged _)
+loop-e-init : tie.Need-loop-e-init invariant-loop-e decreases-loop-e
+loop-e-init c = (omega arith, none_unflagged _)
 
-note_free-requires : tie.Need-note_free-requires invariant-loop decreases-loop
-note_free-requires c κs = (omega arith, c.before.loop.invariant.1)
+note_free-free-requires : tie.Need-note_free-free-requires invariant-loop-e decreases-loop-e
+note_free-free-requires c κs = (omega arith, c.before.loop-e.invariant.1)
 
-add-e : tie.Need-overflow-add-e invariant-loop decreases-loop
-add-e c = search rules
+overflow_step-e : tie.Need-overflow_step-e invariant-loop-e decreases-loop-e
+overflow_step-e c = search rules
 
-loop-less : tie.Need-loop-smaller invariant-loop decreases-loop
-loop-less c = search rules
+loop-e-smaller : tie.Need-loop-e-smaller invariant-loop-e decreases-loop-e
+loop-e-smaller c = search rules
 
-loop-again : tie.Need-loop-preserved invariant-loop decreases-loop
-loop-again c = (omega arith, c.note_free.ensures)
+loop-e-preserved : tie.Need-loop-e-preserved invariant-loop-e decreases-loop-e
+loop-e-preserved c = (omega arith, c.note_free-free.ensures)
 
-returns : tie.Need-returns invariant-loop decreases-loop
+returns : tie.Need-returns invariant-loop-e decreases-loop-e
 returns c =
-    let past : c.before.loop.e ≡ c.before.before.args.n-edges = omega arith in
-    rw past at c.before.loop.invariant.1
+    let past : c.before.loop-e.e ≡ c.before.before.args.n_edges = omega arith in
+    rw past at c.before.loop-e.invariant.1
 
 pub unflagged_spec : {M : Type 1} → statement M
 unflagged_spec =
     tie.close
-    (tie.spec invariant-loop decreases-loop loop-holds note_free-requires add-e loop-less loop-again returns)
+    (tie.spec invariant-loop-e decreases-loop-e loop-e-init note_free-free-requires overflow_step-e loop-e-smaller loop-e-preserved returns)

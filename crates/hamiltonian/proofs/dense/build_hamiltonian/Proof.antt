@@ -24,83 +24,83 @@ use Rattle.hamiltonian.proofs.dense.build_hamiltonian.Statement.{statement}
 use Rattle.hamiltonian.proofs.dense.build_hamiltonian.Tie as tie
 
 -- the weights and the coupling are judged by the definition's own tests
-weighed : (c : tie.After-judge_weights) → c.judge_weights.result ≡ first (weights_tests (length (complex_of c.before.before.before.before.before.before.args.c).triangles) (u1_right c.before.before.before.before.before.before.args.p) c.before.before.before.before.before.before.args.given c.before.before.before.before.before.before.args.weights.now)
-weighed c = rw (triangles_long c.before.before.before.before.before.before.args.c, ← c.before.is_u1.ensures) c.judge_weights.ensures
+weighed : (c : tie.After-judge_weights-wrong) → c.judge_weights-wrong.result ≡ first (weights_tests (length (complex_of c.before.before.before.before.before.before.args.c).triangles) (u1_right c.before.before.before.before.before.before.args.p) c.before.before.before.before.before.before.args.given c.before.before.before.before.before.before.args.weights.now)
+weighed c = rw (triangles_long c.before.before.before.before.before.before.args.c, ← c.before.is_u1.ensures) c.judge_weights-wrong.ensures
 
-abbrev start : tie.Else2 → tie.Start
+abbrev start : tie.Else-wrong-ne0 → tie.Start
 start c = c.before.before.before.before.before.before.before
 
-basis : (c : tie.Else2) → BasisWalks (complex_of (start c).args.c) (start c).args.lambda c.before.before.before.before.prepare_basis.result.walker c.before.before.before.before.prepare_basis.result.blocks
-basis c = c.before.before.before.before.prepare_basis.ensures.basis c.before.before.before.if1.false
+basis : (c : tie.Else-wrong-ne0) → BasisWalks (complex_of (start c).args.c) (start c).args.lambda c.before.before.before.before.prepare_basis-basis.result.walker c.before.before.before.before.prepare_basis-basis.result.blocks
+basis c = c.before.before.before.before.prepare_basis-basis.ensures.basis c.before.before.before.if-number-ne0.false
 
-right : (c : tie.Else2) → first (weights_tests (length (complex_of (start c).args.c).triangles) (u1_right (start c).args.p) (start c).args.given (start c).args.weights.now) ≡ 0
-right c = sym (weighed c.before) ∙ c.if2.false
+right : (c : tie.Else-wrong-ne0) → first (weights_tests (length (complex_of (start c).args.c).triangles) (u1_right (start c).args.p) (start c).args.given (start c).args.weights.now) ≡ 0
+right c = sym (weighed c.before) ∙ c.if-wrong-ne0.false
 
-abbrev passed : tie.After-struct-known → tie.Else2
+abbrev passed : tie.After-struct_known-1 → tie.Else-wrong-ne0
 passed c = c.before.before.before
 
-counted : (c : tie.After-struct-known) → c.before.count_states.result ≡ length (states (complex_of (start (passed c)).args.c) (start (passed c)).args.lambda)
-counted c = c.before.count_states.ensures ∙ ap length (basis (passed c)).listed
+counted : (c : tie.After-struct_known-1) → c.before.count_states-n.result ≡ length (states (complex_of (start (passed c)).args.c) (start (passed c)).args.lambda)
+counted c = c.before.count_states-n.ensures ∙ ap length (basis (passed c)).listed
 
 -- the sizes of the two lists are numbers of the machine
-sizes : (c : tie.After-struct-known) → (c.before.count_states.result * (passed c).before.before.before.before.prepare_basis.result.walker.n_edges ≤ 1048576 * 63) × (c.before.count_states.result * c.before.count_states.result ≤ 1048576 * 1048576)
+sizes : (c : tie.After-struct_known-1) → (c.before.count_states-n.result * (passed c).before.before.before.before.prepare_basis-basis.result.walker.n_edges ≤ 1048576 * 63) × (c.before.count_states-n.result * c.before.count_states-n.result ≤ 1048576 * 1048576)
 sizes c =
     let b = basis (passed c) in
-    let few : c.before.count_states.result ≤ 1048576 = rw (counted c) b.few in
+    let few : c.before.count_states-n.result ≤ 1048576 = rw (counted c) b.few in
     (mul-le-mul few b.fit.edges, mul-le-mul few few)
 
 -- the test of the room is that of the basis and of the matrix
-no_room : (c : tie.After-struct-known)
+no_room : (c : tie.After-struct_known-1)
     → (short (complex_of (start (passed c)).args.c) (start (passed c)).args.lambda (length (start (passed c)).args.states.now) || ltb (length (start (passed c)).args.res.now) (length (states (complex_of (start (passed c)).args.c) (start (passed c)).args.lambda) * length (states (complex_of (start (passed c)).args.c) (start (passed c)).args.lambda)))
-    ≡ (ltb (length (start (passed c)).args.states.now) (c.before.count_states.result * (passed c).before.before.before.before.prepare_basis.result.walker.n_edges) || ltb (length (start (passed c)).args.res.now) (c.before.count_states.result * c.before.count_states.result))
-no_room c = rw (short_told _ _ _ _ (basis (passed c)) (length (start (passed c)).args.states.now), ← c.before.count_states.ensures, ← (counted c))
+    ≡ (ltb (length (start (passed c)).args.states.now) (c.before.count_states-n.result * (passed c).before.before.before.before.prepare_basis-basis.result.walker.n_edges) || ltb (length (start (passed c)).args.res.now) (c.before.count_states-n.result * c.before.count_states-n.result))
+no_room c = rw (short_told _ _ _ _ (basis (passed c)) (length (start (passed c)).args.states.now), ← c.before.count_states-n.ensures, ← (counted c))
 
-prepare_basis-requires : tie.Need-prepare_basis-requires
-prepare_basis-requires c κs = search rules
+prepare_basis-basis-requires : tie.Need-prepare_basis-basis-requires
+prepare_basis-basis-requires c κs = search rules
 
-returns : tie.Need-returns
+returns-then-number-ne0 : tie.Need-returns-then-number-ne0
 unfolding u1_dense_call number_answer
-returns c = refuses _ (basis_refuses c.before.prepare_basis.ensures c.if1.true _) (ne_eqb _ 0 c.if1.true)
+returns-then-number-ne0 c = refuses _ (basis_refuses c.before.prepare_basis-basis.ensures c.if-number-ne0.true _) (ne_eqb _ 0 c.if-number-ne0.true)
 
 is_u1-requires : tie.Need-is_u1-requires
 is_u1-requires c κs = search rules
 
-judge_weights-requires : tie.Need-judge_weights-requires
-judge_weights-requires c κs = search rules
+judge_weights-wrong-requires : tie.Need-judge_weights-wrong-requires
+judge_weights-wrong-requires c κs = search rules
 
-returns-2 : tie.Need-returns-2
+returns-then-wrong-ne0 : tie.Need-returns-then-wrong-ne0
 unfolding u1_dense_call number_answer
-returns-2 c =
+returns-then-wrong-ne0 c =
     let judged = c.before.before.before in
-    refuses _ (past_basis judged.before.prepare_basis.ensures judged.if1.false (weights_refuse _ _ _ _ (weighed c.before) c.if2.true _)) (ne_eqb _ 0 c.if2.true)
+    refuses _ (past_basis judged.before.prepare_basis-basis.ensures judged.if-number-ne0.false (weights_refuse _ _ _ _ (weighed c.before) c.if-wrong-ne0.true _)) (ne_eqb _ 0 c.if-wrong-ne0.true)
 
-count_states-requires : tie.Need-count_states-requires
-count_states-requires c κs = (basis c.before).fit
+count_states-n-requires : tie.Need-count_states-n-requires
+count_states-n-requires c κs = (basis c.before).fit
 
-mul-if3 : tie.Need-overflow-mul-if3
-mul-if3 c = let h = sizes c in search rules
+overflow_mul-n : tie.Need-overflow_mul-n
+overflow_mul-n c = let h = sizes c in search rules
 
-mul-if3-2 : tie.Need-overflow-mul-if3-2
-mul-if3-2 c = let h = sizes c in search rules
+overflow_mul-n-2 : tie.Need-overflow_mul-n-2
+overflow_mul-n-2 c = let h = sizes c in search rules
 
-returns-3 : tie.Need-returns-3
+returns-then-states-n : tie.Need-returns-then-states-n
 unfolding u1_dense_call number_answer
-returns-3 c =
+returns-then-states-n c =
     let judged = passed c.before in
-    refuses _ (past_basis judged.before.before.before.before.prepare_basis.ensures judged.before.before.before.if1.left (past_weights _ _ _ _ (right judged) (here (no_room c.before ∙ c.if3.true)))) refl
+    refuses _ (past_basis judged.before.before.before.before.prepare_basis-basis.ensures judged.before.before.before.if-number-ne0.left (past_weights _ _ _ _ (right judged) (here (no_room c.before ∙ c.if-states-n.true)))) refl
 
 -- both lists are long enough
-room : (c : tie.Else3) → (c.before.before.count_states.result * (passed c.before).before.before.before.before.prepare_basis.result.walker.n_edges ≤ length (start (passed c.before)).args.states.now) × (c.before.before.count_states.result * c.before.before.count_states.result ≤ length (start (passed c.before)).args.res.now)
+room : (c : tie.Else-states-n) → (c.before.before.count_states-n.result * (passed c.before).before.before.before.before.prepare_basis-basis.result.walker.n_edges ≤ length (start (passed c.before)).args.states.now) × (c.before.before.count_states-n.result * c.before.before.count_states-n.result ≤ length (start (passed c.before)).args.res.now)
 room c =
-    let fell = or_fell _ _ c.if3.false in
+    let fell = or_fell _ _ c.if-states-n.false in
     (ltb-false _ _ fell.0, ltb-false _ _ fell.1)
 
 write_states-requires : tie.Need-write_states-requires
-write_states-requires c κs = let enough = c.before in ((basis (passed enough.before)).fit, rw (← enough.before.before.count_states.ensures) (room enough).0)
+write_states-requires c κs = let enough = c.before in ((basis (passed enough.before)).fit, rw (← enough.before.before.count_states-n.ensures) (room enough).0)
 
 -- as many states were written as were counted
-number : (c : tie.After-write_states) → c.write_states.result ≡ c.before.before.before.before.count_states.result
-number c = c.write_states.ensures.count ∙ sym c.before.before.before.before.count_states.ensures
+number : (c : tie.After-write_states) → c.write_states.result ≡ c.before.before.before.before.count_states-n.result
+number c = c.write_states.ensures.count ∙ sym c.before.before.before.before.count_states-n.ensures
 
 write_dense-requires : tie.Need-write_dense-requires
 write_dense-requires c κs =
@@ -113,37 +113,23 @@ write_dense-requires c κs =
       rw (number listed) (room enough).1,
     )
 
-same_length : tie.Need-same-length
-same_length c = search rules
+shape_of-states : tie.Need-shape_of-states
+shape_of-states c = search rules
 
-same-length-2 : tie.Need-same-length-2
-same-length-2 c = search rules
+shape_of-res : tie.Need-shape_of-res
+shape_of-res c = search rules
 
-returns-4 : tie.Need-returns-4
+returns : tie.Need-returns
 unfolding u1_dense_call number_answer
-returns-4 c =
+returns c =
     let listed = c.before.before.before.before.before.before in
     let enough = listed.before.before in
     let judged = passed enough.before in
     let many = counted enough.before in
-    ends _ (past_basis judged.before.before.before.before.prepare_basis.ensures judged.before.before.before.if1.left (past_weights _ _ _ _ (right judged) (past (no_room enough.before ∙ enough.if3.false) none)))
+    ends _ (past_basis judged.before.before.before.before.prepare_basis-basis.ensures judged.before.before.before.if-number-ne0.left (past_weights _ _ _ _ (right judged) (past (no_room enough.before ∙ enough.if-states-n.false) none)))
     many (both (basis_written _ _ _ _ (basis judged) _ _ _ listed.write_states.ensures).1 c.before.before.write_dense.ensures) (basis judged).few
 
 pub build_hamiltonian_spec : {M : Type 1} → statement M
 build_hamiltonian_spec =
     tie.close
-    (tie.spec
-    prepare_basis-requires
-    returns
-    is_u1-requires
-    judge_weights-requires
-    returns-2
-    count_states-requires
-    mul-if3
-    mul-if3-2
-    returns-3
-    write_states-requires
-    write_dense-requires
-    same_length
-    same-length-2
-    returns-4)
+    (tie.spec prepare_basis-basis-requires returns-then-number-ne0 is_u1-requires judge_weights-wrong-requires returns-then-wrong-ne0 count_states-n-requires overflow_mul-n overflow_mul-n-2 returns-then-states-n write_states-requires write_dense-requires shape_of-states shape_of-res returns)

@@ -22,8 +22,8 @@ add_magnetic-requires c κs =
     let pre = cleared.before.before.before.before.requires in
     (pre.0, pre.1, pre.2, rw (charged.add_electric.auto.1.1.1.1.0, cleared.clear_matrix.auto.0) pre.3)
 
-same_length : tie.Need-same-length
-same_length c = search rules
+shape_of-h : tie.Need-shape_of-h
+shape_of-h c = search rules
 
 returns : tie.Need-returns
 returns c =
@@ -40,9 +40,4 @@ returns c =
 pub write_dense_spec : {M : Type 1} → statement M
 write_dense_spec =
     tie.close
-    (tie.spec
-    clear_matrix-requires
-    add_electric-requires
-    add_magnetic-requires
-    same_length
-    returns)
+    (tie.spec clear_matrix-requires add_electric-requires add_magnetic-requires shape_of-h returns)

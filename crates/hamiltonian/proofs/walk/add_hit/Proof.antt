@@ -5,8 +5,8 @@ use borrow.Author.Rules.{rules}
 use Rattle.hamiltonian.proofs.walk.add_hit.Statement.{statement}
 use Rattle.hamiltonian.proofs.walk.add_hit.Tie as tie
 
-returns : tie.Need-returns
-returns c = record { hit = λ k. absurd (omega arith); miss = λ k. (refl, refl) }
+returns-then-n-j : tie.Need-returns-then-n-j
+returns-then-n-j c = record { hit = λ k. absurd (omega arith); miss = λ k. (refl, refl) }
 
 add_entry-requires : tie.Need-add_entry-requires
 add_entry-requires c κs = search rules
@@ -14,20 +14,20 @@ add_entry-requires c κs = search rules
 add_entry-requires-2 : tie.Need-add_entry-requires-2
 add_entry-requires-2 c κs = search rules
 
-add-result : tie.Need-overflow-add-result
-add-result c = search rules
+overflow_add-result : tie.Need-overflow_add-result
+overflow_add-result c = search rules
 
-same_length : tie.Need-same-length
-same_length c = search rules
+shape_of-h : tie.Need-shape_of-h
+shape_of-h c = search rules
 
-returns-2 : tie.Need-returns-2
-returns-2 c =
+returns : tie.Need-returns
+returns c =
     let one = c.before.before.before.before.before.before in
     record {
-      hit = λ k. (refl, c.before.before.add-entry2.ensures ∙ ap (with_added _ _ _ _) one.add_entry.ensures);
-      miss = λ k. absurd (omega (arith, one.before.before.if1.false));
+      hit = λ k. (refl, c.before.before.add_entry-2.ensures ∙ ap (with_added _ _ _ _) one.add_entry.ensures);
+      miss = λ k. absurd (omega (arith, one.before.before.if-n-j.false));
     }
 
 pub add_hit_spec : {M : Type 1} → statement M
 add_hit_spec =
-    tie.close (tie.spec returns add_entry-requires add_entry-requires-2 add-result same_length returns-2)
+    tie.close (tie.spec returns-then-n-j add_entry-requires add_entry-requires-2 overflow_add-result shape_of-h returns)

@@ -15,52 +15,52 @@ use borrow.Author.Rules.{rules}
 use Rattle.hilbert.proofs.index.config_to_index.Statement.{statement}
 use Rattle.hilbert.proofs.index.config_to_index.Tie as tie
 
-basis : (c : tie.Else1) → BasisWalks (complex_of c.before.before.args.c) c.before.before.args.lambda c.before.prepare_basis.result.walker c.before.prepare_basis.result.blocks
-basis c = c.before.prepare_basis.ensures.basis c.if1.false
+basis : (c : tie.Else-number-ne0) → BasisWalks (complex_of c.before.before.args.c) c.before.before.args.lambda c.before.prepare_basis-basis.result.walker c.before.prepare_basis-basis.result.blocks
+basis c = c.before.prepare_basis-basis.ensures.basis c.if-number-ne0.false
 
-sized : (c : tie.Else2) → length c.before.before.before.before.args.configuration.now ≡ length (complex_of c.before.before.before.before.args.c).edges
-sized c = c.if2.false ∙ sym (edges_long c.before.before.before.before.args.c)
+sized : (c : tie.Else-configuration-c) → length c.before.before.before.before.args.configuration.now ≡ length (complex_of c.before.before.before.before.args.c).edges
+sized c = c.if-configuration-c.false ∙ sym (edges_long c.before.before.before.before.args.c)
 
-room : (c : tie.Else3) → short (complex_of c.before.before.before.before.before.before.before.args.c) c.before.before.before.before.before.before.before.args.lambda (length c.before.before.before.before.before.before.before.args.states.now) ≡ false
-room c = short_told _ _ _ _ (basis c.before.before.before.before.before) _ ∙ sym c.before.too_short.ensures ∙ c.if3.false
+room : (c : tie.Else-too_short) → short (complex_of c.before.before.before.before.before.before.before.args.c) c.before.before.before.before.before.before.before.args.lambda (length c.before.before.before.before.before.before.before.args.states.now) ≡ false
+room c = short_told _ _ _ _ (basis c.before.before.before.before.before) _ ∙ sym c.before.too_short.ensures ∙ c.if-too_short.false
 
-prepare_basis-requires : tie.Need-prepare_basis-requires
-prepare_basis-requires c κs = search rules
+prepare_basis-basis-requires : tie.Need-prepare_basis-basis-requires
+prepare_basis-basis-requires c κs = search rules
 
-returns : tie.Need-returns
+returns-then-number-ne0 : tie.Need-returns-then-number-ne0
 unfolding index_call
-returns c =
-    let p = c.before.prepare_basis.ensures in
-    index_refused _ (basis_refuses p c.if1.true _) (ne_eqb _ 0 c.if1.true) (basis_not_17 p)
+returns-then-number-ne0 c =
+    let p = c.before.prepare_basis-basis.ensures in
+    index_refused _ (basis_refuses p c.if-number-ne0.true _) (ne_eqb _ 0 c.if-number-ne0.true) (basis_not_17 p)
 
-returns-2 : tie.Need-returns-2
+returns-then-configuration-c : tie.Need-returns-then-configuration-c
 unfolding index_call
-returns-2 c =
+returns-then-configuration-c c =
     let judged = c.before.before in
-    index_refused _ (past_basis judged.before.prepare_basis.ensures judged.if1.false (here (rw (ne_eqb _ _ (λ z. c.if2.true (z ∙ edges_long judged.before.before.args.c)))))) refl refl
+    index_refused _ (past_basis judged.before.prepare_basis-basis.ensures judged.if-number-ne0.false (here (rw (ne_eqb _ _ (λ z. c.if-configuration-c.true (z ∙ edges_long judged.before.before.args.c)))))) refl refl
 
 too_short-requires : tie.Need-too_short-requires
 too_short-requires c κs = (basis c.before.before.before).fit
 
-returns-3 : tie.Need-returns-3
+returns-then-too_short : tie.Need-returns-then-too_short
 unfolding index_call
-returns-3 c =
+returns-then-too_short c =
     let long = c.before.before.before in
     let judged = long.before.before in
-    index_refused _ (past_basis judged.before.prepare_basis.ensures judged.if1.false (past (rw (eq-eqb _ _ (sized long))) (here (short_told _ _ _ _ (basis judged) _ ∙ sym c.before.too_short.ensures ∙ c.if3.true)))) refl refl
+    index_refused _ (past_basis judged.before.prepare_basis-basis.ensures judged.if-number-ne0.false (past (rw (eq-eqb _ _ (sized long))) (here (short_told _ _ _ _ (basis judged) _ ∙ sym c.before.too_short.ensures ∙ c.if-too_short.true)))) refl refl
 
 in_basis-requires : tie.Need-in_basis-requires
 in_basis-requires c κs =
     let judged = c.before.before.before.before.before in
-    ((accepted _).1 (basis judged).walks.accepted, (basis judged).truncation, c.before.before.before.if2.false)
+    ((accepted _).1 (basis judged).walks.accepted, (basis judged).truncation, c.before.before.before.if-configuration-c.false)
 
-returns-4 : tie.Need-returns-4
+returns-then-not-in_basis : tie.Need-returns-then-not-in_basis
 unfolding index_call
-returns-4 c =
+returns-then-not-in_basis c =
     let enough = c.before.before in
     let long = enough.before.before.before in
     let judged = long.before.before in
-    unlisted _ (past_basis judged.before.prepare_basis.ensures judged.if1.false (past (rw (eq-eqb _ _ (sized long))) (past (room enough) (here (rw (sym c.before.in_basis.ensures ∙ not-true _ c.if4.true))))))
+    unlisted _ (past_basis judged.before.prepare_basis-basis.ensures judged.if-number-ne0.false (past (rw (eq-eqb _ _ (sized long))) (past (room enough) (here (rw (sym c.before.in_basis.ensures ∙ not-true _ c.if-not-in_basis.true))))))
 
 list_and_find-requires : tie.Need-list_and_find-requires
 list_and_find-requires c κs =
@@ -70,36 +70,26 @@ list_and_find-requires c κs =
       complex = _;
       basis = basis long.before.before;
       sized = sized long;
-      listed = sym c.before.before.in_basis.ensures ∙ not-false _ c.before.if4.false;
+      listed = sym c.before.before.in_basis.ensures ∙ not-false _ c.before.if-not-in_basis.false;
       long = room enough;
     }
 
-same_length : tie.Need-same-length
-same_length c = search rules
+shape_of-states : tie.Need-shape_of-states
+shape_of-states c = search rules
 
-returns-5 : tie.Need-returns-5
+returns : tie.Need-returns
 unfolding index_call
-returns-5 c =
+returns c =
     let shown = c.before.before.before in
     let enough = shown.before.before in
     let long = enough.before.before.before in
     let judged = long.before.before in
     let found = c.before.list_and_find.ensures _ (basis judged) in
-    let listed = sym shown.before.in_basis.ensures ∙ not-false _ shown.if4.false in
-    indexed _ (past_basis judged.before.prepare_basis.ensures judged.if1.false (past (rw (eq-eqb _ _ (sized long))) (past (room enough) (past (rw listed) none))))
+    let listed = sym shown.before.in_basis.ensures ∙ not-false _ shown.if-not-in_basis.false in
+    indexed _ (past_basis judged.before.prepare_basis-basis.ensures judged.if-number-ne0.false (past (rw (eq-eqb _ _ (sized long))) (past (room enough) (past (rw listed) none))))
     (found.found (sized long, listed)) found.list (record { found = in_basis_at _ (basis judged).walks.accepted _ _ (sized long) listed; few = (basis judged).few })
 
 pub config_to_index_spec : {M : Type 1} → statement M
 config_to_index_spec =
     tie.close
-    (tie.spec
-    prepare_basis-requires
-    returns
-    returns-2
-    too_short-requires
-    returns-3
-    in_basis-requires
-    returns-4
-    list_and_find-requires
-    same_length
-    returns-5)
+    (tie.spec prepare_basis-basis-requires returns-then-number-ne0 returns-then-configuration-c too_short-requires returns-then-too_short in_basis-requires returns-then-not-in_basis list_and_find-requires shape_of-states returns)

@@ -3,22 +3,22 @@ use borrow.Author.Rules.{rules}
 use Rattle.hilbert.proofs.index.list_and_find.Statement.{statement}
 use Rattle.hilbert.proofs.index.list_and_find.Tie as tie
 
-write_states-requires : tie.Need-write_states-requires
-write_states-requires c κs =
+write_states-n-requires : tie.Need-write_states-n-requires
+write_states-n-requires c κs =
     let start = c.before.before in
     (start.requires.basis.fit, room _ _ _ _ start.args.states.now start.requires)
 
 find_place-requires : tie.Need-find_place-requires
 find_place-requires c κs =
     let start = c.before.before.before.before.before.before in
-    rows _ _ _ _ _ start.requires _ _ c.before.before.before.write_states.auto.1.1.1.0 c.before.before.before.write_states.ensures
+    rows _ _ _ _ _ start.requires _ _ c.before.before.before.write_states-n.auto.1.1.1.0 c.before.before.before.write_states-n.ensures
 
-same_length : tie.Need-same-length
-same_length c = search rules
+shape_of-states : tie.Need-shape_of-states
+shape_of-states c = search rules
 
 returns : tie.Need-returns
-returns c = found_in _ _ _ _ _ _ _ _ c.before.before.before.before.write_states.ensures c.find_place.ensures
+returns c = found_in _ _ _ _ _ _ _ _ c.before.before.before.before.write_states-n.ensures c.find_place.ensures
 
 pub list_and_find_spec : {M : Type 1} → statement M
 list_and_find_spec =
-    tie.close (tie.spec write_states-requires find_place-requires same_length returns)
+    tie.close (tie.spec write_states-n-requires find_place-requires shape_of-states returns)

@@ -10,63 +10,63 @@ use Rattle.hilbert.proofs.Searching.{row_inside, row_small, row_long, row_part}
 use Rattle.hilbert.proofs.search.find_place.Statement.{statement}
 use Rattle.hilbert.proofs.search.find_place.Tie as tie
 
-abbrev invariant-loop : tie.invariant-loop
-invariant-loop states n config free n_free m low₀ high₀ low high = (low ≤ high) × (high ≤ n) × ((p : ℕ) → Ranked states n config free n_free p → (low ≤ p) × (p ≤ high))
+abbrev invariant-loop-low : tie.invariant-loop-low
+invariant-loop-low states n config free n_free m low₀ high₀ low high = (low ≤ high) × (high ≤ n) × ((p : ℕ) → Ranked states n config free n_free p → (low ≤ p) × (p ≤ high))
 
-abbrev decreases-loop : tie.decreases-loop
-decreases-loop states n config free n_free m low₀ high₀ low high = high - low
+abbrev decreases-loop-low : tie.decreases-loop-low
+decreases-loop-low states n config free n_free m low₀ high₀ low high = high - low
 
 abbrev Loop : Type 0
-Loop = tie.At-loop invariant-loop decreases-loop
+Loop = tie.At-loop-low invariant-loop-low decreases-loop-low
 
-abbrev start : Loop → tie.Start invariant-loop decreases-loop
+abbrev start : Loop → tie.Start invariant-loop-low decreases-loop-low
 start c = c.before
 
 abbrev middle : Loop → ℕ
-middle c = c.loop.low + (c.loop.high - c.loop.low) / 2
+middle c = c.loop-low.low + (c.loop-low.high - c.loop-low.low) / 2
 
 abbrev row_start : Loop → ℕ
 row_start c = middle c * length (start c).args.config.now
 
-inside : (c : tie.In-loop invariant-loop decreases-loop) → middle c.before < (start c.before).args.n
+inside : (c : tie.In-loop-low invariant-loop-low decreases-loop-low) → middle c.before < (start c.before).args.n
 inside c = omega arith
 
 -- the middle row lies in the list
-row_room : (c : tie.In-loop invariant-loop decreases-loop) → (row_start c.before + length (start c.before).args.config.now ≤ length (start c.before).args.states.now) × (row_start c.before ≤ 2 ^ 20 * 63)
+row_room : (c : tie.In-loop-low invariant-loop-low decreases-loop-low) → (row_start c.before + length (start c.before).args.config.now ≤ length (start c.before).args.states.now) × (row_start c.before ≤ 2 ^ 20 * 63)
 row_room c =
     let s = start c.before in (
       row_inside s.args.states.now s.args.n s.args.config.now s.args.free.now s.args.n_free s.pre (middle c.before) (inside c),
       row_small s.args.states.now s.args.n s.args.config.now s.args.free.now s.args.n_free s.pre (middle c.before) (inside c),
     )
 
-loop-holds : tie.Need-loop-init invariant-loop decreases-loop
-loop-holds c = (omega arith, omega arith, λ p r. (omega arith, r.within))
+loop-low-init : tie.Need-loop-low-init invariant-loop-low decreases-loop-low
+loop-low-init c = (omega arith, omega arith, λ p r. (omega arith, r.within))
 
-sub-middle : tie.Need-overflow-sub-middle invariant-loop decreases-loop
-sub-middle c = search rules
+overflow_sub-middle : tie.Need-overflow_sub-middle invariant-loop-low decreases-loop-low
+overflow_sub-middle c = search rules
 
-add-middle : tie.Need-overflow-add-middle invariant-loop decreases-loop
-add-middle c = search rules
+overflow_add-middle : tie.Need-overflow_add-middle invariant-loop-low decreases-loop-low
+overflow_add-middle c = search rules
 
-mul_at : tie.Need-overflow-mul-at invariant-loop decreases-loop
-mul_at c = let h = row_room c in search rules
+overflow_mul-at : tie.Need-overflow_mul-at invariant-loop-low decreases-loop-low
+overflow_mul-at c = let h = row_room c in search rules
 
-add-row-before : tie.Need-overflow-add-row-before invariant-loop decreases-loop
-add-row-before c = let h = row_room c in search rules
+overflow_add-at : tie.Need-overflow_add-at invariant-loop-low decreases-loop-low
+overflow_add-at c = let h = row_room c in search rules
 
-mul-row-before : tie.Need-overflow-mul-row-before invariant-loop decreases-loop
-mul-row-before c = let h = row_room c in search rules
+offset_bounds-states-at : tie.Need-offset_bounds-states-at invariant-loop-low decreases-loop-low
+offset_bounds-states-at c = let h = row_room c in search rules
 
-sub-row-before : tie.Need-overflow-sub-row-before invariant-loop decreases-loop
-sub-row-before c = search rules
+slice_bounds-row_before-count : tie.Need-slice_bounds-row_before-count invariant-loop-low decreases-loop-low
+slice_bounds-row_before-count c = search rules
 
-part-row-before-start : tie.Need-slice-bounds-row-before-start invariant-loop decreases-loop
-part-row-before-start c = let h = row_room c in search rules
+slice_bounds-row_before-start : tie.Need-slice_bounds-row_before-start invariant-loop-low decreases-loop-low
+slice_bounds-row_before-start c = let h = row_room c in search rules
 
-part-row-before-end : tie.Need-slice-bounds-row-before-end invariant-loop decreases-loop
-part-row-before-end c = let h = row_room c in search rules
+slice_bounds-row_before-end : tie.Need-slice_bounds-row_before-end invariant-loop-low decreases-loop-low
+slice_bounds-row_before-end c = let h = row_room c in search rules
 
-row_before-requires : tie.Need-row_before-requires invariant-loop decreases-loop
+row_before-requires : tie.Need-row_before-requires invariant-loop-low decreases-loop-low
 row_before-requires c κs =
     let at_loop = c.before.before in
     let s = start at_loop in
@@ -74,7 +74,7 @@ row_before-requires c κs =
     (row_long s.args.states.now s.args.n s.args.config.now s.args.free.now s.args.n_free s.pre (middle at_loop) (inside c.before), s.pre.edges_few, s.pre.free_few, s.pre.free_fit)
 
 abbrev Tested : Type 0
-Tested = tie.After-row_before invariant-loop decreases-loop
+Tested = tie.After-row_before invariant-loop-low decreases-loop-low
 
 abbrev loop_of : Tested → Loop
 loop_of c = c.before.before.before
@@ -89,53 +89,35 @@ past_middle c p r =
     let s = (start at_loop).args in
     sym ((rw (row_part s.states.now (length s.config.now) (middle at_loop)) at c.row_before.ensures) ∙ r.rows (middle at_loop) (inside c.before.before))
 
-add_low : tie.Need-overflow-add-low invariant-loop decreases-loop
-add_low c = search rules
+overflow_add-low : tie.Need-overflow_add-low invariant-loop-low decreases-loop-low
+overflow_add-low c = search rules
 
-loop-less : tie.Need-loop-smaller invariant-loop decreases-loop
-loop-less c = search rules
+loop-low-smaller-then-row_before : tie.Need-loop-low-smaller-then-row_before invariant-loop-low decreases-loop-low
+loop-low-smaller-then-row_before c = search rules
 
-loop-again : tie.Need-loop-preserved invariant-loop decreases-loop
-loop-again c =
+loop-low-preserved-then-row_before : tie.Need-loop-low-preserved-then-row_before invariant-loop-low decreases-loop-low
+loop-low-preserved-then-row_before c =
     let at_loop = loop_of c.before in (
       omega arith,
-      at_loop.loop.inv.1,
-      λ p r. (omega (arith, ltb-true (middle at_loop) p (past_middle c.before p r ∙ c.if1.true)), (at_loop.loop.inv.2 p r).1),
+      at_loop.loop-low.inv.1,
+      λ p r. (omega (arith, ltb-true (middle at_loop) p (past_middle c.before p r ∙ c.if-row_before.true)), (at_loop.loop-low.inv.2 p r).1),
     )
 
-loop-less-2 : tie.Need-loop-smaller-2 invariant-loop decreases-loop
-loop-less-2 c = search rules
+loop-low-smaller : tie.Need-loop-low-smaller invariant-loop-low decreases-loop-low
+loop-low-smaller c = search rules
 
-loop-again-2 : tie.Need-loop-preserved-2 invariant-loop decreases-loop
-loop-again-2 c =
+loop-low-preserved : tie.Need-loop-low-preserved invariant-loop-low decreases-loop-low
+loop-low-preserved c =
     let at_loop = loop_of c.before in (
       omega arith,
       omega arith,
-      λ p r. ((at_loop.loop.inv.2 p r).0, ltb-false (middle at_loop) p (past_middle c.before p r ∙ c.if1.false)),
+      λ p r. ((at_loop.loop-low.inv.2 p r).0, ltb-false (middle at_loop) p (past_middle c.before p r ∙ c.if-row_before.false)),
     )
 
-returns : tie.Need-returns invariant-loop decreases-loop
-returns c p r = let h = c.before.loop.invariant.2 p r in omega arith
+returns : tie.Need-returns invariant-loop-low decreases-loop-low
+returns c p r = let h = c.before.loop-low.invariant.2 p r in omega arith
 
 pub find_place_spec : {M : Type 1} → statement M
 find_place_spec =
     tie.close
-    (tie.spec
-    invariant-loop
-    decreases-loop
-    loop-holds
-    sub-middle
-    add-middle
-    mul_at
-    add-row-before
-    mul-row-before
-    sub-row-before
-    part-row-before-start
-    part-row-before-end
-    row_before-requires
-    add_low
-    loop-less
-    loop-again
-    loop-less-2
-    loop-again-2
-    returns)
+    (tie.spec invariant-loop-low decreases-loop-low loop-low-init overflow_sub-middle overflow_add-middle overflow_mul-at overflow_add-at offset_bounds-states-at slice_bounds-row_before-count slice_bounds-row_before-start slice_bounds-row_before-end row_before-requires overflow_add-low loop-low-smaller-then-row_before loop-low-preserved-then-row_before loop-low-smaller loop-low-preserved returns)

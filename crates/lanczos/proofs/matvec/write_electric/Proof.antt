@@ -11,70 +11,63 @@ use borrow.Author.Rules.{rules}
 use Rattle.lanczos.proofs.matvec.write_electric.Statement.{statement}
 use Rattle.lanczos.proofs.matvec.write_electric.Tie as tie
 
-abbrev invariant-loop : tie.invariant-loop
-invariant-loop list n m factor vector result₀ i₀ result i = (i ≤ n) × (length result ≡ length result₀) × (result ≡ electric_parts factor m list vector i ++ drop i result₀)
+abbrev invariant-loop-i : tie.invariant-loop-i
+invariant-loop-i list n m factor vector result₀ i₀ result i = (i ≤ n) × (length result ≡ length result₀) × (result ≡ electric_parts factor m list vector i ++ drop i result₀)
 
-abbrev decreases-loop : tie.decreases-loop
-decreases-loop list n m factor vector result₀ i₀ result i = n - i
+abbrev decreases-loop-i : tie.decreases-loop-i
+decreases-loop-i list n m factor vector result₀ i₀ result i = n - i
 
-loop-holds : tie.Need-loop-init invariant-loop decreases-loop
+loop-i-init : tie.Need-loop-i-init invariant-loop-i decreases-loop-i
 unfolding electric_parts below
-loop-holds c = (omega arith, refl, refl)
+loop-i-init c = (omega arith, refl, refl)
 
-mul-x : tie.Need-overflow-mul-x invariant-loop decreases-loop
-mul-x c = search rules
+offset_bounds-vector-i : tie.Need-offset_bounds-vector-i invariant-loop-i decreases-loop-i
+offset_bounds-vector-i c = search rules
 
-shared-slice-read-x : tie.Need-shared-slice-read-x invariant-loop decreases-loop
-shared-slice-read-x c = search rules
+bounds-vector-i : tie.Need-bounds-vector-i invariant-loop-i decreases-loop-i
+bounds-vector-i c = search rules
 
-row_energy-requires : tie.Need-row_energy-requires invariant-loop decreases-loop
+row_energy-requires : tie.Need-row_energy-requires invariant-loop-i decreases-loop-i
 row_energy-requires c κs = (_, c.before.before.before.before.before.requires.0, omega arith)
 
-mul-result : tie.Need-overflow-mul-result invariant-loop decreases-loop
+mul-result : tie.Need-overflow-mul-result invariant-loop-i decreases-loop-i
 mul-result c = search rules
 
-slice-write-result : tie.Need-slice-write-result invariant-loop decreases-loop
+slice-write-result : tie.Need-slice-write-result invariant-loop-i decreases-loop-i
 slice-write-result c = search rules
 
-add-i : tie.Need-overflow-add-i invariant-loop decreases-loop
-add-i c = search rules
+overflow_step-i : tie.Need-overflow_step-i invariant-loop-i decreases-loop-i
+overflow_step-i c = search rules
 
-loop-less : tie.Need-loop-smaller invariant-loop decreases-loop
-loop-less c = search rules
+loop-i-smaller : tie.Need-loop-i-smaller invariant-loop-i decreases-loop-i
+loop-i-smaller c = search rules
 
-loop-again : tie.Need-loop-preserved invariant-loop decreases-loop
-loop-again c =
+loop-i-preserved : tie.Need-loop-i-preserved invariant-loop-i decreases-loop-i
+loop-i-preserved c =
     let at_loop = c.before.before.before in
     let a = at_loop.before.before.before.args in
-    let i = at_loop.loop.i in (
+    let i = at_loop.loop-i.i in (
       omega arith,
-      rw length-set at_loop.loop.invariant.1,
-      electric_turn a.factor a.m a.list.now a.vector.now a.result.now at_loop.loop.result i _ (omega (arith, at_loop.before.before.before.requires.2)) at_loop.loop.invariant.2 (rw (zero, ← c.row_energy.ensures)),
+      rw length-set at_loop.loop-i.invariant.1,
+      electric_turn a.factor a.m a.list.now a.vector.now a.result.now at_loop.loop-i.result i _ (omega (arith, at_loop.before.before.before.requires.2)) at_loop.loop-i.invariant.2 (rw (zero, ← c.row_energy.ensures)),
     )
 
-same_length : tie.Need-same-length invariant-loop decreases-loop
-same_length c = search rules
+shape_of-res : tie.Need-shape_of-res invariant-loop-i decreases-loop-i
+shape_of-res c = search rules
 
-returns : tie.Need-returns invariant-loop decreases-loop
+returns : tie.Need-returns invariant-loop-i decreases-loop-i
 returns c =
     let a = c.before.before.before.before.args in
-    let past : c.before.loop.i ≡ a.n = omega arith in
-    (rw past at c.before.loop.invariant.2) ∙ electric_all a.factor a.m a.list.now a.vector.now a.n a.result.now
+    let past : c.before.loop-i.i ≡ a.n = omega arith in
+    (rw past at c.before.loop-i.invariant.2) ∙ electric_all a.factor a.m a.list.now a.vector.now a.n a.result.now
+
+offset_bounds-res-i : tie.Need-offset_bounds-res-i invariant-loop-i decreases-loop-i
+offset_bounds-res-i c = search rules
+
+bounds-res-i : tie.Need-bounds-res-i invariant-loop-i decreases-loop-i
+bounds-res-i c = search rules
 
 pub write_electric_spec : {M : Type 1} → statement M
 write_electric_spec =
     tie.close
-    (tie.spec
-    invariant-loop
-    decreases-loop
-    loop-holds
-    mul-x
-    shared-slice-read-x
-    row_energy-requires
-    mul-result
-    slice-write-result
-    add-i
-    loop-less
-    loop-again
-    same_length
-    returns)
+    (tie.spec invariant-loop-i decreases-loop-i loop-i-init offset_bounds-vector-i bounds-vector-i row_energy-requires offset_bounds-res-i bounds-res-i overflow_step-i loop-i-smaller loop-i-preserved shape_of-res returns)

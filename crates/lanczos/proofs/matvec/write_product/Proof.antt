@@ -17,8 +17,8 @@ add_magnetic-requires c κs =
     let pre = charged.before.before.before.before.before.requires in
     (pre.0, pre.1, pre.2, pre.3, rw charged.write_electric.auto.1.1.1.1.1.0 pre.4, pre.5)
 
-same_length : tie.Need-same-length
-same_length c = search rules
+shape_of-res : tie.Need-shape_of-res
+shape_of-res c = search rules
 
 returns : tie.Need-returns
 returns c =
@@ -30,4 +30,4 @@ returns c =
 
 pub write_product_spec : {M : Type 1} → statement M
 write_product_spec =
-    tie.close (tie.spec write_electric-requires add_magnetic-requires same_length returns)
+    tie.close (tie.spec write_electric-requires add_magnetic-requires shape_of-res returns)

@@ -13,62 +13,50 @@ use borrow.Author.Rules.{rules}
 use Rattle.lanczos.proofs.state_runs.cycle_edges.Statement.{statement}
 use Rattle.lanczos.proofs.state_runs.cycle_edges.Tie as tie
 
-abbrev invariant-loop : tie.invariant-loop
-invariant-loop cycle edges₀ count₀ e₀ e-end edges count e = (e ≤ length cycle) × (e-end ≡ length cycle) × Covering edges count cycle e
+abbrev invariant-loop-e : tie.invariant-loop-e
+invariant-loop-e cycle edges₀ count₀ e₀ e-end edges count e = (e ≤ length cycle) × (e-end ≡ length cycle) × Covering edges count cycle e
 
-abbrev decreases-loop : tie.decreases-loop
-decreases-loop cycle edges₀ count₀ e₀ e-end edges count e = length cycle - e
+abbrev decreases-loop-e : tie.decreases-loop-e
+decreases-loop-e cycle edges₀ count₀ e₀ e-end edges count e = length cycle - e
 
-loop-holds : tie.Need-loop-init invariant-loop decreases-loop
-loop-holds c = (omega arith, refl, covering_none _ _ refl)
+loop-e-init : tie.Need-loop-e-init invariant-loop-e decreases-loop-e
+loop-e-init c = (omega arith, refl, covering_none _ _ refl)
 
-cast-edges : tie.Need-overflow-cast-edges invariant-loop decreases-loop
-cast-edges c = search rules
+overflow_cast-edges : tie.Need-overflow_cast-edges invariant-loop-e decreases-loop-e
+overflow_cast-edges c = search rules
 
-array-write-edges : tie.Need-array-write-edges invariant-loop decreases-loop
-array-write-edges c = search rules
+bounds-edges-count : tie.Need-bounds-edges-count invariant-loop-e decreases-loop-e
+bounds-edges-count c = search rules
 
-shared-slice-copy-out-count : tie.Need-shared-slice-copy-out-count invariant-loop decreases-loop
-shared-slice-copy-out-count c = search rules
+bounds-cycle-e : tie.Need-bounds-cycle-e invariant-loop-e decreases-loop-e
+bounds-cycle-e c = search rules
 
-cast-count : tie.Need-overflow-cast-count invariant-loop decreases-loop
-cast-count c = search rules
+overflow_cast-count : tie.Need-overflow_cast-count invariant-loop-e decreases-loop-e
+overflow_cast-count c = search rules
 
-add-count : tie.Need-overflow-add-count invariant-loop decreases-loop
-add-count c =
+overflow_add-count : tie.Need-overflow_add-count invariant-loop-e decreases-loop-e
+overflow_add-count c =
     let at_loop = c.before.before in
-    let h = bool_small (not (eqb (of_z w8 (get_or at_loop.before.args.cycle.now at_loop.loop.e (pos 0))) 0)) in
-    let few = at_loop.loop.invariant.2.few in
+    let h = bool_small (not (eqb (of_z w8 (get_or at_loop.before.args.cycle.now at_loop.loop-e.e (pos 0))) 0)) in
+    let few = at_loop.loop-e.invariant.2.few in
     search rules
 
-add-e : tie.Need-overflow-add-e invariant-loop decreases-loop
-add-e c = search rules
+overflow_step-e : tie.Need-overflow_step-e invariant-loop-e decreases-loop-e
+overflow_step-e c = search rules
 
-loop-less : tie.Need-loop-smaller invariant-loop decreases-loop
-loop-less c = search rules
+loop-e-smaller : tie.Need-loop-e-smaller invariant-loop-e decreases-loop-e
+loop-e-smaller c = search rules
 
-loop-again : tie.Need-loop-preserved invariant-loop decreases-loop
-loop-again c =
+loop-e-preserved : tie.Need-loop-e-preserved invariant-loop-e decreases-loop-e
+loop-e-preserved c =
     let at_loop = c.before.before in
     let s = at_loop.before in
-    (omega arith, refl, covering_more _ _ _ _ at_loop.loop.invariant.2 (omega (arith, s.requires)) _ (sym (zero8 (get_or s.args.cycle.now at_loop.loop.e (pos 0)) c.count.given)))
+    (omega arith, refl, covering_more _ _ _ _ at_loop.loop-e.invariant.2 (omega (arith, s.requires)) _ (sym (zero8 (get_or s.args.cycle.now at_loop.loop-e.e (pos 0)) c.count-1.given)))
 
-returns : tie.Need-returns invariant-loop decreases-loop
-returns c = covering_all _ _ _ _ (omega arith) c.before.loop.invariant.2
+returns : tie.Need-returns invariant-loop-e decreases-loop-e
+returns c = covering_all _ _ _ _ (omega arith) c.before.loop-e.invariant.2
 
 pub cycle_edges_spec : {M : Type 1} → statement M
 cycle_edges_spec =
     tie.close
-    (tie.spec
-    invariant-loop
-    decreases-loop
-    loop-holds
-    cast-edges
-    array-write-edges
-    shared-slice-copy-out-count
-    cast-count
-    add-count
-    add-e
-    loop-less
-    loop-again
-    returns)
+    (tie.spec invariant-loop-e decreases-loop-e loop-e-init overflow_cast-edges bounds-edges-count bounds-cycle-e overflow_cast-count overflow_add-count overflow_step-e loop-e-smaller loop-e-preserved returns)

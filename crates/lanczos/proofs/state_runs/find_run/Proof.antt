@@ -9,14 +9,14 @@ use borrow.Author.Rules.{rules}
 use Rattle.lanczos.proofs.state_runs.find_run.Statement.{statement}
 use Rattle.lanczos.proofs.state_runs.find_run.Tie as tie
 
-next_staying-requires : tie.Need-next_staying-requires
-next_staying-requires c κs = (c.requires.0.movable, omega arith, refl, c.requires.1)
+next_staying-a-requires : tie.Need-next_staying-a-requires
+next_staying-a-requires c κs = (c.requires.0.movable, omega arith, refl, c.requires.1)
 
-next_staying-requires-2 : tie.Need-next_staying-requires-2
-next_staying-requires-2 c κs = (c.before.requires.0.movable, omega arith, refl, c.before.requires.2)
+next_staying-b-requires : tie.Need-next_staying-b-requires
+next_staying-b-requires c κs = (c.before.requires.0.movable, omega arith, refl, c.before.requires.2)
 
-returns : tie.Need-returns
-returns c =
+returns-then-n-a : tie.Need-returns-then-n-a
+returns-then-n-a c =
     record {
       goes = λ l. absurd (omega arith);
       over = λ l.
@@ -26,45 +26,45 @@ returns c =
             none = refl;
             a = _;
             b = _;
-            next = c.before.before.next_staying.ensures;
-            back = c.before.next-staying2.ensures;
-            missing = one_missing _ _ _ c.if1.true;
+            next = c.before.before.next_staying-a.ensures;
+            back = c.before.next_staying-b.ensures;
+            missing = one_missing _ _ _ c.if-n-a.true;
           };
     }
 
 -- both rows are there
-below : (c : tie.Else1) → (c.before.before.next_staying.result < c.before.before.before.args.s.states) × (c.before.next-staying2.result < c.before.before.before.args.s.states)
+below : (c : tie.Else-n-a) → (c.before.before.next_staying-a.result < c.before.before.before.args.s.states) × (c.before.next_staying-b.result < c.before.before.before.args.s.states)
 below c =
-    let fell = or_fell _ _ c.if1.false in
+    let fell = or_fell _ _ c.if-n-a.false in
     (leb-false _ _ fell.0, leb-false _ _ fell.1)
 
-run_length-requires : tie.Need-run_length-requires
-run_length-requires c κs =
+run_length-p-requires : tie.Need-run_length-p-requires
+run_length-p-requires c κs =
     let s = c.before.before.before in
-    (s.requires.0, omega arith, refl, (below c).0, c.before.before.next_staying.ensures.there (below c).0)
+    (s.requires.0, omega arith, refl, (below c).0, c.before.before.next_staying-a.ensures.there (below c).0)
 
-run_length-requires-2 : tie.Need-run_length-requires-2
-run_length-requires-2 c κs =
+run_length-q-requires : tie.Need-run_length-q-requires
+run_length-q-requires c κs =
     let fit = c.before in
     let s = fit.before.before.before in
-    (s.requires.0, omega arith, refl, (below fit).1, fit.before.next-staying2.ensures.there (below fit).1)
+    (s.requires.0, omega arith, refl, (below fit).1, fit.before.next_staying-b.ensures.there (below fit).1)
 
 smaller-requires : tie.Need-smaller-requires
 smaller-requires c κs = search rules
 
-returns-2 : tie.Need-returns-2
-returns-2 c =
+returns : tie.Need-returns
+returns c =
     let two = c.before in
     let one = two.before in
     let fit = one.before in
-    let first = one.run_length.ensures in
-    let second = two.run-length2.ensures in
+    let first = one.run_length-p.ensures in
+    let second = two.run_length-q.ensures in
     let some : 1 ≤ c.smaller.result = omega (arith, c.smaller.ensures, first.cycle.some, second.cycle.some) in
     record {
       goes = λ l.
           record {
-            next = fit.before.before.next_staying.ensures;
-            back = fit.before.next-staying2.ensures;
+            next = fit.before.before.next_staying-a.ensures;
+            back = fit.before.next_staying-b.ensures;
             below = (below fit).1;
             some = some;
             forth_run = length_shorter _ _ _ _ _ _ _ _ _ _ some (omega (arith, c.smaller.ensures)) first;
@@ -76,11 +76,4 @@ returns-2 c =
 pub find_run_spec : {M : Type 1} → statement M
 find_run_spec =
     tie.close
-    (tie.spec
-    next_staying-requires
-    next_staying-requires-2
-    returns
-    run_length-requires
-    run_length-requires-2
-    smaller-requires
-    returns-2)
+    (tie.spec next_staying-a-requires next_staying-b-requires returns-then-n-a run_length-p-requires run_length-q-requires smaller-requires returns)

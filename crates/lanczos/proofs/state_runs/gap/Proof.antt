@@ -18,11 +18,11 @@ b_back c = back32 c.args.b c.ranges.b.sfits
 small : (c : tie.Start) → (nat_abs c.args.a ≤ 2 ^ 24) × (nat_abs c.args.b ≤ 2 ^ 24)
 small c = (omega (arith, c.requires.0), omega (arith, c.requires.1))
 
-sub-result : tie.Need-overflow-sub-result
-sub-result c = rw (a_back c, b_back c) (difference_fits c.args.a c.args.b (small c).0 (small c).1)
+overflow_sub-result : tie.Need-overflow_sub-result
+overflow_sub-result c = rw (a_back c, b_back c) (difference_fits c.args.a c.args.b (small c).0 (small c).1)
 
-cast-result : tie.Need-overflow-cast-result
-cast-result c =
+overflow_cast-result : tie.Need-overflow_cast-result
+overflow_cast-result c =
     rw (a_back c, b_back c, difference_back c.args.a c.args.b (small c).0 (small c).1)
     (difference_casts c.args.a c.args.b (small c).0 (small c).1 c.requires.2)
 
@@ -30,4 +30,4 @@ returns : tie.Need-returns
 returns c = rw (a_back c, b_back c, difference_back c.args.a c.args.b (small c).0 (small c).1)
 
 pub gap_spec : {M : Type 1} → statement M
-gap_spec = tie.close (tie.spec sub-result cast-result returns)
+gap_spec = tie.close (tie.spec overflow_sub-result overflow_cast-result returns)

@@ -13,27 +13,27 @@ by_back c = back32 c.args.by c.ranges.by.sfits
 back_back : (c : tie.Start) → to_z w32 (of_z w32 c.args.back) ≡ c.args.back
 back_back c = back32 c.args.back c.ranges.back.sfits
 
-moved_room-requires : tie.Need-moved_room-requires
-moved_room-requires c κs = rw (by_back c) (c.requires.0, c.requires.1.first_below, (three_kept _ _ _ _ c.requires.4).0, c.requires.5)
+moved_room-one-requires : tie.Need-moved_room-one-requires
+moved_room-one-requires c κs = rw (by_back c) (c.requires.0, c.requires.1.first_below, (three_kept _ _ _ _ c.requires.4).0, c.requires.5)
 
-moved_room-requires-2 : tie.Need-moved_room-requires-2
-moved_room-requires-2 c κs =
+moved_room-two-requires : tie.Need-moved_room-two-requires
+moved_room-two-requires c κs =
     let s = c.before in
-    rw (back_back s, s.requires.3) (s.requires.0, s.requires.1.second_below, (three_kept _ _ _ _ s.requires.4).1, c.moved_room.ensures.some)
+    rw (back_back s, s.requires.3) (s.requires.0, s.requires.1.second_below, (three_kept _ _ _ _ s.requires.4).1, c.moved_room-one.ensures.some)
 
-moved_room-requires-3 : tie.Need-moved_room-requires-3
-moved_room-requires-3 c κs =
+moved_room-requires : tie.Need-moved_room-requires
+moved_room-requires c κs =
     let s = c.before.before in
-    rw (by_back s) (s.requires.0, s.requires.1.third_below, (three_kept _ _ _ _ s.requires.4).2, c.moved-room2.ensures.some)
+    rw (by_back s) (s.requires.0, s.requires.1.third_below, (three_kept _ _ _ _ s.requires.4).2, c.moved_room-two.ensures.some)
 
 returns : tie.Need-returns
 returns c =
     let two = c.before in
     let one = two.before in
     let s = one.before in
-    let first = rw (by_back s) at one.moved_room.ensures in
-    let second = rw (back_back s, s.requires.3) at two.moved-room2.ensures in
-    let third = rw (by_back s) at c.moved-room3.ensures in
+    let first = rw (by_back s) at one.moved_room-one.ensures in
+    let second = rw (back_back s, s.requires.3) at two.moved_room-two.ensures in
+    let third = rw (by_back s) at c.moved_room.ensures in
     record {
       some = third.some;
       limited = omega (arith, first.limited, second.limited, third.limited);
@@ -44,4 +44,4 @@ returns c =
 
 pub move_run_spec : {M : Type 1} → statement M
 move_run_spec =
-    tie.close (tie.spec moved_room-requires moved_room-requires-2 moved_room-requires-3 returns)
+    tie.close (tie.spec moved_room-one-requires moved_room-two-requires moved_room-requires returns)

@@ -15,12 +15,12 @@ abbrev start : tie.After-turned → tie.Start
 start c = c.before.before.before.before
 
 top_is : (c : tie.After-usize_to_i32) → to_z w32 (of_z w32 c.usize_to_i32.result) ≡ pos (c.before.before.before.args.lambda + 1)
-top_is c = back32 c.usize_to_i32.result c.usize_to_i32.type-inv ∙ c.usize_to_i32.ensures
+top_is c = back32 c.usize_to_i32.result c.usize_to_i32.type_inv ∙ c.usize_to_i32.ensures
 
 turned_is : (c : tie.After-turned) → to_z w32 (of_z w32 c.turned.result) ≡ (start c).args.x *ℤ (start c).args.sign
 turned_is c =
     let s = start c in
-    back32 c.turned.result c.turned.type-inv ∙ c.turned.ensures ∙ ap₂ ◌*ℤ◌ (back32 s.args.x s.fits.x.sfits) (back8 s.args.sign s.fits.sign.sfits)
+    back32 c.turned.result c.turned.type_inv ∙ c.turned.ensures ∙ ap₂ ◌*ℤ◌ (back32 s.args.x s.fits.x.sfits) (back8 s.args.sign s.fits.sign.sfits)
 
 turned_small : (c : tie.After-turned) → nat_abs ((start c).args.x *ℤ (start c).args.sign) ≤ (start c).args.lambda
 turned_small c = let s = start c in omega (arith, size_sign s.args.x s.args.sign s.pre.2, s.pre.0)
@@ -28,13 +28,13 @@ turned_small c = let s = start c in omega (arith, size_sign s.args.x s.args.sign
 is_zero-requires : tie.Need-is_zero-requires
 is_zero-requires c κs = search rules
 
-returns : tie.Need-returns
-returns c =
+returns-then-is_zero : tie.Need-returns-then-is_zero
+returns-then-is_zero c =
     let s = c.before.before in
-    room_still _ _ _ s.requires.0 (ap (λ y. equal y (pos 0)) (sym (back8 s.args.sign s.ranges.sign.sfits)) ∙ sym c.before.is_zero.ensures ∙ c.if1.true) _ s.requires.3
+    room_still _ _ _ s.requires.0 (ap (λ y. equal y (pos 0)) (sym (back8 s.args.sign s.ranges.sign.sfits)) ∙ sym c.before.is_zero.ensures ∙ c.if-is_zero.true) _ s.requires.3
 
-add-usize-to-i32 : tie.Need-overflow-add-usize-to-i32
-add-usize-to-i32 c = search rules
+overflow_add-lambda : tie.Need-overflow_add-lambda
+overflow_add-lambda c = search rules
 
 usize_to_i32-requires : tie.Need-usize_to_i32-requires
 usize_to_i32-requires c κs = search rules
@@ -52,8 +52,8 @@ gap-requires c κs =
 smaller-requires : tie.Need-smaller-requires
 smaller-requires c κs = search rules
 
-returns-2 : tie.Need-returns-2
-returns-2 c =
+returns : tie.Need-returns
+returns c =
     let turning = c.before.before in
     let s = start turning in
     room_is s.args.lambda s.args.x s.pre.0 s.args.sign s.pre.2 s.args.most _ s.pre.3
@@ -62,12 +62,4 @@ returns-2 c =
 pub room_spec : {M : Type 1} → statement M
 room_spec =
     tie.close
-    (tie.spec
-    is_zero-requires
-    returns
-    add-usize-to-i32
-    usize_to_i32-requires
-    turned-requires
-    gap-requires
-    smaller-requires
-    returns-2)
+    (tie.spec is_zero-requires returns-then-is_zero overflow_add-lambda usize_to_i32-requires turned-requires gap-requires smaller-requires returns)

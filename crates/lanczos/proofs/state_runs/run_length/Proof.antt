@@ -24,29 +24,29 @@ by_back c = back32 c.args.by c.ranges.by.sfits
 back_back : (c : tie.Start) → to_z w32 (of_z w32 c.args.back) ≡ c.args.back
 back_back c = back32 c.args.back c.ranges.back.sfits
 
-mul_at : tie.Need-overflow-mul-at
-mul_at c = let h = inside c in search rules
+overflow_mul-at : tie.Need-overflow_mul-at
+overflow_mul-at c = let h = inside c in search rules
 
-add_row : tie.Need-overflow-add-row
-add_row c = let h = inside c in search rules
+overflow_add-row : tie.Need-overflow_add-row
+overflow_add-row c = let h = inside c in search rules
 
-mul-row : tie.Need-overflow-mul-row
-mul-row c = let h = inside c in search rules
+offset_bounds-list-at : tie.Need-offset_bounds-list-at
+offset_bounds-list-at c = let h = inside c in search rules
 
-sub_row : tie.Need-overflow-sub-row
-sub_row c = search rules
+slice_bounds-row-count : tie.Need-slice_bounds-row-count
+slice_bounds-row-count c = search rules
 
-part-row-start : tie.Need-slice-bounds-row-start
-part-row-start c = search rules
+slice_bounds-row-start : tie.Need-slice_bounds-row-start
+slice_bounds-row-start c = search rules
 
-part-row-end : tie.Need-slice-bounds-row-end
-part-row-end c = let h = inside c in search rules
+slice_bounds-row-end : tie.Need-slice_bounds-row-end
+slice_bounds-row-end c = let h = inside c in search rules
 
-sub-cycle-run : tie.Need-overflow-sub-cycle-run
-sub-cycle-run c = search rules
+overflow_sub-s : tie.Need-overflow_sub-s
+overflow_sub-s c = search rules
 
-cycle_run-requires : tie.Need-cycle_run-requires
-cycle_run-requires c κs =
+cycle_run-r-requires : tie.Need-cycle_run-r-requires
+cycle_run-r-requires c κs =
     let s = c.before.before in
     rw (row_part s.args.list.now s.args.s.edges s.args.place) (run_banded _ _ _ _ _ _ s.requires.0 s.args.place s.requires.3, s.requires.0.covers, omega (arith, s.requires.3))
 
@@ -54,28 +54,18 @@ move_run-requires : tie.Need-move_run-requires
 move_run-requires c κs =
     let s = c.before.before.before in
     rw (row_part s.args.list.now s.args.s.edges s.args.place, by_back s, back_back s)
-    (run_banded _ _ _ _ _ _ s.requires.0 s.args.place s.requires.3, row_movable _ _ _ s.requires.0.movable s.args.place s.requires.3, s.requires.1, s.requires.2, s.requires.4, c.cycle_run.ensures.some)
+    (run_banded _ _ _ _ _ _ s.requires.0 s.args.place s.requires.3, row_movable _ _ _ s.requires.0.movable s.args.place s.requires.3, s.requires.1, s.requires.2, s.requires.4, c.cycle_run-r.ensures.some)
 
 returns : tie.Need-returns
 returns c =
     let went = c.before in
     let s = went.before.before.before in
     let part = row_part s.args.list.now s.args.s.edges s.args.place in
-    let cycle = rw part at went.cycle_run.ensures in
+    let cycle = rw part at went.cycle_run-r.ensures in
     let moves = rw (part, by_back s) at c.move_run.ensures in
     record { cycle = cycle_shorter _ _ _ _ _ _ _ _ moves.some moves.limited cycle; moves = move_shorter _ _ _ _ _ _ _ _ moves.some (omega arith) moves }
 
 pub run_length_spec : {M : Type 1} → statement M
 run_length_spec =
     tie.close
-    (tie.spec
-    mul_at
-    add_row
-    mul-row
-    sub_row
-    part-row-start
-    part-row-end
-    sub-cycle-run
-    cycle_run-requires
-    move_run-requires
-    returns)
+    (tie.spec overflow_mul-at overflow_add-row offset_bounds-list-at slice_bounds-row-count slice_bounds-row-start slice_bounds-row-end overflow_sub-s cycle_run-r-requires move_run-requires returns)

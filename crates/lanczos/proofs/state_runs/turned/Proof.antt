@@ -10,20 +10,20 @@ use Rattle.lanczos.proofs.state_runs.turned.Statement.{statement}
 use Rattle.lanczos.proofs.state_runs.turned.Tie as tie
 
 is : (c : tie.After-i8_to_i32) → to_z w32 (of_z w32 c.before.args.x) *ℤ to_z w32 (of_z w32 c.i8_to_i32.result) ≡ c.before.args.x *ℤ c.before.args.sign
-is c = ap₂ ◌*ℤ◌ (back32 c.before.args.x c.before.ranges.x.sfits) (back32 c.i8_to_i32.result c.i8_to_i32.type-inv ∙ c.i8_to_i32.ensures ∙ back8 c.before.args.sign c.before.ranges.sign.sfits)
+is c = ap₂ ◌*ℤ◌ (back32 c.before.args.x c.before.ranges.x.sfits) (back32 c.i8_to_i32.result c.i8_to_i32.type_inv ∙ c.i8_to_i32.ensures ∙ back8 c.before.args.sign c.before.ranges.sign.sfits)
 
 i8_to_i32-requires : tie.Need-i8_to_i32-requires
 i8_to_i32-requires c κs = search rules
 
-mul-result : tie.Need-overflow-mul-result
-mul-result c =
+overflow_mul-result : tie.Need-overflow_mul-result
+overflow_mul-result c =
     let x = c.before.args.x in
     let sign = c.before.args.sign in
     let pre = c.before.requires in
     rw (is c) (size_fits w32 (x *ℤ sign) (omega (arith, pre.0, size_sign x sign pre.1)))
 
 returns : tie.Need-returns
-returns c = to_z-of_z (mul-result c) ∙ is c
+returns c = to_z-of_z (overflow_mul-result c) ∙ is c
 
 pub turned_spec : {M : Type 1} → statement M
-turned_spec = tie.close (tie.spec i8_to_i32-requires mul-result returns)
+turned_spec = tie.close (tie.spec i8_to_i32-requires overflow_mul-result returns)

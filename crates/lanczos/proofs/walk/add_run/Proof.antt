@@ -9,101 +9,115 @@ use borrow.Author.Rules.{rules}
 use Rattle.lanczos.proofs.walk.add_run.Statement.{statement}
 use Rattle.lanczos.proofs.walk.add_run.Tie as tie
 
-abbrev invariant-loop : tie.invariant-loop
-invariant-loop result₀ vector i j count x k₀ result k = (k ≤ count) × (length result ≡ length result₀) × (result ≡ run_added x vector i j k result₀)
+abbrev invariant-loop-k : tie.invariant-loop-k
+invariant-loop-k result₀ vector i j count x k₀ result k = (k ≤ count) × (length result ≡ length result₀) × (result ≡ run_added x vector i j k result₀)
 
-abbrev decreases-loop : tie.decreases-loop
-decreases-loop result₀ vector i j count x k₀ result k = count - k
+abbrev decreases-loop-k : tie.decreases-loop-k
+decreases-loop-k result₀ vector i j count x k₀ result k = count - k
 
-loop-holds : tie.Need-loop-init invariant-loop decreases-loop
+loop-k-init : tie.Need-loop-k-init invariant-loop-k decreases-loop-k
 unfolding run_added
-loop-holds c = (omega arith, refl, refl)
+loop-k-init c = (omega arith, refl, refl)
 
-add_a : tie.Need-overflow-add-a invariant-loop decreases-loop
-add_a c = search rules
+overflow_add-a : tie.Need-overflow_add-a invariant-loop-k decreases-loop-k
+overflow_add-a c = search rules
 
-add-b : tie.Need-overflow-add-b invariant-loop decreases-loop
-add-b c = search rules
+overflow_add-b : tie.Need-overflow_add-b invariant-loop-k decreases-loop-k
+overflow_add-b c = search rules
 
-mul-result : tie.Need-overflow-mul-result invariant-loop decreases-loop
+mul-result : tie.Need-overflow-mul-result invariant-loop-k decreases-loop-k
 mul-result c = search rules
 
-slice-read-result : tie.Need-slice-read-result invariant-loop decreases-loop
+slice-read-result : tie.Need-slice-read-result invariant-loop-k decreases-loop-k
 slice-read-result c = search rules
 
-mul-result-2 : tie.Need-overflow-mul-result-2 invariant-loop decreases-loop
+mul-result-2 : tie.Need-overflow-mul-result-2 invariant-loop-k decreases-loop-k
 mul-result-2 c = search rules
 
-shared-slice-read-result : tie.Need-shared-slice-read-result invariant-loop decreases-loop
+shared-slice-read-result : tie.Need-shared-slice-read-result invariant-loop-k decreases-loop-k
 shared-slice-read-result c = search rules
 
-mul-result-3 : tie.Need-overflow-mul-result-3 invariant-loop decreases-loop
+mul-result-3 : tie.Need-overflow-mul-result-3 invariant-loop-k decreases-loop-k
 mul-result-3 c = search rules
 
-slice-write-result : tie.Need-slice-write-result invariant-loop decreases-loop
+slice-write-result : tie.Need-slice-write-result invariant-loop-k decreases-loop-k
 slice-write-result c = search rules
 
-mul-result-4 : tie.Need-overflow-mul-result-4 invariant-loop decreases-loop
+mul-result-4 : tie.Need-overflow-mul-result-4 invariant-loop-k decreases-loop-k
 mul-result-4 c = search rules
 
-slice-read-result-2 : tie.Need-slice-read-result-2 invariant-loop decreases-loop
+slice-read-result-2 : tie.Need-slice-read-result-2 invariant-loop-k decreases-loop-k
 slice-read-result-2 c = rw length-set (omega arith)
 
-mul-result-5 : tie.Need-overflow-mul-result-5 invariant-loop decreases-loop
+mul-result-5 : tie.Need-overflow-mul-result-5 invariant-loop-k decreases-loop-k
 mul-result-5 c = search rules
 
-shared-slice-read-result-2 : tie.Need-shared-slice-read-result-2 invariant-loop decreases-loop
+shared-slice-read-result-2 : tie.Need-shared-slice-read-result-2 invariant-loop-k decreases-loop-k
 shared-slice-read-result-2 c = search rules
 
-mul-result-6 : tie.Need-overflow-mul-result-6 invariant-loop decreases-loop
+mul-result-6 : tie.Need-overflow-mul-result-6 invariant-loop-k decreases-loop-k
 mul-result-6 c = search rules
 
-slice-write-result-2 : tie.Need-slice-write-result-2 invariant-loop decreases-loop
+slice-write-result-2 : tie.Need-slice-write-result-2 invariant-loop-k decreases-loop-k
 slice-write-result-2 c = rw length-set (omega arith)
 
-add-k : tie.Need-overflow-add-k invariant-loop decreases-loop
-add-k c = search rules
+overflow_step-k : tie.Need-overflow_step-k invariant-loop-k decreases-loop-k
+overflow_step-k c = search rules
 
-loop-less : tie.Need-loop-smaller invariant-loop decreases-loop
-loop-less c = search rules
+loop-k-smaller : tie.Need-loop-k-smaller invariant-loop-k decreases-loop-k
+loop-k-smaller c = search rules
 
-loop-again : tie.Need-loop-preserved invariant-loop decreases-loop
+loop-k-preserved : tie.Need-loop-k-preserved invariant-loop-k decreases-loop-k
 unfolding run_added with_hit
-loop-again c =
+loop-k-preserved c =
     let at_loop = c.before.before.before.before.before in
-    (omega arith, rw (length-set, length-set) at_loop.loop.invariant.1, rw (add-one at_loop.loop.k, ← at_loop.loop.invariant.2))
+    (omega arith, rw (length-set, length-set) at_loop.loop-k.invariant.1, rw (add-one at_loop.loop-k.k, ← at_loop.loop-k.invariant.2))
 
-same_length : tie.Need-same-length invariant-loop decreases-loop
-same_length c = search rules
+shape_of-res : tie.Need-shape_of-res invariant-loop-k decreases-loop-k
+shape_of-res c = search rules
 
-returns : tie.Need-returns invariant-loop decreases-loop
+returns : tie.Need-returns invariant-loop-k decreases-loop-k
 returns c =
-    let past : c.before.loop.k ≡ c.before.before.args.count = omega arith in
-    rw past at c.before.loop.invariant.2
+    let past : c.before.loop-k.k ≡ c.before.before.args.count = omega arith in
+    rw past at c.before.loop-k.invariant.2
+
+offset_bounds-res-a : tie.Need-offset_bounds-res-a invariant-loop-k decreases-loop-k
+offset_bounds-res-a c = search rules
+
+bounds-res-a : tie.Need-bounds-res-a invariant-loop-k decreases-loop-k
+bounds-res-a c = search rules
+
+offset_bounds-vector-b : tie.Need-offset_bounds-vector-b invariant-loop-k decreases-loop-k
+offset_bounds-vector-b c = search rules
+
+bounds-vector-b : tie.Need-bounds-vector-b invariant-loop-k decreases-loop-k
+bounds-vector-b c = search rules
+
+offset_bounds-res-a-in-loop-k : tie.Need-offset_bounds-res-a-in-loop-k invariant-loop-k decreases-loop-k
+offset_bounds-res-a-in-loop-k c = search rules
+
+bounds-res-a-in-loop-k : tie.Need-bounds-res-a-in-loop-k invariant-loop-k decreases-loop-k
+bounds-res-a-in-loop-k c = search rules
+
+offset_bounds-res-b : tie.Need-offset_bounds-res-b invariant-loop-k decreases-loop-k
+offset_bounds-res-b c = search rules
+
+bounds-res-b : tie.Need-bounds-res-b invariant-loop-k decreases-loop-k
+bounds-res-b c = search rules
+
+offset_bounds-vector-a : tie.Need-offset_bounds-vector-a invariant-loop-k decreases-loop-k
+offset_bounds-vector-a c = search rules
+
+bounds-vector-a : tie.Need-bounds-vector-a invariant-loop-k decreases-loop-k
+bounds-vector-a c = search rules
+
+offset_bounds-res-b-in-loop-k : tie.Need-offset_bounds-res-b-in-loop-k invariant-loop-k decreases-loop-k
+offset_bounds-res-b-in-loop-k c = search rules
+
+bounds-res-b-in-loop-k : tie.Need-bounds-res-b-in-loop-k invariant-loop-k decreases-loop-k
+bounds-res-b-in-loop-k c = search rules
 
 pub add_run_spec : {M : Type 1} → statement M
 add_run_spec =
     tie.close
-    (tie.spec
-    invariant-loop
-    decreases-loop
-    loop-holds
-    add_a
-    add-b
-    mul-result
-    slice-read-result
-    mul-result-2
-    shared-slice-read-result
-    mul-result-3
-    slice-write-result
-    mul-result-4
-    slice-read-result-2
-    mul-result-5
-    shared-slice-read-result-2
-    mul-result-6
-    slice-write-result-2
-    add-k
-    loop-less
-    loop-again
-    same_length
-    returns)
+    (tie.spec invariant-loop-k decreases-loop-k loop-k-init overflow_add-a overflow_add-b offset_bounds-res-a bounds-res-a offset_bounds-vector-b bounds-vector-b offset_bounds-res-a-in-loop-k bounds-res-a-in-loop-k offset_bounds-res-b bounds-res-b offset_bounds-vector-a bounds-vector-a offset_bounds-res-b-in-loop-k bounds-res-b-in-loop-k overflow_step-k loop-k-smaller loop-k-preserved shape_of-res returns)

@@ -7,11 +7,11 @@ use Rattle.loops.proofs.climbing.direction.Tie as tie
 edge_start-requires : tie.Need-edge_start-requires
 edge_start-requires c κs = search rules
 
-returns : tie.Need-returns
-returns c = rw (eq-eqb _ _ (sym c.before.edge_start.ensures ∙ c.if1.true))
+returns-then-edge_start-v : tie.Need-returns-then-edge_start-v
+returns-then-edge_start-v c = rw (eq-eqb _ _ (sym c.before.edge_start.ensures ∙ c.if-edge_start-v.true))
 
-returns-2 : tie.Need-returns-2
-returns-2 c = rw (← c.before.edge_start.ensures, ne_eqb _ _ c.if1.false)
+returns-else-edge_start-v : tie.Need-returns-else-edge_start-v
+returns-else-edge_start-v c = rw (← c.before.edge_start.ensures, ne_eqb _ _ c.if-edge_start-v.false)
 
 pub direction_spec : {M : Type 1} → statement M
-direction_spec = tie.close (tie.spec edge_start-requires returns returns-2)
+direction_spec = tie.close (tie.spec edge_start-requires returns-then-edge_start-v returns-else-edge_start-v)

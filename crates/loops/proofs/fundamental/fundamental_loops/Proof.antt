@@ -17,88 +17,75 @@ use Rattle.loops.proofs.Noting.{spanned_orderly, noted_parented}
 use Rattle.loops.proofs.fundamental.fundamental_loops.Statement.{statement}
 use Rattle.loops.proofs.fundamental.fundamental_loops.Tie as tie
 
-judge-requires : tie.Need-judge-requires
-judge-requires c κs = search rules
+judge-number-requires : tie.Need-judge-number-requires
+judge-number-requires c κs = search rules
 
-returns : tie.Need-returns
+returns-then-number-ne0 : tie.Need-returns-then-number-ne0
 unfolding loops_call number_answer
-returns c = refuses _ (record_refuses _ c.before.judge.ensures c.if1.true _) (ne_eqb _ 0 c.if1.true)
+returns-then-number-ne0 c = refuses _ (record_refuses _ c.before.judge-number.ensures c.if-number-ne0.true _) (ne_eqb _ 0 c.if-number-ne0.true)
 
 -- the record is accepted, searched, and its parents are noted
-accepted : (c : tie.Else1) → refusal (complex_of c.before.before.before.before.args.t1) ≡ 0
-accepted c = sym c.before.judge.ensures ∙ c.if1.false
+accepted : (c : tie.Else-number-ne0) → refusal (complex_of c.before.before.before.before.args.t1) ≡ 0
+accepted c = sym c.before.judge-number.ensures ∙ c.if-number-ne0.false
 
-spanned : (c : tie.After-search) → Spanned c.before.before.before.before.before.before.before.args.t1 c.search.result
-spanned c = searched_spanned _ _ (accepted c.before.before.before) c.search.ensures
+spanned : (c : tie.After-search-tree) → Spanned c.before.before.before.before.before.before.before.args.t1 c.search-tree.result
+spanned c = searched_spanned _ _ (accepted c.before.before.before) c.search-tree.ensures
 
-parented : (c : tie.After-tree_parents) → Parented c.before.before.before.before.before.before.before.before.before.args.t1 c.tree_parents.result
-parented c = noted_parented _ _ (spanned c.before.before) _ c.tree_parents.ensures
+parented : (c : tie.After-tree_parents-parents) → Parented c.before.before.before.before.before.before.before.before.before.args.t1 c.tree_parents-parents.result
+parented c = noted_parented _ _ (spanned c.before.before) _ c.tree_parents-parents.ensures
 
-search-requires : tie.Need-search-requires
-search-requires c κs = accepted_searchable _ (accepted c.before.before)
+search-tree-requires : tie.Need-search-tree-requires
+search-tree-requires c κs = accepted_searchable _ (accepted c.before.before)
 
-free_edges-requires : tie.Need-free_edges-requires
-free_edges-requires c κs = spanned c
+free_edges-free-requires : tie.Need-free_edges-free-requires
+free_edges-free-requires c κs = spanned c
 
-tree_parents-requires : tie.Need-tree_parents-requires
-tree_parents-requires c κs = spanned_orderly _ _ (spanned c.before)
+tree_parents-parents-requires : tie.Need-tree_parents-parents-requires
+tree_parents-parents-requires c κs = spanned_orderly _ _ (spanned c.before)
 
-total_steps-requires : tie.Need-total_steps-requires
-total_steps-requires c κs = (parented c, c.before.free_edges.ensures)
+total_steps-total-requires : tie.Need-total_steps-total-requires
+total_steps-total-requires c κs = (parented c, c.before.free_edges-free.ensures)
 
-add-if2 : tie.Need-overflow-add-if2
-add-if2 c = let few = c.before.before.free_edges.ensures.few in search rules
+overflow_add-count : tie.Need-overflow_add-count
+overflow_add-count c = let few = c.before.before.free_edges-free.ensures.few in search rules
 
-returns-2 : tie.Need-returns-2
+returns-then-starts-count : tie.Need-returns-then-starts-count
 unfolding loops_call number_answer
-returns-2 c =
+returns-then-starts-count c =
     let counted = c.before in
-    let told = room_told _ _ counted.before.before.free_edges.ensures _ counted.total_steps.ensures _ _ _ in
-    refuses _ (past_record _ (accepted counted.before.before.before.before.before.before) (here (told ∙ c.if2.true))) refl
+    let told = room_told _ _ counted.before.before.free_edges-free.ensures _ counted.total_steps-total.ensures _ _ _ in
+    refuses _ (past_record _ (accepted counted.before.before.before.before.before.before) (here (told ∙ c.if-starts-count.true))) refl
 
 write_loops-requires : tie.Need-write_loops-requires
 write_loops-requires c κs =
     let decided = c.before.before.before in
     let counted = decided.before in
-    let of = counted.before.before.free_edges.ensures in
+    let of = counted.before.before.free_edges-free.ensures in
     let args = counted.before.before.before.before.before.before.before.before.before.before.args in
-    let room = long_enough _ _ of _ counted.total_steps.ensures args.starts.now args.edges.now args.directions.now decided.if2.false in
+    let room = long_enough _ _ of _ counted.total_steps-total.ensures args.starts.now args.edges.now args.directions.now decided.if-starts-count.false in
     (parented counted.before, of, room.0, room.1)
 
-same_length : tie.Need-same-length
-same_length c = search rules
+shape_of-starts : tie.Need-shape_of-starts
+shape_of-starts c = search rules
 
-same-length-2 : tie.Need-same-length-2
-same-length-2 c = search rules
+shape_of-edges : tie.Need-shape_of-edges
+shape_of-edges c = search rules
 
-same-length-3 : tie.Need-same-length-3
-same-length-3 c = search rules
+shape_of-directions : tie.Need-shape_of-directions
+shape_of-directions c = search rules
 
-returns-3 : tie.Need-returns-3
+returns : tie.Need-returns
 unfolding loops_call number_answer
-returns-3 c =
+returns c =
     let decided = c.before.before.before.before.before.before.before.before.before in
     let counted = decided.before in
-    let of = counted.before.before.free_edges.ensures in
+    let of = counted.before.before.free_edges-free.ensures in
     let whole = accepted counted.before.before.before.before.before.before in
-    let told = room_told _ _ of _ counted.total_steps.ensures _ _ _ in
-    ends _ (past_record _ whole (past (told ∙ decided.if2.false) none)) of.count (lists_are c.before.before.before.before.before.write_loops.ensures)
+    let told = room_told _ _ of _ counted.total_steps-total.ensures _ _ _ in
+    ends _ (past_record _ whole (past (told ∙ decided.if-starts-count.false) none)) of.count (lists_are c.before.before.before.before.before.write_loops.ensures)
     (record { few = rw (← of.count) of.few; each = loops_fundamental _ ((accepting.accepted _).0 whole) })
 
 pub fundamental_loops_spec : {M : Type 1} → statement M
 fundamental_loops_spec =
     tie.close
-    (tie.spec
-    judge-requires
-    returns
-    search-requires
-    free_edges-requires
-    tree_parents-requires
-    total_steps-requires
-    add-if2
-    returns-2
-    write_loops-requires
-    same_length
-    same-length-2
-    same-length-3
-    returns-3)
+    (tie.spec judge-number-requires returns-then-number-ne0 search-tree-requires free_edges-free-requires tree_parents-parents-requires total_steps-total-requires overflow_add-count returns-then-starts-count write_loops-requires shape_of-starts shape_of-edges shape_of-directions returns)

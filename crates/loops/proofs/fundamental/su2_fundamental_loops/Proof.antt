@@ -7,17 +7,17 @@ use Rattle.loops.proofs.LoopsTold.{without_directions}
 use Rattle.loops.proofs.fundamental.su2_fundamental_loops.Statement.{statement}
 use Rattle.loops.proofs.fundamental.su2_fundamental_loops.Tie as tie
 
-slice-aggregate-fundamental-loops : tie.Need-slice-aggregate-fundamental-loops
-slice-aggregate-fundamental-loops c = search rules
+slice_bounds-fundamental_loops-end : tie.Need-slice_bounds-fundamental_loops-end
+slice_bounds-fundamental_loops-end c = search rules
 
 fundamental_loops-requires : tie.Need-fundamental_loops-requires
 fundamental_loops-requires c κs = search rules
 
-same_length : tie.Need-same-length
-same_length c = search rules
+shape_of-starts : tie.Need-shape_of-starts
+shape_of-starts c = search rules
 
-same-length-2 : tie.Need-same-length-2
-same-length-2 c = search rules
+shape_of-edges : tie.Need-shape_of-edges
+shape_of-edges c = search rules
 
 -- the list of directions has room for those of every record that is accepted
 returns : tie.Need-returns
@@ -28,9 +28,4 @@ returns c =
 pub su2_fundamental_loops_spec : {M : Type 1} → statement M
 su2_fundamental_loops_spec =
     tie.close
-    (tie.spec
-    slice-aggregate-fundamental-loops
-    fundamental_loops-requires
-    same_length
-    same-length-2
-    returns)
+    (tie.spec slice_bounds-fundamental_loops-end fundamental_loops-requires shape_of-starts shape_of-edges returns)

@@ -10,73 +10,62 @@ use Rattle.loops.proofs.LoopReads.{FreeRead, steps_fit, next_free, edge_inside}
 use Rattle.loops.proofs.fundamental.total_steps.Statement.{statement}
 use Rattle.loops.proofs.fundamental.total_steps.Tie as tie
 
-abbrev invariant-loop : tie.invariant-loop
-invariant-loop c parents free total₀ j₀ j-end total j = (j ≤ free.count) × (j-end ≡ free.count) × (total ≡ length (loop_steps (complex_of c) j))
+abbrev invariant-loop-j : tie.invariant-loop-j
+invariant-loop-j c parents free total₀ j₀ j-end total j = (j ≤ free.count) × (j-end ≡ free.count) × (total ≡ length (loop_steps (complex_of c) j))
 
-abbrev decreases-loop : tie.decreases-loop
-decreases-loop c parents free total₀ j₀ j-end total j = free.count - j
+abbrev decreases-loop-j : tie.decreases-loop-j
+decreases-loop-j c parents free total₀ j₀ j-end total j = free.count - j
 
-loop-holds : tie.Need-loop-init invariant-loop decreases-loop
-loop-holds c = (omega arith, refl, rw (no_steps (complex_of c.args.c)))
+loop-j-init : tie.Need-loop-j-init invariant-loop-j decreases-loop-j
+loop-j-init c = (omega arith, refl, rw (no_steps (complex_of c.args.c)))
 
-element-copy-out-byte : tie.Need-element-copy-out-byte invariant-loop decreases-loop
-element-copy-out-byte c = let few = c.before.before.requires.1.few in omega arith
+bounds-free-j : tie.Need-bounds-free-j invariant-loop-j decreases-loop-j
+bounds-free-j c = let few = c.before.before.requires.1.few in omega arith
 
-byte-requires : tie.Need-byte-requires invariant-loop decreases-loop
+byte-requires : tie.Need-byte-requires invariant-loop-j decreases-loop-j
 byte-requires c κs = tt
 
-abbrev at_loop : tie.After-byte invariant-loop decreases-loop → tie.At-loop invariant-loop decreases-loop
+abbrev at_loop : tie.After-byte invariant-loop-j decreases-loop-j → tie.At-loop-j invariant-loop-j decreases-loop-j
 at_loop c = c.before.before.before
 
-abbrev start : tie.After-byte invariant-loop decreases-loop → tie.Start invariant-loop decreases-loop
+abbrev start : tie.After-byte invariant-loop-j decreases-loop-j → tie.Start invariant-loop-j decreases-loop-j
 start c = c.before.before.before.before
 
-read : (c : tie.After-byte invariant-loop decreases-loop) → FreeRead (start c).args.t3 (at_loop c).loop.j c.byte.result
+read : (c : tie.After-byte invariant-loop-j decreases-loop-j) → FreeRead (start c).args.t3 (at_loop c).loop-j.j c.byte.result
 read c = record { more = omega arith; is = c.byte.ensures }
 
-loop_length-requires : tie.Need-loop_length-requires invariant-loop decreases-loop
-loop_length-requires c κs = ((start c).requires.0, edge_inside (start c).requires.0 (start c).requires.1 (read c))
+loop_length-total-requires : tie.Need-loop_length-total-requires invariant-loop-j decreases-loop-j
+loop_length-total-requires c κs = ((start c).requires.0, edge_inside (start c).requires.0 (start c).requires.1 (read c))
 
 -- the steps of one loop more
-next : (c : tie.After-loop_length invariant-loop decreases-loop)
+next : (c : tie.After-loop_length-total invariant-loop-j decreases-loop-j)
     → let read = c.before in
-    ((at_loop read).loop.total + c.loop_length.result ≡ length (loop_steps (complex_of (start read).args.c) ((at_loop read).loop.j + 1)))
-    × (length (loop_steps (complex_of (start read).args.c) ((at_loop read).loop.j + 1)) ≤ 3969)
+    ((at_loop read).loop-j.total + c.loop_length-total.result ≡ length (loop_steps (complex_of (start read).args.c) ((at_loop read).loop-j.j + 1)))
+    × (length (loop_steps (complex_of (start read).args.c) ((at_loop read).loop-j.j + 1)) ≤ 3969)
 next c =
     let pre = (start c.before).pre in
     let count = steps_count (next_free pre.0 pre.1 (read c.before)) in
-    (omega (arith, (at_loop c.before).loop.inv.2, c.loop_length.ensures), steps_fit pre.0 pre.1 (omega arith))
+    (omega (arith, (at_loop c.before).loop-j.inv.2, c.loop_length-total.ensures), steps_fit pre.0 pre.1 (omega arith))
 
-add_total : tie.Need-overflow-add-total invariant-loop decreases-loop
-add_total c = let n = next c in search rules
+overflow_add-total : tie.Need-overflow_add-total invariant-loop-j decreases-loop-j
+overflow_add-total c = let n = next c in search rules
 
-add-j : tie.Need-overflow-add-j invariant-loop decreases-loop
-add-j c = search rules
+overflow_step-j : tie.Need-overflow_step-j invariant-loop-j decreases-loop-j
+overflow_step-j c = search rules
 
-loop-less : tie.Need-loop-smaller invariant-loop decreases-loop
-loop-less c = search rules
+loop-j-smaller : tie.Need-loop-j-smaller invariant-loop-j decreases-loop-j
+loop-j-smaller c = search rules
 
-loop-again : tie.Need-loop-preserved invariant-loop decreases-loop
-loop-again c = (omega arith, refl, (next c).0)
+loop-j-preserved : tie.Need-loop-j-preserved invariant-loop-j decreases-loop-j
+loop-j-preserved c = (omega arith, refl, (next c).0)
 
-returns : tie.Need-returns invariant-loop decreases-loop
+returns : tie.Need-returns invariant-loop-j decreases-loop-j
 returns c =
     let of = c.before.before.requires.1 in
-    let past : c.before.loop.j ≡ c.before.before.args.t3.count = omega arith in
-    rw (past, of.count) at c.before.loop.invariant.2
+    let past : c.before.loop-j.j ≡ c.before.before.args.t3.count = omega arith in
+    rw (past, of.count) at c.before.loop-j.invariant.2
 
 pub total_steps_spec : {M : Type 1} → statement M
 total_steps_spec =
     tie.close
-    (tie.spec
-    invariant-loop
-    decreases-loop
-    loop-holds
-    element-copy-out-byte
-    byte-requires
-    loop_length-requires
-    add_total
-    add-j
-    loop-less
-    loop-again
-    returns)
+    (tie.spec invariant-loop-j decreases-loop-j loop-j-init bounds-free-j byte-requires loop_length-total-requires overflow_add-total overflow_step-j loop-j-smaller loop-j-preserved returns)

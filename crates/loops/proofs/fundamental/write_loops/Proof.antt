@@ -11,75 +11,75 @@ use Rattle.loops.proofs.LoopReads.{FreeRead, steps_fit, next_free, edge_inside}
 use Rattle.loops.proofs.fundamental.write_loops.Statement.{statement}
 use Rattle.loops.proofs.fundamental.write_loops.Tie as tie
 
-abbrev invariant-loop : tie.invariant-loop
-invariant-loop c parents starts₀ edges₀ directions₀ free at₀ j₀ j-end starts edges directions at j =
+abbrev invariant-loop-j : tie.invariant-loop-j
+invariant-loop-j c parents starts₀ edges₀ directions₀ free at₀ j₀ j-end starts edges directions at j =
     (j ≤ free.count) × (j-end ≡ free.count) × (at ≡ length (loop_steps (complex_of c) j)) × (length starts ≡ length starts₀)
     × Started (complex_of c) starts₀ j starts
     × Laid (complex_of c) edge_of edges₀ j edges
     × Laid (complex_of c) direction_of directions₀ j directions
 
-abbrev decreases-loop : tie.decreases-loop
-decreases-loop c parents starts₀ edges₀ directions₀ free at₀ j₀ j-end starts edges directions at j = free.count - j
+abbrev decreases-loop-j : tie.decreases-loop-j
+decreases-loop-j c parents starts₀ edges₀ directions₀ free at₀ j₀ j-end starts edges directions at j = free.count - j
 
-loop-holds : tie.Need-loop-init invariant-loop decreases-loop
-loop-holds c = let K = complex_of c.before.before.args.c in (omega arith, refl, rw (no_steps K), refl, none_started K _, none_laid K edge_of _, none_laid K direction_of _)
+loop-j-init : tie.Need-loop-j-init invariant-loop-j decreases-loop-j
+loop-j-init c = let K = complex_of c.before.before.args.c in (omega arith, refl, rw (no_steps K), refl, none_started K _, none_laid K edge_of _, none_laid K direction_of _)
 
-abbrev start : tie.At-loop invariant-loop decreases-loop → tie.Start invariant-loop decreases-loop
+abbrev start : tie.At-loop-j invariant-loop-j decreases-loop-j → tie.Start invariant-loop-j decreases-loop-j
 start c = c.before.before.before
 
 -- a start is small, and there is room for it
-small : (c : tie.At-loop invariant-loop decreases-loop) → c.loop.at ≤ 3969
-small c = rw c.loop.invariant.2 (steps_fit (start c).requires.0 (start c).requires.1 c.loop.invariant.0)
+small : (c : tie.At-loop-j invariant-loop-j decreases-loop-j) → c.loop-j.at ≤ 3969
+small c = rw c.loop-j.invariant.2 (steps_fit (start c).requires.0 (start c).requires.1 c.loop-j.invariant.0)
 
-room : (c : tie.At-loop invariant-loop decreases-loop) → c.loop.j < length (start c).args.starts.now
-room c = let is = (start c).requires.1.count in let long = (start c).requires.2 in omega (arith, c.loop.invariant.0)
+room : (c : tie.At-loop-j invariant-loop-j decreases-loop-j) → c.loop-j.j < length (start c).args.starts.now
+room c = let is = (start c).requires.1.count in let long = (start c).requires.2 in omega (arith, c.loop-j.invariant.0)
 
-cast-starts : tie.Need-overflow-cast-starts invariant-loop decreases-loop
-cast-starts c = let s = small c.before in search rules
+overflow_cast-starts : tie.Need-overflow_cast-starts invariant-loop-j decreases-loop-j
+overflow_cast-starts c = let s = small c.before in search rules
 
-mul-starts : tie.Need-overflow-mul-starts invariant-loop decreases-loop
-mul-starts c = let r = room c.before in search rules
+offset_bounds-starts-j : tie.Need-offset_bounds-starts-j invariant-loop-j decreases-loop-j
+offset_bounds-starts-j c = let r = room c.before in search rules
 
-slice-write-starts : tie.Need-slice-write-starts invariant-loop decreases-loop
-slice-write-starts c = let r = room c.before in let same = c.before.loop.invariant.3 in omega arith
+bounds-starts-j : tie.Need-bounds-starts-j invariant-loop-j decreases-loop-j
+bounds-starts-j c = let r = room c.before in let same = c.before.loop-j.invariant.3 in omega arith
 
-element-copy-out-byte : tie.Need-element-copy-out-byte invariant-loop decreases-loop
-element-copy-out-byte c = let few = (start c.before).pre.1.few in omega arith
+bounds-free-j : tie.Need-bounds-free-j invariant-loop-j decreases-loop-j
+bounds-free-j c = let few = (start c.before).pre.1.few in omega arith
 
-byte-requires : tie.Need-byte-requires invariant-loop decreases-loop
+byte-requires : tie.Need-byte-requires invariant-loop-j decreases-loop-j
 byte-requires c κs = tt
 
-abbrev at_loop : tie.After-byte invariant-loop decreases-loop → tie.At-loop invariant-loop decreases-loop
+abbrev at_loop : tie.After-byte invariant-loop-j decreases-loop-j → tie.At-loop-j invariant-loop-j decreases-loop-j
 at_loop c = c.before.before.before
 
-read : (c : tie.After-byte invariant-loop decreases-loop) → FreeRead (start (at_loop c)).args.t3 (at_loop c).loop.j c.byte.result
+read : (c : tie.After-byte invariant-loop-j decreases-loop-j) → FreeRead (start (at_loop c)).args.t3 (at_loop c).loop-j.j c.byte.result
 read c = record { more = omega arith; is = c.byte.ensures }
 
-put_loop-requires : tie.Need-put_loop-requires invariant-loop decreases-loop
-put_loop-requires c κs =
+put_loop-at-requires : tie.Need-put_loop-at-requires invariant-loop-j decreases-loop-j
+put_loop-at-requires c κs =
     let read_it = c.before.before in
     let pre = (start (at_loop read_it)).pre in
-    let inv = (at_loop read_it).loop.invariant in
+    let inv = (at_loop read_it).loop-j.invariant in
     let n = next_free pre.0 pre.1 (read read_it) in (
       pre.0,
       edge_inside pre.0 pre.1 (read read_it),
       record { edge_room = laid_room n inv.2 inv.5 pre.3.edge_room; direction_room = laid_room n inv.2 inv.6 pre.3.direction_room },
     )
 
-add-j : tie.Need-overflow-add-j invariant-loop decreases-loop
-add-j c = search rules
+overflow_step-j : tie.Need-overflow_step-j invariant-loop-j decreases-loop-j
+overflow_step-j c = search rules
 
-loop-less : tie.Need-loop-smaller invariant-loop decreases-loop
-loop-less c = search rules
+loop-j-smaller : tie.Need-loop-j-smaller invariant-loop-j decreases-loop-j
+loop-j-smaller c = search rules
 
-loop-again : tie.Need-loop-preserved invariant-loop decreases-loop
-loop-again c =
+loop-j-preserved : tie.Need-loop-j-preserved invariant-loop-j decreases-loop-j
+loop-j-preserved c =
     let read_it = c.before.before.before.before.before.before in
-    let loop = (at_loop read_it).loop in
+    let loop = (at_loop read_it).loop-j in
     let pre = (start (at_loop read_it)).pre in
     let inv = loop.inv in
     let n = next_free pre.0 pre.1 (read read_it) in
-    let written = c.before.before.before.put_loop.ensures in
+    let written = c.before.before.before.put_loop-at.ensures in
     let count = steps_count n in (
       omega arith,
       refl,
@@ -90,29 +90,29 @@ loop-again c =
       one_laid n inv.2 inv.6 pre.3.direction_room written.steps.direction_list,
     )
 
-cast-starts-2 : tie.Need-overflow-cast-starts-2 invariant-loop decreases-loop
-cast-starts-2 c = let s = small c.before in search rules
+overflow_cast-starts-2 : tie.Need-overflow_cast-starts-2 invariant-loop-j decreases-loop-j
+overflow_cast-starts-2 c = let s = small c.before in search rules
 
-mul-starts-2 : tie.Need-overflow-mul-starts-2 invariant-loop decreases-loop
-mul-starts-2 c = let r = room c.before in search rules
+offset_bounds-starts-count : tie.Need-offset_bounds-starts-count invariant-loop-j decreases-loop-j
+offset_bounds-starts-count c = let r = room c.before in search rules
 
-slice-write-starts-2 : tie.Need-slice-write-starts-2 invariant-loop decreases-loop
-slice-write-starts-2 c = let r = room c.before in let same = c.before.loop.invariant.3 in let is = c.before.loop.invariant.1 in omega arith
+bounds-starts-count : tie.Need-bounds-starts-count invariant-loop-j decreases-loop-j
+bounds-starts-count c = let r = room c.before in let same = c.before.loop-j.invariant.3 in let is = c.before.loop-j.invariant.1 in omega arith
 
-same_length : tie.Need-same-length invariant-loop decreases-loop
-same_length c = let loop = c.before.loop in length-set loop.starts (start c.before).args.t3.count loop.at ∙ loop.invariant.3
+shape_of-starts : tie.Need-shape_of-starts invariant-loop-j decreases-loop-j
+shape_of-starts c = let loop = c.before.loop-j in length-set loop.starts (start c.before).args.t3.count loop.at ∙ loop.invariant.3
 
-same-length-2 : tie.Need-same-length-2 invariant-loop decreases-loop
-same-length-2 c = c.before.loop.invariant.5.long
+shape_of-edges : tie.Need-shape_of-edges invariant-loop-j decreases-loop-j
+shape_of-edges c = c.before.loop-j.invariant.5.long
 
-same-length-3 : tie.Need-same-length-3 invariant-loop decreases-loop
-same-length-3 c = c.before.loop.invariant.6.long
+shape_of-directions : tie.Need-shape_of-directions invariant-loop-j decreases-loop-j
+shape_of-directions c = c.before.loop-j.invariant.6.long
 
-returns : tie.Need-returns invariant-loop decreases-loop
+returns : tie.Need-returns invariant-loop-j decreases-loop-j
 returns c =
-    let inv = c.before.loop.invariant in
+    let inv = c.before.loop-j.invariant in
     let begun = start c.before in
-    let past : begun.args.t3.count ≡ c.before.loop.j = omega arith in
+    let past : begun.args.t3.count ≡ c.before.loop-j.j = omega arith in
     let end = sym past ∙ begun.pre.1.count in
     record {
       start_list = rw past (all_started (one_started inv.4 inv.2 (room c.before)) end);
@@ -123,23 +123,4 @@ returns c =
 pub write_loops_spec : {M : Type 1} → statement M
 write_loops_spec =
     tie.close
-    (tie.spec
-    invariant-loop
-    decreases-loop
-    loop-holds
-    cast-starts
-    mul-starts
-    slice-write-starts
-    element-copy-out-byte
-    byte-requires
-    put_loop-requires
-    add-j
-    loop-less
-    loop-again
-    cast-starts-2
-    mul-starts-2
-    slice-write-starts-2
-    same_length
-    same-length-2
-    same-length-3
-    returns)
+    (tie.spec invariant-loop-j decreases-loop-j loop-j-init overflow_cast-starts offset_bounds-starts-j bounds-starts-j bounds-free-j byte-requires put_loop-at-requires overflow_step-j loop-j-smaller loop-j-preserved overflow_cast-starts-2 offset_bounds-starts-count bounds-starts-count shape_of-starts shape_of-edges shape_of-directions returns)

@@ -10,13 +10,13 @@ use Rattle.matrices.proofs.coupling.checked.Tie as tie
 in_range-requires : tie.Need-in_range-requires
 in_range-requires c κs = search rules
 
+returns-then-in_range : tie.Need-returns-then-in_range
+unfolding coupling_call coupling_answer
+returns-then-in_range c = ends _ (past (ap not (sym c.before.in_range.ensures ∙ c.if-in_range.true)) none) refl refl tt
+
 returns : tie.Need-returns
 unfolding coupling_call coupling_answer
-returns c = ends _ (past (ap not (sym c.before.in_range.ensures ∙ c.if1.true)) none) refl refl tt
-
-returns-2 : tie.Need-returns-2
-unfolding coupling_call coupling_answer
-returns-2 c = refuses _ (here (ap not (sym c.before.in_range.ensures ∙ c.if1.false))) refl
+returns c = refuses _ (here (ap not (sym c.before.in_range.ensures ∙ c.if-in_range.false))) refl
 
 pub checked_spec : {M : Type 1} → statement M
-checked_spec = tie.close (tie.spec in_range-requires returns returns-2)
+checked_spec = tie.close (tie.spec in_range-requires returns-then-in_range returns)

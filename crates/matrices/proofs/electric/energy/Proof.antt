@@ -4,12 +4,12 @@ use Rattle.matrices.proofs.Squares.{whole_held}
 use Rattle.matrices.proofs.electric.energy.Statement.{statement}
 use Rattle.matrices.proofs.electric.energy.Tie as tie
 
-int-to-float-result : tie.Need-int-to-float-result
-int-to-float-result c = whole_held _ c.before.requires
+int_to_float-result : tie.Need-int_to_float-result
+int_to_float-result c = whole_held _ c.before.requires
 
 returns : tie.Need-returns
 unfolding float_of
 returns c = refl
 
 pub energy_spec : {M : Type 1} → statement M
-energy_spec = tie.close (tie.spec int-to-float-result returns)
+energy_spec = tie.close (tie.spec int_to_float-result returns)

@@ -4,8 +4,8 @@ use borrow.Author.Rules.{rules}
 use Rattle.matrices.proofs.electric.mask_energy.Statement.{statement}
 use Rattle.matrices.proofs.electric.mask_energy.Tie as tie
 
-cast-energy : tie.Need-overflow-cast-energy
-cast-energy c = let few = ones-le 64 c.args.mask c.ranges.mask.fits in search rules
+overflow_cast-mask : tie.Need-overflow_cast-mask
+overflow_cast-mask c = let few = ones-le 64 c.args.mask c.ranges.mask.fits in search rules
 
 energy-requires : tie.Need-energy-requires
 energy-requires c κs = let few = ones-le 64 c.args.mask c.ranges.mask.fits in omega (arith, few)
@@ -14,4 +14,4 @@ returns : tie.Need-returns
 returns c = search rules
 
 pub mask_energy_spec : {M : Type 1} → statement M
-mask_energy_spec = tie.close (tie.spec cast-energy energy-requires returns)
+mask_energy_spec = tie.close (tie.spec overflow_cast-mask energy-requires returns)

@@ -16,14 +16,14 @@ is c = let back = back32 c.args.x c.ranges.x.sfits in ap₂ ◌*ℤ◌ back back
 made : (c : tie.Start) → to_z w32 (of_z w32 (pos (nat_abs c.args.x * nat_abs c.args.x))) ≡ pos (nat_abs c.args.x * nat_abs c.args.x)
 made c = small_back (pos (nat_abs c.args.x * nat_abs c.args.x)) (omega (arith, square_small c.args.x c.requires))
 
-mul-result : tie.Need-overflow-mul-result
-mul-result c = let small = square_small c.args.x c.requires in rw (is c) (size_fits w32 (pos (nat_abs c.args.x * nat_abs c.args.x)) (omega (arith, small)))
+overflow_mul-result : tie.Need-overflow_mul-result
+overflow_mul-result c = let small = square_small c.args.x c.requires in rw (is c) (size_fits w32 (pos (nat_abs c.args.x * nat_abs c.args.x)) (omega (arith, small)))
 
-cast-result : tie.Need-overflow-cast-result
-cast-result c = rw (is c, made c) (tt, record { fits = omega (arith, square_small c.args.x c.requires) })
+overflow_cast-result : tie.Need-overflow_cast-result
+overflow_cast-result c = rw (is c, made c) (tt, record { fits = omega (arith, square_small c.args.x c.requires) })
 
 returns : tie.Need-returns
 returns c = rw (is c, made c)
 
 pub square_spec : {M : Type 1} → statement M
-square_spec = tie.close (tie.spec mul-result cast-result returns)
+square_spec = tie.close (tie.spec overflow_mul-result overflow_cast-result returns)

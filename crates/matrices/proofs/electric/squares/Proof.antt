@@ -12,78 +12,66 @@ use borrow.Author.Rules.{rules}
 use Rattle.matrices.proofs.electric.squares.Statement.{statement}
 use Rattle.matrices.proofs.electric.squares.Tie as tie
 
-abbrev invariant-loop : tie.invariant-loop
-invariant-loop state sum₀ e₀ e-end sum e = (e ≤ length state) × (e-end ≡ length state) × (sum ≡ squares (take e state)) × (sum ≤ e * 1000000)
+abbrev invariant-loop-e : tie.invariant-loop-e
+invariant-loop-e state sum₀ e₀ e-end sum e = (e ≤ length state) × (e-end ≡ length state) × (sum ≡ squares (take e state)) × (sum ≤ e * 1000000)
 
-abbrev decreases-loop : tie.decreases-loop
-decreases-loop state sum₀ e₀ e-end sum e = length state - e
+abbrev decreases-loop-e : tie.decreases-loop-e
+decreases-loop-e state sum₀ e₀ e-end sum e = length state - e
 
-loop-holds : tie.Need-loop-init invariant-loop decreases-loop
+loop-e-init : tie.Need-loop-e-init invariant-loop-e decreases-loop-e
 unfolding squares
-loop-holds c = (omega arith, refl, refl, omega arith)
+loop-e-init c = (omega arith, refl, refl, omega arith)
 
 -- the square of the value at hand
-squared : (c : tie.After-square invariant-loop decreases-loop)
-    → (c.square.result ≡ nat_abs (get_or c.before.before.before.before.args.state.now c.before.before.before.loop.e (pos 0)) * nat_abs (get_or c.before.before.before.before.args.state.now c.before.before.before.loop.e (pos 0)))
-    × (c.square.result ≤ 1000000)
+squared : (c : tie.After-square-sum invariant-loop-e decreases-loop-e)
+    → (c.square-sum.result ≡ nat_abs (get_or c.before.before.before.before.args.state.now c.before.before.before.loop-e.e (pos 0)) * nat_abs (get_or c.before.before.before.before.args.state.now c.before.before.before.loop-e.e (pos 0)))
+    × (c.square-sum.result ≤ 1000000)
 squared c =
     let at_loop = c.before.before.before in
-    let x = get_or at_loop.before.args.state.now at_loop.loop.e (pos 0) in
-    let is : c.square.result ≡ nat_abs x * nat_abs x = c.square.ensures ∙ rw (back32 x c.before.square-arg.given) in
-    (is, rw is (square_small x (at_loop.before.requires.1 at_loop.loop.e (omega arith))))
+    let x = get_or at_loop.before.args.state.now at_loop.loop-e.e (pos 0) in
+    let is : c.square-sum.result ≡ nat_abs x * nat_abs x = c.square-sum.ensures ∙ rw (back32 x c.before.square-arg-1.given) in
+    (is, rw is (square_small x (at_loop.before.requires.1 at_loop.loop-e.e (omega arith))))
 
-mul-square : tie.Need-overflow-mul-square invariant-loop decreases-loop
-mul-square c = search rules
+offset_bounds-state-e : tie.Need-offset_bounds-state-e invariant-loop-e decreases-loop-e
+offset_bounds-state-e c = search rules
 
-shared-slice-copy-out-square : tie.Need-shared-slice-copy-out-square invariant-loop decreases-loop
-shared-slice-copy-out-square c = search rules
+bounds-state-e : tie.Need-bounds-state-e invariant-loop-e decreases-loop-e
+bounds-state-e c = search rules
 
-square-requires : tie.Need-square-requires invariant-loop decreases-loop
-square-requires c κs = rw (back32 _ c.square-arg.given) (c.before.before.before.requires.1 c.before.before.loop.e (omega arith))
+square-sum-requires : tie.Need-square-sum-requires invariant-loop-e decreases-loop-e
+square-sum-requires c κs = rw (back32 _ c.square-arg-1.given) (c.before.before.before.requires.1 c.before.before.loop-e.e (omega arith))
 
-add-sum : tie.Need-overflow-add-sum invariant-loop decreases-loop
-add-sum c = let h = squared c in let small = c.before.before.before.before.requires.0 in search rules
+overflow_add-sum : tie.Need-overflow_add-sum invariant-loop-e decreases-loop-e
+overflow_add-sum c = let h = squared c in let small = c.before.before.before.before.requires.0 in search rules
 
-add-e : tie.Need-overflow-add-e invariant-loop decreases-loop
-add-e c = search rules
+overflow_step-e : tie.Need-overflow_step-e invariant-loop-e decreases-loop-e
+overflow_step-e c = search rules
 
-loop-less : tie.Need-loop-smaller invariant-loop decreases-loop
-loop-less c = search rules
+loop-e-smaller : tie.Need-loop-e-smaller invariant-loop-e decreases-loop-e
+loop-e-smaller c = search rules
 
-loop-again : tie.Need-loop-preserved invariant-loop decreases-loop
-loop-again c =
+loop-e-preserved : tie.Need-loop-e-preserved invariant-loop-e decreases-loop-e
+loop-e-preserved c =
     let at_loop = c.before.before.before in
     let s = at_loop.before.args.state.now in
-    let e = at_loop.loop.e in
+    let e = at_loop.loop-e.e in
     let h = squared c in (
       omega arith,
       refl,
-      rw (take_next s e (pos 0) (omega arith), squares_last (take e s) (get_or s e (pos 0)), ← h.0, ← at_loop.loop.invariant.2),
-      omega (arith, h.1, at_loop.loop.invariant.3),
+      rw (take_next s e (pos 0) (omega arith), squares_last (take e s) (get_or s e (pos 0)), ← h.0, ← at_loop.loop-e.invariant.2),
+      omega (arith, h.1, at_loop.loop-e.invariant.3),
     )
 
-cast-result : tie.Need-overflow-cast-result invariant-loop decreases-loop
-cast-result c = search rules
+overflow_cast-result : tie.Need-overflow_cast-result invariant-loop-e decreases-loop-e
+overflow_cast-result c = search rules
 
-returns : tie.Need-returns invariant-loop decreases-loop
+returns : tie.Need-returns invariant-loop-e decreases-loop-e
 returns c =
     let s = c.before.before.args.state.now in
-    let past : c.before.loop.e ≡ length s = omega arith in
-    ((rw past at c.before.loop.invariant.2) ∙ ap squares (take-length s), omega (arith, c.before.loop.invariant.3, c.before.before.requires.0))
+    let past : c.before.loop-e.e ≡ length s = omega arith in
+    ((rw past at c.before.loop-e.invariant.2) ∙ ap squares (take-length s), omega (arith, c.before.loop-e.invariant.3, c.before.before.requires.0))
 
 pub squares_spec : {M : Type 1} → statement M
 squares_spec =
     tie.close
-    (tie.spec
-    invariant-loop
-    decreases-loop
-    loop-holds
-    mul-square
-    shared-slice-copy-out-square
-    square-requires
-    add-sum
-    add-e
-    loop-less
-    loop-again
-    cast-result
-    returns)
+    (tie.spec invariant-loop-e decreases-loop-e loop-e-init offset_bounds-state-e bounds-state-e square-sum-requires overflow_add-sum overflow_step-e loop-e-smaller loop-e-preserved overflow_cast-result returns)

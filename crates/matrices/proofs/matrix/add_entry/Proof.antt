@@ -13,30 +13,30 @@ here c =
     let inside = in_matrix c.args.n c.args.i c.args.j c.requires.2 c.requires.3 in
     (omega (arith, inside, c.requires.1), omega (arith, inside, mul-le-mul c.requires.0 c.requires.0))
 
-mul_at : tie.Need-overflow-mul-at
-mul_at c = let h = here c in search rules
+overflow_mul-at : tie.Need-overflow_mul-at
+overflow_mul-at c = let h = here c in search rules
 
-add_at : tie.Need-overflow-add-at
-add_at c = let h = here c in search rules
+overflow_add-at : tie.Need-overflow_add-at
+overflow_add-at c = let h = here c in search rules
 
-mul-h : tie.Need-overflow-mul-h
-mul-h c = let h = here c in search rules
+offset_bounds-h-at : tie.Need-offset_bounds-h-at
+offset_bounds-h-at c = let h = here c in search rules
 
-slice-read-h : tie.Need-slice-read-h
-slice-read-h c = let h = here c.before in search rules
+bounds-h-at : tie.Need-bounds-h-at
+bounds-h-at c = let h = here c.before in search rules
 
-mul-h-2 : tie.Need-overflow-mul-h-2
-mul-h-2 c = let h = here c.before in search rules
+offset_bounds-h-at-2 : tie.Need-offset_bounds-h-at-2
+offset_bounds-h-at-2 c = let h = here c.before in search rules
 
-slice-write-h : tie.Need-slice-write-h
-slice-write-h c = let h = here c.before in search rules
+bounds-h-at-2 : tie.Need-bounds-h-at-2
+bounds-h-at-2 c = let h = here c.before in search rules
 
-same_length : tie.Need-same-length
-same_length c = search rules
+shape_of-h : tie.Need-shape_of-h
+shape_of-h c = search rules
 
 returns : tie.Need-returns
 returns c = search rules
 
 pub add_entry_spec : {M : Type 1} → statement M
 add_entry_spec =
-    tie.close (tie.spec mul_at add_at mul-h slice-read-h mul-h-2 slice-write-h same_length returns)
+    tie.close (tie.spec overflow_mul-at overflow_add-at offset_bounds-h-at bounds-h-at offset_bounds-h-at-2 bounds-h-at-2 shape_of-h returns)

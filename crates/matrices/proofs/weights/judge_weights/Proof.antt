@@ -5,28 +5,28 @@ use borrow.Author.Rules.{rules}
 use Rattle.matrices.proofs.weights.judge_weights.Statement.{statement}
 use Rattle.matrices.proofs.weights.judge_weights.Tie as tie
 
-returns : tie.Need-returns
-returns c = number_told _ _ _ _ c.if1.true
+returns-then-given-weights : tie.Need-returns-then-given-weights
+returns-then-given-weights c = number_told _ _ _ _ c.if-given-weights.true
 
-returns-2 : tie.Need-returns-2
-returns-2 c = coupling_told _ _ _ _ c.before.if1.false (not-true _ c.if2.true)
+returns-then-not-right : tie.Need-returns-then-not-right
+returns-then-not-right c = coupling_told _ _ _ _ c.before.if-given-weights.false (not-true _ c.if-not-right.true)
 
-returns-3 : tie.Need-returns-3
-returns-3 c = absent_told _ _ _ _ c.before.before.if1.false (not-false _ c.before.if2.false) (not-true _ c.if3.true)
+returns-then-not-given : tie.Need-returns-then-not-given
+returns-then-not-given c = absent_told _ _ _ _ c.before.before.if-given-weights.false (not-false _ c.before.if-not-right.false) (not-true _ c.if-not-given.true)
 
 all_bounded-requires : tie.Need-all_bounded-requires
 all_bounded-requires c κs = search rules
 
-returns-4 : tie.Need-returns-4
-returns-4 c =
+returns-then-all_bounded : tie.Need-returns-then-all_bounded
+returns-then-all_bounded c =
     let some = c.before.before in
-    right_told _ _ _ _ some.before.before.if1.false (not-false _ some.before.if2.false) (not-false _ some.if3.false) (sym c.before.all_bounded.ensures ∙ c.if4.true)
+    right_told _ _ _ _ some.before.before.if-given-weights.false (not-false _ some.before.if-not-right.false) (not-false _ some.if-not-given.false) (sym c.before.all_bounded.ensures ∙ c.if-all_bounded.true)
 
-returns-5 : tie.Need-returns-5
-returns-5 c =
+returns-else-all_bounded : tie.Need-returns-else-all_bounded
+returns-else-all_bounded c =
     let some = c.before.before in
-    range_told _ _ _ _ some.before.before.if1.false (not-false _ some.before.if2.false) (not-false _ some.if3.false) (sym c.before.all_bounded.ensures ∙ c.if4.false)
+    range_told _ _ _ _ some.before.before.if-given-weights.false (not-false _ some.before.if-not-right.false) (not-false _ some.if-not-given.false) (sym c.before.all_bounded.ensures ∙ c.if-all_bounded.false)
 
 pub judge_weights_spec : {M : Type 1} → statement M
 judge_weights_spec =
-    tie.close (tie.spec returns returns-2 returns-3 all_bounded-requires returns-4 returns-5)
+    tie.close (tie.spec returns-then-given-weights returns-then-not-right returns-then-not-given all_bounded-requires returns-then-all_bounded returns-else-all_bounded)

@@ -5,19 +5,19 @@ use borrow.Author.Rules.{rules}
 use Rattle.matrices.proofs.weights.weight_of.Statement.{statement}
 use Rattle.matrices.proofs.weights.weight_of.Tie as tie
 
-mul-result : tie.Need-overflow-mul-result
-mul-result c = let h = c.before.requires c.if1.true in search rules
+offset_bounds-weights-t : tie.Need-offset_bounds-weights-t
+offset_bounds-weights-t c = let h = c.before.requires c.if-given.true in search rules
 
-shared-slice-read-result : tie.Need-shared-slice-read-result
-shared-slice-read-result c = c.before.before.requires c.before.if1.true
+bounds-weights-t : tie.Need-bounds-weights-t
+bounds-weights-t c = c.before.before.requires c.before.if-given.true
 
-returns : tie.Need-returns
+returns-then-given : tie.Need-returns-then-given
 unfolding weight
-returns c = rw c.before.if1.true
+returns-then-given c = rw c.before.if-given.true
 
-returns-2 : tie.Need-returns-2
+returns-else-given : tie.Need-returns-else-given
 unfolding weight
-returns-2 c = rw (c.if1.false, one)
+returns-else-given c = rw (c.if-given.false, one)
 
 pub weight_of_spec : {M : Type 1} → statement M
-weight_of_spec = tie.close (tie.spec mul-result shared-slice-read-result returns returns-2)
+weight_of_spec = tie.close (tie.spec offset_bounds-weights-t bounds-weights-t returns-then-given returns-else-given)

@@ -9,22 +9,22 @@ use borrow.Author.Rules.{rules}
 use Rattle.matvec.proofs.product.columns_right.Statement.{statement}
 use Rattle.matvec.proofs.product.columns_right.Tie as tie
 
-cast-columns-below : tie.Need-overflow-cast-columns-below
-cast-columns-below c = search rules
+overflow_cast-n : tie.Need-overflow_cast-n
+overflow_cast-n c = search rules
 
 columns_below-requires : tie.Need-columns_below-requires
 columns_below-requires c κs = search rules
 
-returns : tie.Need-returns
-returns c = search rules
+returns-then-n-lt4294967296 : tie.Need-returns-then-n-lt4294967296
+returns-then-n-lt4294967296 c = search rules
 
 -- all columns are below 2^32
-returns-2 : tie.Need-returns-2
+returns-else-n-lt4294967296 : tie.Need-returns-else-n-lt4294967296
 unfolding columns_right
-returns-2 c =
+returns-else-n-lt4294967296 c =
     let a = c.before.before.args in
-    sym (at_all (λ j. ltb j a.n) 0 a.columns.now (λ k h. lt-ltb (get_or a.columns.now k 0) a.n (omega (arith, c.before.shared-slice-known.given k))))
+    sym (at_all (λ j. ltb j a.n) 0 a.columns.now (λ k h. lt-ltb (get_or a.columns.now k 0) a.n (omega (arith, c.before.shared_slice_known-1.given k))))
 
 pub columns_right_spec : {M : Type 1} → statement M
 columns_right_spec =
-    tie.close (tie.spec cast-columns-below columns_below-requires returns returns-2)
+    tie.close (tie.spec overflow_cast-n columns_below-requires returns-then-n-lt4294967296 returns-else-n-lt4294967296)

@@ -8,36 +8,36 @@ use borrow.Author.Rules.{rules}
 use Rattle.matvec.proofs.product.matvec.Statement.{statement}
 use Rattle.matvec.proofs.product.matvec.Tie as tie
 
-abbrev at-start : tie.Else2 → tie.Start
+abbrev at-start : tie.Else-starts_right-columns_right → tie.Start
 at-start c = c.before.before.before.before.before.before.before.before.before
 
-places_fit : (c : tie.Else2) → places_wrong (at-start c).args.starts.now (at-start c).args.columns.now (at-start c).args.vector.now ≡ false
-places_fit c = rw (c.before.before.starts_right.ensures, c.before.columns_right.ensures) at c.if2.false
+places_fit : (c : tie.Else-starts_right-columns_right) → places_wrong (at-start c).args.starts.now (at-start c).args.columns.now (at-start c).args.vector.now ≡ false
+places_fit c = rw (c.before.before.starts_right.ensures, c.before.columns_right.ensures) at c.if-starts_right-columns_right.false
 
-numbers_fit : (c : tie.Else3) → numbers_wrong (at-start c.before.before.before).args.values.now (at-start c.before.before.before).args.vector.now ≡ false
-numbers_fit c = rw (c.before.before.values_right.ensures, c.before.all_bounded.ensures) at c.if3.false
+numbers_fit : (c : tie.Else-values_right-all_bounded) → numbers_wrong (at-start c.before.before.before).args.values.now (at-start c.before.before.before).args.vector.now ≡ false
+numbers_fit c = rw (c.before.before.values_right.ensures, c.before.all_bounded.ensures) at c.if-values_right-all_bounded.false
 
-valid : (c : tie.Else3) → Valid (at-start c.before.before.before).args.starts.now (at-start c.before.before.before).args.columns.now (at-start c.before.before.before).args.values.now (at-start c.before.before.before).args.vector.now
-valid c = fit_valid _ _ _ _ c.before.before.before.before.before.before.if1.false (places_fit c.before.before.before) (numbers_fit c)
+valid : (c : tie.Else-values_right-all_bounded) → Valid (at-start c.before.before.before).args.starts.now (at-start c.before.before.before).args.columns.now (at-start c.before.before.before).args.values.now (at-start c.before.before.before).args.vector.now
+valid c = fit_valid _ _ _ _ c.before.before.before.before.before.before.if-starts-n.false (places_fit c.before.before.before) (numbers_fit c)
 
-add-if1 : tie.Need-overflow-add-if1
-add-if1 c = search rules
+overflow_add-n : tie.Need-overflow_add-n
+overflow_add-n c = search rules
 
-returns : tie.Need-returns
+returns-then-starts-n : tie.Need-returns-then-starts-n
 unfolding product_call product_answer
-returns c = refuses _ (here c.if1.true) refl
+returns-then-starts-n c = refuses _ (here c.if-starts-n.true) refl
 
 starts_right-requires : tie.Need-starts_right-requires
 starts_right-requires c κs =
     let a = c.before.before.before.before.before.before.args in
-    (lengths_fit a.starts.now a.columns.now a.values.now a.vector.now c.if1.false).0
+    (lengths_fit a.starts.now a.columns.now a.values.now a.vector.now c.if-starts-n.false).0
 
 columns_right-requires : tie.Need-columns_right-requires
 columns_right-requires c κs = search rules
 
-returns-2 : tie.Need-returns-2
+returns-then-starts_right-columns_right : tie.Need-returns-then-starts_right-columns_right
 unfolding product_call product_answer
-returns-2 c = refuses _ (past c.before.before.before.if1.false (here (rw (c.before.before.starts_right.ensures, c.before.columns_right.ensures) at c.if2.true))) refl
+returns-then-starts_right-columns_right c = refuses _ (past c.before.before.before.if-starts-n.false (here (rw (c.before.before.starts_right.ensures, c.before.columns_right.ensures) at c.if-starts_right-columns_right.true))) refl
 
 values_right-requires : tie.Need-values_right-requires
 values_right-requires c κs = search rules
@@ -45,47 +45,35 @@ values_right-requires c κs = search rules
 all_bounded-requires : tie.Need-all_bounded-requires
 all_bounded-requires c κs = search rules
 
-returns-3 : tie.Need-returns-3
+returns-then-values_right-all_bounded : tie.Need-returns-then-values_right-all_bounded
 unfolding product_call product_answer
-returns-3 c =
+returns-then-values_right-all_bounded c =
     let placed = c.before.before.before in
-    refuses _ (past placed.before.before.before.if1.false (past (places_fit placed) (here (rw (c.before.before.values_right.ensures, c.before.all_bounded.ensures) at c.if3.true)))) refl
+    refuses _ (past placed.before.before.before.if-starts-n.false (past (places_fit placed) (here (rw (c.before.before.values_right.ensures, c.before.all_bounded.ensures) at c.if-values_right-all_bounded.true)))) refl
 
-returns-4 : tie.Need-returns-4
+returns-then-res-n : tie.Need-returns-then-res-n
 unfolding product_call product_answer
-returns-4 c =
+returns-then-res-n c =
     let right = c.before in
     let placed = right.before.before.before in
-    refuses _ (past placed.before.before.before.if1.false (past (places_fit placed) (past (numbers_fit right) (here (lt-ltb _ _ c.if4.true))))) refl
+    refuses _ (past placed.before.before.before.if-starts-n.false (past (places_fit placed) (past (numbers_fit right) (here (lt-ltb _ _ c.if-res-n.true))))) refl
 
 multiply-requires : tie.Need-multiply-requires
-multiply-requires c κs = (valid c.before.before, c.before.if4.false)
+multiply-requires c κs = (valid c.before.before, c.before.if-res-n.false)
 
-same_length : tie.Need-same-length
-same_length c = search rules
+shape_of-res : tie.Need-shape_of-res
+shape_of-res c = search rules
 
-returns-5 : tie.Need-returns-5
+returns : tie.Need-returns
 unfolding product_call product_answer
-returns-5 c =
+returns c =
     let enough = c.before.before.before.before in
     let right = enough.before in
     let placed = right.before.before.before in
     let a = (at-start placed).args in
-    ends (product_call a.starts.now a.columns.now a.values.now a.vector.now a.result.now) (past placed.before.before.before.if1.false (past (places_fit placed) (past (numbers_fit right) (past (le-ltb _ _ enough.if4.false) none)))) refl c.before.before.multiply.ensures (valid right)
+    ends (product_call a.starts.now a.columns.now a.values.now a.vector.now a.result.now) (past placed.before.before.before.if-starts-n.false (past (places_fit placed) (past (numbers_fit right) (past (le-ltb _ _ enough.if-res-n.false) none)))) refl c.before.before.multiply.ensures (valid right)
 
 pub matvec_spec : {M : Type 1} → statement M
 matvec_spec =
     tie.close
-    (tie.spec
-    add-if1
-    returns
-    starts_right-requires
-    columns_right-requires
-    returns-2
-    values_right-requires
-    all_bounded-requires
-    returns-3
-    returns-4
-    multiply-requires
-    same_length
-    returns-5)
+    (tie.spec overflow_add-n returns-then-starts-n starts_right-requires columns_right-requires returns-then-starts_right-columns_right values_right-requires all_bounded-requires returns-then-values_right-all_bounded returns-then-res-n multiply-requires shape_of-res returns)

@@ -11,54 +11,44 @@ use borrow.Author.Rules.{rules}
 use Rattle.matvec.proofs.product.values_right.Statement.{statement}
 use Rattle.matvec.proofs.product.values_right.Tie as tie
 
-abbrev invariant-loop : tie.invariant-loop
-invariant-loop values so-far₀ k₀ k-end so_far k = (k ≤ length values) × (k-end ≡ length values) × (so_far ≡ every_entry value_right (take k values))
+abbrev invariant-loop-k : tie.invariant-loop-k
+invariant-loop-k values so_far₀ k₀ k-end so_far k = (k ≤ length values) × (k-end ≡ length values) × (so_far ≡ every_entry value_right (take k values))
 
-abbrev decreases-loop : tie.decreases-loop
-decreases-loop values so-far₀ k₀ k-end so_far k = length values - k
+abbrev decreases-loop-k : tie.decreases-loop-k
+decreases-loop-k values so_far₀ k₀ k-end so_far k = length values - k
 
-loop-holds : tie.Need-loop-init invariant-loop decreases-loop
+loop-k-init : tie.Need-loop-k-init invariant-loop-k decreases-loop-k
 unfolding every_entry
-loop-holds c = (omega arith, refl, refl)
+loop-k-init c = (omega arith, refl, refl)
 
-mul-value-right : tie.Need-overflow-mul-value-right invariant-loop decreases-loop
-mul-value-right c = search rules
+offset_bounds-values-k : tie.Need-offset_bounds-values-k invariant-loop-k decreases-loop-k
+offset_bounds-values-k c = search rules
 
-shared-slice-read-value-right : tie.Need-shared-slice-read-value-right invariant-loop decreases-loop
-shared-slice-read-value-right c = search rules
+bounds-values-k : tie.Need-bounds-values-k invariant-loop-k decreases-loop-k
+bounds-values-k c = search rules
 
-value_right-requires : tie.Need-value_right-requires invariant-loop decreases-loop
-value_right-requires c κs = search rules
+value_right-so_far-requires : tie.Need-value_right-so_far-requires invariant-loop-k decreases-loop-k
+value_right-so_far-requires c κs = search rules
 
-add-k : tie.Need-overflow-add-k invariant-loop decreases-loop
-add-k c = search rules
+overflow_step-k : tie.Need-overflow_step-k invariant-loop-k decreases-loop-k
+overflow_step-k c = search rules
 
-loop-less : tie.Need-loop-smaller invariant-loop decreases-loop
-loop-less c = search rules
+loop-k-smaller : tie.Need-loop-k-smaller invariant-loop-k decreases-loop-k
+loop-k-smaller c = search rules
 
-loop-again : tie.Need-loop-preserved invariant-loop decreases-loop
-loop-again c =
+loop-k-preserved : tie.Need-loop-k-preserved invariant-loop-k decreases-loop-k
+loop-k-preserved c =
     let at_loop = c.before.before.before in
     let values = at_loop.before.before.args.values.now in
-    (omega arith, refl, rw (at_loop.loop.invariant.2, c.value_right.ensures) (sym (all_next value_right nan values at_loop.loop.k (omega arith))))
+    (omega arith, refl, rw (at_loop.loop-k.invariant.2, c.value_right-so_far.ensures) (sym (all_next value_right nan values at_loop.loop-k.k (omega arith))))
 
-returns : tie.Need-returns invariant-loop decreases-loop
+returns : tie.Need-returns invariant-loop-k decreases-loop-k
 returns c =
     let values = c.before.before.before.args.values.now in
-    let past : c.before.loop.k ≡ length values = omega arith in
-    (rw past at c.before.loop.invariant.2) ∙ ap (every_entry value_right) (take-length values)
+    let past : c.before.loop-k.k ≡ length values = omega arith in
+    (rw past at c.before.loop-k.invariant.2) ∙ ap (every_entry value_right) (take-length values)
 
 pub values_right_spec : {M : Type 1} → statement M
 values_right_spec =
     tie.close
-    (tie.spec
-    invariant-loop
-    decreases-loop
-    loop-holds
-    mul-value-right
-    shared-slice-read-value-right
-    value_right-requires
-    add-k
-    loop-less
-    loop-again
-    returns)
+    (tie.spec invariant-loop-k decreases-loop-k loop-k-init offset_bounds-values-k bounds-values-k value_right-so_far-requires overflow_step-k loop-k-smaller loop-k-preserved returns)

@@ -23,11 +23,11 @@ usize_to_i32-requires c κs = search rules
 sum-requires : tie.Need-sum-requires
 sum-requires c κs = rw (terms_are c) (digit_small c.before.args.x c.before.args.low c.before.requires.0 c.before.requires.1)
 
-cast-result : tie.Need-overflow-cast-result
-cast-result c = let s = c.before.before in rw (is c) (digit_casts s.args.x s.args.low s.requires.0 s.requires.1)
+overflow_cast-result : tie.Need-overflow_cast-result
+overflow_cast-result c = let s = c.before.before in rw (is c) (digit_casts s.args.x s.args.low s.requires.0 s.requires.1)
 
 returns : tie.Need-returns
 returns c = ap nat_abs (is c)
 
 pub digit_spec : {M : Type 1} → statement M
-digit_spec = tie.close (tie.spec usize_to_i32-requires sum-requires cast-result returns)
+digit_spec = tie.close (tie.spec usize_to_i32-requires sum-requires overflow_cast-result returns)

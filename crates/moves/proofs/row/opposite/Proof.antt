@@ -11,11 +11,11 @@ use Rattle.moves.proofs.row.opposite.Tie as tie
 is : (c : tie.Start) → pos 0 -ℤ to_z w32 (of_z w32 c.args.unit) ≡ neg_ℤ c.args.unit
 is c = rw (back32 c.args.unit c.ranges.unit.sfits) (+ℤ_idl _)
 
-sub-result : tie.Need-overflow-sub-result
-sub-result c = rw (is c) (size_fits w32 (neg_ℤ c.args.unit) (omega (arith, c.requires, size_neg c.args.unit)))
+overflow_sub-result : tie.Need-overflow_sub-result
+overflow_sub-result c = rw (is c) (size_fits w32 (neg_ℤ c.args.unit) (omega (arith, c.requires, size_neg c.args.unit)))
 
 returns : tie.Need-returns
-returns c = to_z-of_z (sub-result c) ∙ is c
+returns c = to_z-of_z (overflow_sub-result c) ∙ is c
 
 pub opposite_spec : {M : Type 1} → statement M
-opposite_spec = tie.close (tie.spec sub-result returns)
+opposite_spec = tie.close (tie.spec overflow_sub-result returns)

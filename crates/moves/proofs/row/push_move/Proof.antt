@@ -8,65 +8,51 @@ use borrow.Author.Rules.{rules}
 use Rattle.moves.proofs.row.push_move.Statement.{statement}
 use Rattle.moves.proofs.row.push_move.Tie as tie
 
-returns : tie.Need-returns
-returns c = move_left _ _ _ _ _ _ _ _ (not-true _ c.if1.taken)
+returns-then-not-taken : tie.Need-returns-then-not-taken
+returns-then-not-taken c = move_left _ _ _ _ _ _ _ _ (not-true _ c.if-not-taken.taken)
 
-mul-seek : tie.Need-mul-seek
-mul-seek c = search rules
+offset_bounds-pointers-k : tie.Need-offset_bounds-pointers-k
+offset_bounds-pointers-k c = search rules
 
-slice-read-seek : tie.Need-slice-read-seek
-slice-read-seek c = search rules
+bounds-pointers-k : tie.Need-bounds-pointers-k
+bounds-pointers-k c = search rules
 
-seek-requires : tie.Need-seek-requires
-seek-requires c κs = search rules
+seek-place-requires : tie.Need-seek-place-requires
+seek-place-requires c κs = search rules
 
-add-smaller : tie.Need-add-smaller
-add-smaller c = search rules
+overflow_add-place : tie.Need-overflow_add-place
+overflow_add-place c = search rules
 
 smaller-requires : tie.Need-smaller-requires
 smaller-requires c κs = search rules
 
-mul-pointers : tie.Need-mul-pointers
-mul-pointers c = search rules
+offset_bounds-pointers-k-2 : tie.Need-offset_bounds-pointers-k-2
+offset_bounds-pointers-k-2 c = search rules
 
-slice-write-pointers : tie.Need-slice-write-pointers
-slice-write-pointers c = search rules
+bounds-pointers-k-2 : tie.Need-bounds-pointers-k-2
+bounds-pointers-k-2 c = search rules
 
-cast-push-entry : tie.Need-cast-push-entry
-cast-push-entry c = search rules
+overflow_cast-place : tie.Need-overflow_cast-place
+overflow_cast-place c = search rules
 
 push_entry-requires : tie.Need-push_entry-requires
 push_entry-requires c κs = search rules
 
-same_length : tie.Need-same-length
-same_length c = search rules
+shape_of-pointers : tie.Need-shape_of-pointers
+shape_of-pointers c = search rules
 
-same-length-2 : tie.Need-same-length-2
-same-length-2 c = search rules
+shape_of-row_columns : tie.Need-shape_of-row_columns
+shape_of-row_columns c = search rules
 
-same-length-3 : tie.Need-same-length-3
-same-length-3 c = search rules
+shape_of-row_values : tie.Need-shape_of-row_values
+shape_of-row_values c = search rules
 
-returns-2 : tie.Need-returns-2
-returns-2 c =
-    let found = c.before.before.before.before.before.before.before.before.seek in
-    move_taken _ _ _ _ _ _ _ _ (not-false _ c.before.before.before.before.before.before.before.before.before.before.if1.left) _ _ _ _ found.ensures.0 c.before.before.before.before.push_entry.ensures c.before.before.before.before.before.before.before.smaller.ensures
+returns : tie.Need-returns
+returns c =
+    let found = c.before.before.before.before.before.before.before.before.seek-place in
+    move_taken _ _ _ _ _ _ _ _ (not-false _ c.before.before.before.before.before.before.before.before.before.before.if-not-taken.left) _ _ _ _ found.ensures.0 c.before.before.before.before.push_entry.ensures c.before.before.before.before.before.before.before.smaller.ensures
 
 pub push_move_spec : {M : Type 1} → statement M
 push_move_spec =
     tie.close
-    (tie.spec
-    returns
-    mul-seek
-    slice-read-seek
-    seek-requires
-    add-smaller
-    smaller-requires
-    mul-pointers
-    slice-write-pointers
-    cast-push-entry
-    push_entry-requires
-    same_length
-    same-length-2
-    same-length-3
-    returns-2)
+    (tie.spec returns-then-not-taken offset_bounds-pointers-k bounds-pointers-k seek-place-requires overflow_add-place smaller-requires offset_bounds-pointers-k-2 bounds-pointers-k-2 overflow_cast-place push_entry-requires shape_of-pointers shape_of-row_columns shape_of-row_values returns)

@@ -15,164 +15,143 @@ use Rattle.pages.proofs.Parts.{line_some, line_more, line_short, some_written}
 use Rattle.pages.proofs.states.write_lines.Statement.{statement}
 use Rattle.pages.proofs.states.write_lines.Tie as tie
 
-abbrev invariant-loop : tie.invariant-loop
-invariant-loop out₀ config₀ free n_free cycles lambda m row₀ len₀ here₀ out config row len here =
+abbrev invariant-loop-here : tie.invariant-loop-here
+invariant-loop-here out₀ config₀ free n_free cycles lambda m row₀ len₀ here₀ out config row len here =
     (length out ≡ length out₀) × (length config ≡ length config₀) × (length row ≡ length config₀) × (len ≤ length out) × Standing free cycles lambda n_free config here
     × (state_lines here₀.number (states_from free cycles lambda n_free config₀ here₀) ≡ take len out ++ state_lines here.number (states_from free cycles lambda n_free config here))
     × (len ≡ 0 → here.left ≡ here₀.left)
 
-abbrev decreases-loop : tie.decreases-loop
-decreases-loop out₀ config₀ free n_free cycles lambda m row₀ len₀ here₀ out config row len here =
+abbrev decreases-loop-here : tie.decreases-loop-here
+decreases-loop-here out₀ config₀ free n_free cycles lambda m row₀ len₀ here₀ out config row len here =
     length (states_from free cycles lambda n_free config here)
 
 abbrev Loop : Type 0
-Loop = tie.At-loop invariant-loop decreases-loop
+Loop = tie.At-loop-here invariant-loop-here decreases-loop-here
 
-abbrev start : Loop → tie.Start invariant-loop decreases-loop
+abbrev start : Loop → tie.Start invariant-loop-here decreases-loop-here
 start c = c.before.before.before
 
-sub_row : tie.Need-overflow-sub-row invariant-loop decreases-loop
-sub_row c = search rules
+slice_bounds-row-count : tie.Need-slice_bounds-row-count invariant-loop-here decreases-loop-here
+slice_bounds-row-count c = search rules
 
-part-space-start : tie.Need-slice-bounds-space-start invariant-loop decreases-loop
-part-space-start c = search rules
+slice_bounds-space-start : tie.Need-slice_bounds-space-start invariant-loop-here decreases-loop-here
+slice_bounds-space-start c = search rules
 
-part-space-end : tie.Need-slice-bounds-space-end invariant-loop decreases-loop
-part-space-end c = search rules
+slice_bounds-space-end : tie.Need-slice_bounds-space-end invariant-loop-here decreases-loop-here
+slice_bounds-space-end c = search rules
 
-loop-holds : tie.Need-loop-init invariant-loop decreases-loop
-loop-holds c =
+loop-here-init : tie.Need-loop-here-init invariant-loop-here decreases-loop-here
+loop-here-init c =
     let s = c.before.before in
     let few = s.requires.1.walkable.cycles_fit.edges_few in
     let inside : length s.args.config.now - 0 ≤ 63 = omega arith in
     (refl, refl, length-take-le _ _ inside ∙ sub-zero (length s.args.config.now), omega arith, s.requires.1, refl, λ h. refl)
 
-sub-if2 : tie.Need-overflow-sub-if2 invariant-loop decreases-loop
-sub-if2 c = search rules
+overflow_sub-out : tie.Need-overflow_sub-out invariant-loop-here decreases-loop-here
+overflow_sub-out c = search rules
 
-same_length : tie.Need-same-length invariant-loop decreases-loop
-same_length c = c.before.before.before.before.loop.invariant.0
+shape_of-out-then-out-len-lt400 : tie.Need-shape_of-out-then-out-len-lt400 invariant-loop-here decreases-loop-here
+shape_of-out-then-out-len-lt400 c = c.before.before.before.before.loop-here.invariant.0
 
-same-length-2 : tie.Need-same-length-2 invariant-loop decreases-loop
-same-length-2 c = search rules
+shape_of-config-then-out-len-lt400 : tie.Need-shape_of-config-then-out-len-lt400 invariant-loop-here decreases-loop-here
+shape_of-config-then-out-len-lt400 c = search rules
 
-returns : tie.Need-returns invariant-loop decreases-loop
+returns-then-out-len-lt400 : tie.Need-returns-then-out-len-lt400 invariant-loop-here decreases-loop-here
 unfolding lines_from
-returns c =
+returns-then-out-len-lt400 c =
     let at_loop = c.before.before.before.before in
     let room = (start at_loop).requires.0 in
     record {
-      part = record { joined = at_loop.loop.invariant.5; inside = at_loop.loop.invariant.3; some = omega (arith, at_loop.loop.invariant.0) };
-      standing = at_loop.loop.invariant.4;
+      part = record { joined = at_loop.loop-here.invariant.5; inside = at_loop.loop-here.invariant.3; some = omega (arith, at_loop.loop-here.invariant.0) };
+      standing = at_loop.loop-here.invariant.4;
     }
 
-sub-fill-row : tie.Need-overflow-sub-fill-row invariant-loop decreases-loop
-sub-fill-row c = search rules
+slice_bounds-fill_row-count : tie.Need-slice_bounds-fill_row-count invariant-loop-here decreases-loop-here
+slice_bounds-fill_row-count c = search rules
 
-part-fill-row-start : tie.Need-slice-bounds-fill-row-start invariant-loop decreases-loop
-part-fill-row-start c = search rules
+slice_bounds-fill_row-start : tie.Need-slice_bounds-fill_row-start invariant-loop-here decreases-loop-here
+slice_bounds-fill_row-start c = search rules
 
-part-fill-row-end : tie.Need-slice-bounds-fill-row-end invariant-loop decreases-loop
-part-fill-row-end c = search rules
+slice_bounds-fill_row-end : tie.Need-slice_bounds-fill_row-end invariant-loop-here decreases-loop-here
+slice_bounds-fill_row-end c = search rules
 
-fill_row-requires : tie.Need-fill_row-requires invariant-loop decreases-loop
+fill_row-requires : tie.Need-fill_row-requires invariant-loop-here decreases-loop-here
 fill_row-requires c κs =
     let at_loop = c.before.before.before.before.before.before in
     let s = (start at_loop).args in
-    let standing = at_loop.loop.invariant.4 in
+    let standing = at_loop.loop-here.invariant.4 in
     let few = standing.few in
-    let more : 0 < at_loop.loop.here.left = omega arith in
+    let more : 0 < at_loop.loop-here.here.left = omega arith in
     let low = standing.some more in
-    (row_ready s.free.now s.cycles.now s.lambda s.n_free at_loop.loop.config _ standing.walkable more, omega arith, at_loop.loop.invariant.2 ∙ sym at_loop.loop.invariant.1)
+    (row_ready s.free.now s.cycles.now s.lambda s.n_free at_loop.loop-here.config _ standing.walkable more, omega arith, at_loop.loop-here.invariant.2 ∙ sym at_loop.loop-here.invariant.1)
 
 -- the row is the state of the cursor, and there is room for its line
 abbrev Row : Type 0
-Row = tie.After-fill_row invariant-loop decreases-loop
+Row = tie.After-fill_row invariant-loop-here decreases-loop-here
 
 abbrev loop_of : Row → Loop
 loop_of c = c.before.before.before.before.before.before.before
 
-more : (c : Row) → 0 < (loop_of c).loop.here.left
+more : (c : Row) → 0 < (loop_of c).loop-here.here.left
 more c = omega arith
 
-row_here : (c : Row) → c.fill_row.new.0 ≡ state_here (start (loop_of c)).args.cycles.now (loop_of c).loop.config (loop_of c).loop.here
+row_here : (c : Row) → c.fill_row.new.0 ≡ state_here (start (loop_of c)).args.cycles.now (loop_of c).loop-here.config (loop_of c).loop-here.here
 row_here c =
     let at_loop = loop_of c in
     let s = (start at_loop).args in
-    c.fill_row.ensures ∙ row_is s.free.now s.cycles.now s.lambda s.n_free at_loop.loop.config _ at_loop.loop.inv.4.walkable (more c) at_loop.loop.here.d
+    c.fill_row.ensures ∙ row_is s.free.now s.cycles.now s.lambda s.n_free at_loop.loop-here.config _ at_loop.loop-here.inv.4.walkable (more c) at_loop.loop-here.here.d
 
-room : (c : Row) → (loop_of c).loop.len + length (state_line (loop_of c).loop.here.number c.fill_row.new.0) ≤ length (loop_of c).loop.out
+room : (c : Row) → (loop_of c).loop-here.len + length (state_line (loop_of c).loop-here.here.number c.fill_row.new.0) ≤ length (loop_of c).loop-here.out
 room c =
     let at_loop = loop_of c in
     let s = (start at_loop).args in
-    let short = line_short s.free.now s.cycles.now s.lambda s.n_free at_loop.loop.config at_loop.loop.here at_loop.loop.inv.4 (more c) in
-    omega (arith, ap (λ r. length (state_line at_loop.loop.here.number r)) (row_here c))
+    let short = line_short s.free.now s.cycles.now s.lambda s.n_free at_loop.loop-here.config at_loop.loop-here.here at_loop.loop-here.inv.4 (more c) in
+    omega (arith, ap (λ r. length (state_line at_loop.loop-here.here.number r)) (row_here c))
 
-write_state_line-requires : tie.Need-write_state_line-requires invariant-loop decreases-loop
-write_state_line-requires c κs = room c.before.before.before
+write_state_line-len-requires : tie.Need-write_state_line-len-requires invariant-loop-here decreases-loop-here
+write_state_line-len-requires c κs = room c.before.before.before
 
-next_state-requires : tie.Need-next_state-requires invariant-loop decreases-loop
-next_state-requires c κs =
+next_state-here-requires : tie.Need-next_state-here-requires invariant-loop-here decreases-loop-here
+next_state-here-requires c κs =
     let at_loop = c.before.before.before.before.before.before.before.before.before.before.before.before.before.before in
-    (at_loop.loop.invariant.4, more c.before.before.before.before.before.before.before)
+    (at_loop.loop-here.invariant.4, more c.before.before.before.before.before.before.before)
 
-loop-less : tie.Need-loop-smaller invariant-loop decreases-loop
-loop-less c = omega (arith, ap length c.before.next_state.ensures.states)
+loop-here-smaller : tie.Need-loop-here-smaller invariant-loop-here decreases-loop-here
+loop-here-smaller c = omega (arith, ap length c.before.next_state-here.ensures.states)
 
-loop-again : tie.Need-loop-preserved invariant-loop decreases-loop
-loop-again c =
+loop-here-preserved : tie.Need-loop-here-preserved invariant-loop-here decreases-loop-here
+loop-here-preserved c =
     let filled = c.before.before.before.before.before.before.before.before.before in
     let at_loop = loop_of filled in
-    let written = c.before.before.before.before.before.write_state_line in
-    let next = c.before.next_state in
-    let number = at_loop.loop.here.number in (
-      written.auto.0 ∙ at_loop.loop.inv.0,
-      next.auto.1.0 ∙ at_loop.loop.inv.1,
-      filled.fill_row.auto.0 ∙ at_loop.loop.inv.2,
+    let written = c.before.before.before.before.before.write_state_line-len in
+    let next = c.before.next_state-here in
+    let number = at_loop.loop-here.here.number in (
+      written.auto.0 ∙ at_loop.loop-here.inv.0,
+      next.auto.1.0 ∙ at_loop.loop-here.inv.1,
+      filled.fill_row.auto.0 ∙ at_loop.loop-here.inv.2,
       ends_inside (state_line number filled.fill_row.new.0) _ _ _ _ (room filled) written.ensures,
       next.ensures.standing,
-      line_more _ _ _ _ _ number _ _ filled.fill_row.new.0 _ _ (room filled) at_loop.loop.inv.5 next.ensures.states (row_here filled) next.ensures.numbered written.ensures,
+      line_more _ _ _ _ _ number _ _ filled.fill_row.new.0 _ _ (room filled) at_loop.loop-here.inv.5 next.ensures.states (row_here filled) next.ensures.numbered written.ensures,
       λ z. absurd (omega (arith, written.ensures.place, line_some number filled.fill_row.new.0)),
     )
 
-same-length-3 : tie.Need-same-length-3 invariant-loop decreases-loop
-same-length-3 c = search rules
+shape_of-out : tie.Need-shape_of-out invariant-loop-here decreases-loop-here
+shape_of-out c = search rules
 
-same-length-4 : tie.Need-same-length-4 invariant-loop decreases-loop
-same-length-4 c = search rules
+shape_of-config : tie.Need-shape_of-config invariant-loop-here decreases-loop-here
+shape_of-config c = search rules
 
-returns-2 : tie.Need-returns-2 invariant-loop decreases-loop
+returns : tie.Need-returns invariant-loop-here decreases-loop-here
 unfolding lines_from
-returns-2 c =
+returns c =
     let at_loop = c.before.before.before in
-    let none : at_loop.loop.here.left ≡ 0 = omega arith in
+    let none : at_loop.loop-here.here.left ≡ 0 = omega arith in
     record {
-      part = record { joined = at_loop.loop.invariant.5; inside = at_loop.loop.invariant.3; some = some_written at_loop.loop.len at_loop.loop.here.left _ at_loop.loop.invariant.6 none (start at_loop).requires.2 };
-      standing = at_loop.loop.invariant.4;
+      part = record { joined = at_loop.loop-here.invariant.5; inside = at_loop.loop-here.invariant.3; some = some_written at_loop.loop-here.len at_loop.loop-here.here.left _ at_loop.loop-here.invariant.6 none (start at_loop).requires.2 };
+      standing = at_loop.loop-here.invariant.4;
     }
 
 pub write_lines_spec : {M : Type 1} → statement M
 write_lines_spec =
     tie.close
-    (tie.spec
-    invariant-loop
-    decreases-loop
-    sub_row
-    part-space-start
-    part-space-end
-    loop-holds
-    sub-if2
-    same_length
-    same-length-2
-    returns
-    sub-fill-row
-    part-fill-row-start
-    part-fill-row-end
-    fill_row-requires
-    write_state_line-requires
-    next_state-requires
-    loop-less
-    loop-again
-    same-length-3
-    same-length-4
-    returns-2)
+    (tie.spec invariant-loop-here decreases-loop-here slice_bounds-row-count slice_bounds-space-start slice_bounds-space-end loop-here-init overflow_sub-out shape_of-out-then-out-len-lt400 shape_of-config-then-out-len-lt400 returns-then-out-len-lt400 slice_bounds-fill_row-count slice_bounds-fill_row-start slice_bounds-fill_row-end fill_row-requires write_state_line-len-requires next_state-here-requires loop-here-smaller loop-here-preserved shape_of-out shape_of-config returns)

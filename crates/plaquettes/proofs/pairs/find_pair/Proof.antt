@@ -16,8 +16,8 @@ tested c = rw (back32 c.before.args.by c.before.ranges.by.sfits) at c.row_stays.
 row_stays-requires : tie.Need-row_stays-requires
 row_stays-requires c κs = search rules
 
-returns : tie.Need-returns
-returns c = record { paired = λ h. absurd (true≢false (sym h ∙ sym (tested c.before) ∙ not-true _ c.if1.true)); alone = λ h. refl }
+returns-then-not-row_stays : tie.Need-returns-then-not-row_stays
+returns-then-not-row_stays c = record { paired = λ h. absurd (true≢false (sym h ∙ sym (tested c.before) ∙ not-true _ c.if-not-row_stays.true)); alone = λ h. refl }
 
 next_staying-requires : tie.Need-next_staying-requires
 next_staying-requires c κs =
@@ -25,13 +25,13 @@ next_staying-requires c κs =
     rw (back32 s.args.by s.ranges.by.sfits, back32 s.args.back s.ranges.back.sfits)
     (s.requires.0, rw s.requires.2 (omega (arith, size_neg s.args.by, s.requires.1)), sym (ap neg_ℤ s.requires.2 ∙ neg_ℤ-neg_ℤ s.args.by), s.requires.4)
 
-returns-2 : tie.Need-returns-2
-returns-2 c =
+returns : tie.Need-returns
+returns c =
     let s = c.before.before.before in
     record {
       paired = λ h. rw (back32 s.args.back s.ranges.back.sfits, s.requires.2) at c.next_staying.ensures;
-      alone = λ h. absurd (true≢false (sym (sym (tested c.before.before) ∙ not-false _ c.before.if1.false) ∙ h));
+      alone = λ h. absurd (true≢false (sym (sym (tested c.before.before) ∙ not-false _ c.before.if-not-row_stays.false) ∙ h));
     }
 
 pub find_pair_spec : {M : Type 1} → statement M
-find_pair_spec = tie.close (tie.spec row_stays-requires returns next_staying-requires returns-2)
+find_pair_spec = tie.close (tie.spec row_stays-requires returns-then-not-row_stays next_staying-requires returns)

@@ -11,54 +11,54 @@ use borrow.Author.Rules.{rules}
 use Rattle.plaquettes.proofs.pairs.next_staying.Statement.{statement}
 use Rattle.plaquettes.proofs.pairs.next_staying.Tie as tie
 
-abbrev invariant-loop : tie.invariant-loop
-invariant-loop list s sides by back from n place₀ place = (from ≤ place) × (place ≤ s.states) × ((k : ℕ) → from ≤ k → k < place → row_stays list s sides (to_z w32 by) k ≡ false)
+abbrev invariant-loop-place : tie.invariant-loop-place
+invariant-loop-place list s sides by back from n place₀ place = (from ≤ place) × (place ≤ s.states) × ((k : ℕ) → from ≤ k → k < place → row_stays list s sides (to_z w32 by) k ≡ false)
 
-abbrev decreases-loop : tie.decreases-loop
-decreases-loop list s sides by back from n place₀ place = s.states - place
+abbrev decreases-loop-place : tie.decreases-loop-place
+decreases-loop-place list s sides by back from n place₀ place = s.states - place
 
-loop-holds : tie.Need-loop-init invariant-loop decreases-loop
-loop-holds c = (omega arith, c.requires.3, λ k h l. absurd (omega arith))
+loop-place-init : tie.Need-loop-place-init invariant-loop-place decreases-loop-place
+loop-place-init c = (omega arith, c.requires.3, λ k h l. absurd (omega arith))
 
-row_stays-requires : tie.Need-row_stays-requires invariant-loop decreases-loop
+row_stays-requires : tie.Need-row_stays-requires invariant-loop-place decreases-loop-place
 row_stays-requires c κs = search rules
 
 -- the unit is a number of the machine
-unit : (c : tie.Start invariant-loop decreases-loop) → to_z w32 (of_z w32 c.args.by) ≡ c.args.by
+unit : (c : tie.Start invariant-loop-place decreases-loop-place) → to_z w32 (of_z w32 c.args.by) ≡ c.args.by
 unit c = back32 c.args.by c.ranges.by.sfits
 
-tested : (c : tie.After-row_stays invariant-loop decreases-loop)
-    → c.row_stays.result ≡ row_stays c.before.before.before.args.list.now c.before.before.before.args.s c.before.before.before.args.sides c.before.before.before.args.by c.before.before.loop.place
+tested : (c : tie.After-row_stays invariant-loop-place decreases-loop-place)
+    → c.row_stays.result ≡ row_stays c.before.before.before.args.list.now c.before.before.before.args.s c.before.before.before.args.sides c.before.before.before.args.by c.before.before.loop-place.place
 tested c = rw (unit c.before.before.before) at c.row_stays.ensures
 
-returns : tie.Need-returns invariant-loop decreases-loop
-returns c =
+returns-then-row_stays : tie.Need-returns-then-row_stays invariant-loop-place decreases-loop-place
+returns-then-row_stays c =
     let at_loop = c.before.before.before in
     record {
-      not_before = at_loop.loop.invariant.0;
-      in_list = at_loop.loop.invariant.1;
-      none_before = rw (unit at_loop.before) at at_loop.loop.invariant.2;
-      there = λ h. sym (tested c.before) ∙ c.if1.true;
+      not_before = at_loop.loop-place.invariant.0;
+      in_list = at_loop.loop-place.invariant.1;
+      none_before = rw (unit at_loop.before) at at_loop.loop-place.invariant.2;
+      there = λ h. sym (tested c.before) ∙ c.if-row_stays.true;
     }
 
-add-place : tie.Need-overflow-add-place invariant-loop decreases-loop
-add-place c = search rules
+overflow_add-place : tie.Need-overflow_add-place invariant-loop-place decreases-loop-place
+overflow_add-place c = search rules
 
-loop-less : tie.Need-loop-smaller invariant-loop decreases-loop
-loop-less c = search rules
+loop-place-smaller : tie.Need-loop-place-smaller invariant-loop-place decreases-loop-place
+loop-place-smaller c = search rules
 
-loop-again : tie.Need-loop-preserved invariant-loop decreases-loop
-loop-again c =
+loop-place-preserved : tie.Need-loop-place-preserved invariant-loop-place decreases-loop-place
+loop-place-preserved c =
     let at_loop = c.before.before.before in
     let a = at_loop.before.args in (
       omega arith,
       omega arith,
-      fails_next (row_stays a.list.now a.s a.sides _) a.from at_loop.loop.place at_loop.loop.invariant.2 (rw (unit at_loop.before) (sym (tested c.before) ∙ c.if1.false)),
+      fails_next (row_stays a.list.now a.s a.sides _) a.from at_loop.loop-place.place at_loop.loop-place.invariant.2 (rw (unit at_loop.before) (sym (tested c.before) ∙ c.if-row_stays.false)),
     )
 
-returns-2 : tie.Need-returns-2 invariant-loop decreases-loop
-returns-2 c =
-    let inv = c.before.loop.invariant in
+returns : tie.Need-returns invariant-loop-place decreases-loop-place
+returns c =
+    let inv = c.before.loop-place.invariant in
     record {
       not_before = inv.0;
       in_list = inv.1;
@@ -69,13 +69,4 @@ returns-2 c =
 pub next_staying_spec : {M : Type 1} → statement M
 next_staying_spec =
     tie.close
-    (tie.spec
-    invariant-loop
-    decreases-loop
-    loop-holds
-    row_stays-requires
-    returns
-    add-place
-    loop-less
-    loop-again
-    returns-2)
+    (tie.spec invariant-loop-place decreases-loop-place loop-place-init row_stays-requires returns-then-row_stays overflow_add-place loop-place-smaller loop-place-preserved returns)

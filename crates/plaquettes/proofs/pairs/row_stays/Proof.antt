@@ -12,23 +12,23 @@ use Rattle.plaquettes.proofs.pairs.row_stays.Tie as tie
 room : (c : tie.Start) → (c.args.place * c.args.s.edges + c.args.s.edges ≤ length c.args.list.now) × (c.args.place * c.args.s.edges ≤ 1048576 * 63)
 room c = row_room _ _ _ c.requires.0.rows c.args.place c.requires.3
 
-mul_at : tie.Need-overflow-mul-at
-mul_at c = let h = room c in search rules
+overflow_mul-at : tie.Need-overflow_mul-at
+overflow_mul-at c = let h = room c in search rules
 
-add-stays : tie.Need-overflow-add-stays
-add-stays c = let h = room c in search rules
+overflow_add-at : tie.Need-overflow_add-at
+overflow_add-at c = let h = room c in search rules
 
-mul-stays : tie.Need-overflow-mul-stays
-mul-stays c = let h = room c in search rules
+offset_bounds-list-at : tie.Need-offset_bounds-list-at
+offset_bounds-list-at c = let h = room c in search rules
 
-sub-stays : tie.Need-overflow-sub-stays
-sub-stays c = search rules
+slice_bounds-stays-count : tie.Need-slice_bounds-stays-count
+slice_bounds-stays-count c = search rules
 
-part-stays-start : tie.Need-slice-bounds-stays-start
-part-stays-start c = search rules
+slice_bounds-stays-start : tie.Need-slice_bounds-stays-start
+slice_bounds-stays-start c = search rules
 
-part-stays-end : tie.Need-slice-bounds-stays-end
-part-stays-end c = let h = room c in search rules
+slice_bounds-stays-end : tie.Need-slice_bounds-stays-end
+slice_bounds-stays-end c = let h = room c in search rules
 
 stays-requires : tie.Need-stays-requires
 stays-requires c κs =
@@ -44,12 +44,4 @@ returns c =
 pub row_stays_spec : {M : Type 1} → statement M
 row_stays_spec =
     tie.close
-    (tie.spec
-    mul_at
-    add-stays
-    mul-stays
-    sub-stays
-    part-stays-start
-    part-stays-end
-    stays-requires
-    returns)
+    (tie.spec overflow_mul-at overflow_add-at offset_bounds-list-at slice_bounds-stays-count slice_bounds-stays-start slice_bounds-stays-end stays-requires returns)

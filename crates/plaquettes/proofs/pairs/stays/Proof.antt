@@ -8,42 +8,42 @@ use borrow.Author.Rules.{rules}
 use Rattle.plaquettes.proofs.pairs.stays.Statement.{statement}
 use Rattle.plaquettes.proofs.pairs.stays.Tie as tie
 
-mul-value-stays : tie.Need-overflow-mul-value-stays
-mul-value-stays c = search rules
+offset_bounds-state-i : tie.Need-offset_bounds-state-i
+offset_bounds-state-i c = search rules
 
-shared-slice-copy-out-value-stays : tie.Need-shared-slice-copy-out-value-stays
-shared-slice-copy-out-value-stays c = search rules
+bounds-state-i : tie.Need-bounds-state-i
+bounds-state-i c = search rules
 
 value_stays-requires : tie.Need-value_stays-requires
 value_stays-requires c κs =
     let s = c.before in
     let m = s.requires.0 in
-    rw (back32 _ c.value-stays-arg.given, back32 _ s.ranges.by.sfits) (m.small _ m.first_below, s.requires.2, s.requires.1)
+    rw (back32 _ c.value_stays-arg-1.given, back32 _ s.ranges.by.sfits) (m.small _ m.first_below, s.requires.2, s.requires.1)
 
-mul-value-stays-2 : tie.Need-overflow-mul-value-stays-2
-mul-value-stays-2 c = search rules
+offset_bounds-state-j : tie.Need-offset_bounds-state-j
+offset_bounds-state-j c = search rules
 
-shared-slice-copy-out-value-stays-2 : tie.Need-shared-slice-copy-out-value-stays-2
-shared-slice-copy-out-value-stays-2 c = search rules
+bounds-state-j : tie.Need-bounds-state-j
+bounds-state-j c = search rules
 
 value_stays-requires-2 : tie.Need-value_stays-requires-2
 value_stays-requires-2 c κs =
     let s = c.before.before.before in
     let m = s.requires.0 in
     let small : nat_abs s.args.back ≤ 1 = rw s.requires.3 (omega (arith, size_neg s.args.by, s.requires.2)) in
-    rw (back32 _ c.value-stays-arg2.given, back32 _ s.ranges.back.sfits) (m.small _ m.second_below, small, s.requires.1)
+    rw (back32 _ c.value_stays-arg-2-1.given, back32 _ s.ranges.back.sfits) (m.small _ m.second_below, small, s.requires.1)
 
-mul-value-stays-3 : tie.Need-overflow-mul-value-stays-3
-mul-value-stays-3 c = search rules
+offset_bounds-state-k : tie.Need-offset_bounds-state-k
+offset_bounds-state-k c = search rules
 
-shared-slice-copy-out-value-stays-3 : tie.Need-shared-slice-copy-out-value-stays-3
-shared-slice-copy-out-value-stays-3 c = search rules
+bounds-state-k : tie.Need-bounds-state-k
+bounds-state-k c = search rules
 
 value_stays-requires-3 : tie.Need-value_stays-requires-3
 value_stays-requires-3 c κs =
     let s = c.before.before.before.before.before in
     let m = s.requires.0 in
-    rw (back32 _ c.value-stays-arg3.given, back32 _ s.ranges.by.sfits) (m.small _ m.third_below, s.requires.2, s.requires.1)
+    rw (back32 _ c.value_stays-arg-3-1.given, back32 _ s.ranges.by.sfits) (m.small _ m.third_below, s.requires.2, s.requires.1)
 
 returns : tie.Need-returns
 unfolding stays
@@ -53,11 +53,11 @@ returns c =
     let s = first.before.before in
     rw (
       first.Value-stays.ensures,
-      second.value-stays2.ensures,
-      c.value-stays3.ensures,
-      back32 (get_or s.args.state.now s.args.sides.first (pos 0)) first.before.value-stays-arg.given,
-      back32 (get_or s.args.state.now s.args.sides.second (pos 0)) second.before.value-stays-arg2.given,
-      back32 (get_or s.args.state.now s.args.sides.third (pos 0)) c.before.value-stays-arg3.given,
+      second.value_stays-2.ensures,
+      c.value_stays-3.ensures,
+      back32 (get_or s.args.state.now s.args.sides.first (pos 0)) first.before.value_stays-arg-1.given,
+      back32 (get_or s.args.state.now s.args.sides.second (pos 0)) second.before.value_stays-arg-2-1.given,
+      back32 (get_or s.args.state.now s.args.sides.third (pos 0)) c.before.value_stays-arg-3-1.given,
       back32 s.args.by s.ranges.by.sfits,
       back32 s.args.back s.ranges.back.sfits,
       s.requires.3,
@@ -66,14 +66,4 @@ returns c =
 pub stays_spec : {M : Type 1} → statement M
 stays_spec =
     tie.close
-    (tie.spec
-    mul-value-stays
-    shared-slice-copy-out-value-stays
-    value_stays-requires
-    mul-value-stays-2
-    shared-slice-copy-out-value-stays-2
-    value_stays-requires-2
-    mul-value-stays-3
-    shared-slice-copy-out-value-stays-3
-    value_stays-requires-3
-    returns)
+    (tie.spec offset_bounds-state-i bounds-state-i value_stays-requires offset_bounds-state-j bounds-state-j value_stays-requires-2 offset_bounds-state-k bounds-state-k value_stays-requires-3 returns)

@@ -16,7 +16,7 @@ returns : tie.Need-returns
 unfolding within
 returns c =
     let start = c.before.before in
-    rw (c.within.ensures, back32 c.before.sum.result c.before.sum.type-inv, c.before.sum.ensures, back32 start.args.x start.ranges.x.sfits, back32 start.args.by start.ranges.by.sfits)
+    rw (c.within.ensures, back32 c.before.sum.result c.before.sum.type_inv, c.before.sum.ensures, back32 start.args.x start.ranges.x.sfits, back32 start.args.by start.ranges.by.sfits)
 
 pub value_stays_spec : {M : Type 1} → statement M
 value_stays_spec = tie.close (tie.spec sum-requires within-requires returns)

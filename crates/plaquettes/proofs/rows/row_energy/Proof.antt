@@ -15,23 +15,23 @@ use Rattle.plaquettes.proofs.rows.row_energy.Tie as tie
 room : (c : tie.Start) → (c.args.i * c.args.m + c.args.m ≤ length c.args.list.now) × (c.args.i * c.args.m ≤ 1048576 * 63)
 room c = row_room _ _ _ c.requires.1 c.args.i c.requires.2
 
-mul_at : tie.Need-overflow-mul-at
-mul_at c = let h = room c in search rules
+overflow_mul-at : tie.Need-overflow_mul-at
+overflow_mul-at c = let h = room c in search rules
 
-add-squares : tie.Need-overflow-add-squares
-add-squares c = let h = room c in search rules
+overflow_add-at : tie.Need-overflow_add-at
+overflow_add-at c = let h = room c in search rules
 
-mul-squares : tie.Need-overflow-mul-squares
-mul-squares c = let h = room c in search rules
+offset_bounds-list-at : tie.Need-offset_bounds-list-at
+offset_bounds-list-at c = let h = room c in search rules
 
-sub-squares : tie.Need-overflow-sub-squares
-sub-squares c = search rules
+slice_bounds-squares-count : tie.Need-slice_bounds-squares-count
+slice_bounds-squares-count c = search rules
 
-part-squares-start : tie.Need-slice-bounds-squares-start
-part-squares-start c = search rules
+slice_bounds-squares-start : tie.Need-slice_bounds-squares-start
+slice_bounds-squares-start c = search rules
 
-part-squares-end : tie.Need-slice-bounds-squares-end
-part-squares-end c = let h = room c in search rules
+slice_bounds-squares-end : tie.Need-slice_bounds-squares-end
+slice_bounds-squares-end c = let h = room c in search rules
 
 squares-requires : tie.Need-squares-requires
 squares-requires c κs =
@@ -52,13 +52,4 @@ returns c =
 pub row_energy_spec : {M : Type 1} → statement M
 row_energy_spec =
     tie.close
-    (tie.spec
-    mul_at
-    add-squares
-    mul-squares
-    sub-squares
-    part-squares-start
-    part-squares-end
-    squares-requires
-    energy-requires
-    returns)
+    (tie.spec overflow_mul-at overflow_add-at offset_bounds-list-at slice_bounds-squares-count slice_bounds-squares-start slice_bounds-squares-end squares-requires energy-requires returns)

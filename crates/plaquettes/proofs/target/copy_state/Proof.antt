@@ -10,62 +10,51 @@ use borrow.Author.Rules.{rules}
 use Rattle.plaquettes.proofs.target.copy_state.Statement.{statement}
 use Rattle.plaquettes.proofs.target.copy_state.Tie as tie
 
-abbrev invariant-loop : tie.invariant-loop
-invariant-loop row₀ state e₀ e-end row e = (e ≤ length state) × (e-end ≡ length state) × (length row ≡ 63) × (take e row ≡ take e state)
+abbrev invariant-loop-e : tie.invariant-loop-e
+invariant-loop-e row₀ state e₀ e-end row e = (e ≤ length state) × (e-end ≡ length state) × (length row ≡ 63) × (take e row ≡ take e state)
 
-abbrev decreases-loop : tie.decreases-loop
-decreases-loop row₀ state e₀ e-end row e = length state - e
+abbrev decreases-loop-e : tie.decreases-loop-e
+decreases-loop-e row₀ state e₀ e-end row e = length state - e
 
-loop-holds : tie.Need-loop-init invariant-loop decreases-loop
-loop-holds c = (omega arith, refl, c.requires.0, refl)
+loop-e-init : tie.Need-loop-e-init invariant-loop-e decreases-loop-e
+loop-e-init c = (omega arith, refl, c.requires.0, refl)
 
-mul-row : tie.Need-overflow-mul-row invariant-loop decreases-loop
-mul-row c = search rules
+offset_bounds-state-e : tie.Need-offset_bounds-state-e invariant-loop-e decreases-loop-e
+offset_bounds-state-e c = search rules
 
-shared-slice-copy-out-row : tie.Need-shared-slice-copy-out-row invariant-loop decreases-loop
-shared-slice-copy-out-row c = search rules
+bounds-state-e : tie.Need-bounds-state-e invariant-loop-e decreases-loop-e
+bounds-state-e c = search rules
 
-mul-t9 : tie.Need-overflow-mul-t9 invariant-loop decreases-loop
-mul-t9 c = search rules
+offset_bounds-row-e : tie.Need-offset_bounds-row-e invariant-loop-e decreases-loop-e
+offset_bounds-row-e c = search rules
 
-element-set-from-row : tie.Need-element-set-from-row invariant-loop decreases-loop
-element-set-from-row c = omega (arith, c.before.before.before.requires.1)
+bounds-row-e : tie.Need-bounds-row-e invariant-loop-e decreases-loop-e
+bounds-row-e c = omega (arith, c.before.before.before.requires.1)
 
-add-e : tie.Need-overflow-add-e invariant-loop decreases-loop
-add-e c = search rules
+overflow_step-e : tie.Need-overflow_step-e invariant-loop-e decreases-loop-e
+overflow_step-e c = search rules
 
-loop-less : tie.Need-loop-smaller invariant-loop decreases-loop
-loop-less c = omega arith
+loop-e-smaller : tie.Need-loop-e-smaller invariant-loop-e decreases-loop-e
+loop-e-smaller c = omega arith
 
-loop-again : tie.Need-loop-preserved invariant-loop decreases-loop
-loop-again c =
+loop-e-preserved : tie.Need-loop-e-preserved invariant-loop-e decreases-loop-e
+loop-e-preserved c =
     let at-loop = c.before.before in
     let s = at-loop.before.args.state.now in
-    let e = at-loop.loop.e in (
+    let e = at-loop.loop-e.e in (
       omega arith,
       refl,
-      simp length-set at-loop.loop.invariant.2,
-      rw (back32 _ c.row.given, add-one e) (take-suc-set at-loop.loop.row e (get_or s e (pos 0)) (omega (arith, at-loop.loop.invariant.2, at-loop.before.requires.1)) ∙ rw at-loop.loop.invariant.3 (sym (take-suc s e (pos 0) (omega arith)))),
+      simp length-set at-loop.loop-e.invariant.2,
+      rw (back32 _ c.row-1.given, add-one e) (take-suc-set at-loop.loop-e.row e (get_or s e (pos 0)) (omega (arith, at-loop.loop-e.invariant.2, at-loop.before.requires.1)) ∙ rw at-loop.loop-e.invariant.3 (sym (take-suc s e (pos 0) (omega arith)))),
     )
 
-returns : tie.Need-returns invariant-loop decreases-loop
+returns : tie.Need-returns invariant-loop-e decreases-loop-e
 returns c =
     let s = c.before.before.args.state.now in
-    let past : c.before.loop.e ≡ length s = omega arith in
-    (c.before.loop.invariant.2, (rw past at c.before.loop.invariant.3) ∙ take-length s)
+    let past : c.before.loop-e.e ≡ length s = omega arith in
+    (c.before.loop-e.invariant.2, (rw past at c.before.loop-e.invariant.3) ∙ take-length s)
 
 pub copy-state-spec : {M : Type 1} → statement M
 copy-state-spec =
     tie.close
-    (tie.spec
-    invariant-loop
-    decreases-loop
-    loop-holds
-    mul-row
-    shared-slice-copy-out-row
-    mul-t9
-    element-set-from-row
-    add-e
-    loop-less
-    loop-again
-    returns)
+    (tie.spec invariant-loop-e decreases-loop-e loop-e-init offset_bounds-state-e bounds-state-e offset_bounds-row-e bounds-row-e overflow_step-e loop-e-smaller loop-e-preserved returns)

@@ -26,87 +26,87 @@ use borrow.Author.Rules.{rules}
 use Rattle.plaquettes.proofs.triangle.apply_triangle_shift.Statement.{statement}
 use Rattle.plaquettes.proofs.triangle.apply_triangle_shift.Tie as tie
 
-basis : (c : tie.Else1) → BasisWalks (complex_of c.before.before.args.c) c.before.before.args.lambda c.before.prepare_basis.result.walker c.before.prepare_basis.result.blocks
-basis c = c.before.prepare_basis.ensures.basis c.if1.false
+basis : (c : tie.Else-number-ne0) → BasisWalks (complex_of c.before.before.args.c) c.before.before.args.lambda c.before.prepare_basis-basis.result.walker c.before.prepare_basis-basis.result.blocks
+basis c = c.before.prepare_basis-basis.ensures.basis c.if-number-ne0.false
 
-edges_few : (c : tie.Else1) → c.before.before.args.c.n_edges ≤ 63
+edges_few : (c : tie.Else-number-ne0) → c.before.before.args.c.n_edges ≤ 63
 edges_few c = rw (← (edges_long c.before.before.args.c)) (basis c).walks.accepted.few_edges
 
-counted : (c : tie.After-count_states) → c.count_states.result ≡ length (states (complex_of c.before.before.before.before.args.c) c.before.before.before.before.args.lambda)
-counted c = c.count_states.ensures ∙ ap length (basis c.before.before).listed
+counted : (c : tie.After-count_states-n) → c.count_states-n.result ≡ length (states (complex_of c.before.before.before.before.args.c) c.before.before.before.before.args.lambda)
+counted c = c.count_states-n.ensures ∙ ap length (basis c.before.before).listed
 
-abbrev at-start : tie.Else2 → tie.Start
+abbrev at-start : tie.Else-c-triangle → tie.Start
 at-start c = c.before.before.before.before.before.before
 
-abbrev judged : tie.Else2 → tie.Else1
+abbrev judged : tie.Else-c-triangle → tie.Else-number-ne0
 judged c = c.before.before.before.before
 
-numbers : (c : tie.Else2) → (leb (length (complex_of (at-start c).args.c).triangles) (at-start c).args.triangle || leb (length (states (complex_of (at-start c).args.c) (at-start c).args.lambda)) (at-start c).args.state) ≡ false
-numbers c = rw (triangles_long (at-start c).args.c, ← (counted c.before.before)) c.if2.false
+numbers : (c : tie.Else-c-triangle) → (leb (length (complex_of (at-start c).args.c).triangles) (at-start c).args.triangle || leb (length (states (complex_of (at-start c).args.c) (at-start c).args.lambda)) (at-start c).args.state) ≡ false
+numbers c = rw (triangles_long (at-start c).args.c, ← (counted c.before.before)) c.if-c-triangle.false
 
 -- the triangle and the state are there
-there : (c : tie.Else2) → ((at-start c).args.triangle < length (complex_of (at-start c).args.c).triangles) × ((at-start c).args.state < length (states (complex_of (at-start c).args.c) (at-start c).args.lambda))
+there : (c : tie.Else-c-triangle) → ((at-start c).args.triangle < length (complex_of (at-start c).args.c).triangles) × ((at-start c).args.state < length (states (complex_of (at-start c).args.c) (at-start c).args.lambda))
 there c =
     let start = at-start c in
     let fell = or_fell (leb (length (complex_of start.args.c).triangles) start.args.triangle) (leb (length (states (complex_of start.args.c) start.args.lambda)) start.args.state) (numbers c) in
     (leb-false _ _ fell.0, leb-false _ _ fell.1)
 
-prepare_basis-requires : tie.Need-prepare_basis-requires
-prepare_basis-requires c κs = search rules
+prepare_basis-basis-requires : tie.Need-prepare_basis-basis-requires
+prepare_basis-basis-requires c κs = search rules
 
-returns : tie.Need-returns
+returns-then-number-ne0 : tie.Need-returns-then-number-ne0
 unfolding triangle_call number_answer
-returns c = shift_demanded _ _ _ _ _ _ _ (refuses _ (basis_refuses c.before.prepare_basis.ensures c.if1.true _) (ne_eqb _ 0 c.if1.true))
+returns-then-number-ne0 c = shift_demanded _ _ _ _ _ _ _ (refuses _ (basis_refuses c.before.prepare_basis-basis.ensures c.if-number-ne0.true _) (ne_eqb _ 0 c.if-number-ne0.true))
 
-count_states-requires : tie.Need-count_states-requires
-count_states-requires c κs = (basis c.before).fit
+count_states-n-requires : tie.Need-count_states-n-requires
+count_states-n-requires c κs = (basis c.before).fit
 
-returns-2 : tie.Need-returns-2
+returns-then-c-triangle : tie.Need-returns-then-c-triangle
 unfolding triangle_call number_answer
-returns-2 c =
+returns-then-c-triangle c =
     let first = c.before.before.before.before in
-    shift_demanded _ _ _ _ _ _ _ (refuses _ (past_basis first.before.prepare_basis.ensures first.if1.false (here (rw (triangles_long first.before.before.args.c, ← (counted c.before.before)) c.if2.true))) refl)
+    shift_demanded _ _ _ _ _ _ _ (refuses _ (past_basis first.before.prepare_basis-basis.ensures first.if-number-ne0.false (here (rw (triangles_long first.before.before.args.c, ← (counted c.before.before)) c.if-c-triangle.true))) refl)
 
-mul-if3 : tie.Need-overflow-mul-if3
-mul-if3 c =
-    let few : c.before.before.count_states.result ≤ 1048576 = rw (counted c.before.before) (basis (judged c)).few in
-    let most : c.before.before.count_states.result * (at-start c).args.c.n_edges ≤ 1048576 * 63 = mul-le-mul few (edges_few (judged c)) in
+overflow_mul-n : tie.Need-overflow_mul-n
+overflow_mul-n c =
+    let few : c.before.before.count_states-n.result ≤ 1048576 = rw (counted c.before.before) (basis (judged c)).few in
+    let most : c.before.before.count_states-n.result * (at-start c).args.c.n_edges ≤ 1048576 * 63 = mul-le-mul few (edges_few (judged c)) in
     search rules
 
 -- the front of the row is the state
-front : (c : tie.After-state_at) → take (length (complex_of (at-start c.before.before.before).args.c).edges) c.state_at.result ≡ get_or (states (complex_of (at-start c.before.before.before).args.c) (at-start c.before.before.before).args.lambda) (at-start c.before.before.before).args.state []
+front : (c : tie.After-state_at-row) → take (length (complex_of (at-start c.before.before.before).args.c).edges) c.state_at-row.result ≡ get_or (states (complex_of (at-start c.before.before.before).args.c) (at-start c.before.before.before).args.lambda) (at-start c.before.before.before).args.state []
 front c =
     let here = c.before.before.before in
     let b = basis (judged here) in
-    rw (← b.walks.edges, ← b.listed) c.state_at.ensures.1
+    rw (← b.walks.edges, ← b.listed) c.state_at-row.ensures.1
 
-returns-3 : tie.Need-returns-3
+returns-then-states-n : tie.Need-returns-then-states-n
 unfolding short triangle_call number_answer
-returns-3 c =
+returns-then-states-n c =
     let found = c.before in
-    shift_demanded _ _ _ _ _ _ _ (refuses _ (past_basis (judged found).before.prepare_basis.ensures (judged found).if1.false (past (numbers found) (here (rw (edges_long (at-start found).args.c, ← (counted found.before.before)) (lt-ltb _ _ c.if3.true))))) refl)
+    shift_demanded _ _ _ _ _ _ _ (refuses _ (past_basis (judged found).before.prepare_basis-basis.ensures (judged found).if-number-ne0.false (past (numbers found) (here (rw (edges_long (at-start found).args.c, ← (counted found.before.before)) (lt-ltb _ _ c.if-states-n.true))))) refl)
 
-room : (c : tie.Else3) → short (complex_of (at-start c.before).args.c) (at-start c.before).args.lambda (length (at-start c.before).args.states.now) ≡ false
+room : (c : tie.Else-states-n) → short (complex_of (at-start c.before).args.c) (at-start c.before).args.lambda (length (at-start c.before).args.states.now) ≡ false
 unfolding short
-room c = rw (edges_long (at-start c.before).args.c, ← (counted c.before.before.before)) (le-ltb _ _ c.if3.false)
+room c = rw (edges_long (at-start c.before).args.c, ← (counted c.before.before.before)) (le-ltb _ _ c.if-states-n.false)
 
-triangle_sides-requires : tie.Need-triangle_sides-requires
-triangle_sides-requires c κs =
+triangle_sides-sides-requires : tie.Need-triangle_sides-sides-requires
+triangle_sides-sides-requires c κs =
     let start = at-start c.before in
     ((accepted _).1 (basis (judged c.before)).walks.accepted, rw (← (triangles_long start.args.c)) (there c.before).0)
 
-state_at-requires : tie.Need-state_at-requires
-state_at-requires c κs =
+state_at-row-requires : tie.Need-state_at-row-requires
+state_at-row-requires c κs =
     let here = c.before.before in
     ((basis (judged here)).fit, rw (basis (judged here)).listed (there here).1)
 
-shiftable : (c : tie.After-state_at) → Shiftable c.state_at.result c.before.triangle_sides.result
+shiftable : (c : tie.After-state_at-row) → Shiftable c.state_at-row.result c.before.triangle_sides-sides.result
 shiftable c =
     let here = c.before.before.before in
     let start = at-start here in
     let b = basis (judged here) in
-    row_shiftable (complex_of start.args.c) b.walks.accepted start.args.lambda start.args.triangle b.truncation (there here).0 c.before.triangle_sides.result c.before.triangle_sides.ensures
-    c.state_at.result _ c.state_at.ensures.0 (front c) (state_there (complex_of start.args.c) b.walks.accepted start.args.lambda start.args.state (there here).1)
+    row_shiftable (complex_of start.args.c) b.walks.accepted start.args.lambda start.args.triangle b.truncation (there here).0 c.before.triangle_sides-sides.result c.before.triangle_sides-sides.ensures
+    c.state_at-row.result _ c.state_at-row.ensures.0 (front c) (state_there (complex_of start.args.c) b.walks.accepted start.args.lambda start.args.state (there here).1)
 
 shift_row-requires : tie.Need-shift_row-requires
 shift_row-requires c κs = shiftable c.before
@@ -126,10 +126,10 @@ unfolding moved_state
 shifted_front c =
     let here = c.before.before.before.before.before in
     let start = row_start c in
-    let three = c.before.before.before.triangle_sides in
+    let three = c.before.before.before.triangle_sides-sides in
     let below = sides_below (complex_of start.args.c) start.args.triangle three.result three.ensures (basis (judged here)).walks.accepted (there here).0 in
     rw c.shift_row.ensures
-    (front_moved (complex_of start.args.c) start.args.triangle three.result three.ensures (pos 1) c.before.before.state_at.result _ (length (complex_of start.args.c).edges) below.0 below.1 below.2 (front c.before.before))
+    (front_moved (complex_of start.args.c) start.args.triangle three.result three.ensures (pos 1) c.before.before.state_at-row.result _ (length (complex_of start.args.c).edges) below.0 below.1 below.2 (front c.before.before))
 
 -- the test of the row is that of the state
 band_told : (c : tie.After-three_within) → sides_within (complex_of (row_start c.before.before).args.c) (row_start c.before.before).args.lambda (row_start c.before.before).args.triangle
@@ -139,26 +139,26 @@ band_told c =
     let made = c.before.before in
     let here = made.before.before.before.before.before in
     let start = row_start made in
-    let three = made.before.before.before.triangle_sides in
+    let three = made.before.before.before.triangle_sides-sides in
     let below = sides_below (complex_of start.args.c) start.args.triangle three.result three.ensures (basis (judged here)).walks.accepted (there here).0 in
     three_told (complex_of start.args.c) start.args.triangle three.result three.ensures start.args.lambda made.shift_row.new.0 _ (length (complex_of start.args.c).edges) below.0 below.1 below.2 (shifted_front made)
     ∙ sym c.three_within.ensures
 
-returns-4 : tie.Need-returns-4
+returns-then-not-three_within : tie.Need-returns-then-not-three_within
 unfolding triangle_call number_answer
-returns-4 c =
+returns-then-not-three_within c =
     let enough = c.before.before.before.before.before.before.before in
     let found = enough.before in
-    shift_demanded _ _ _ _ _ _ _ (refuses _ (past_basis (judged found).before.prepare_basis.ensures (judged found).if1.false (past (numbers found) (past (room enough) (here (rw (band_told c.before ∙ not-true _ c.if4.true)))))) refl)
+    shift_demanded _ _ _ _ _ _ _ (refuses _ (past_basis (judged found).before.prepare_basis-basis.ensures (judged found).if-number-ne0.false (past (numbers found) (past (room enough) (here (rw (band_told c.before ∙ not-true _ c.if-not-three_within.true)))))) refl)
 
-sub-list-and-find : tie.Need-overflow-sub-list-and-find
-sub-list-and-find c = search rules
+slice_bounds-list_and_find-count : tie.Need-slice_bounds-list_and_find-count
+slice_bounds-list_and_find-count c = search rules
 
-part-list-and-find-start : tie.Need-slice-bounds-list-and-find-start
-part-list-and-find-start c = search rules
+slice_bounds-list_and_find-start : tie.Need-slice_bounds-list_and_find-start
+slice_bounds-list_and_find-start c = search rules
 
-part-list-and-find-end : tie.Need-slice-bounds-list-and-find-end
-part-list-and-find-end c =
+slice_bounds-list_and_find-end : tie.Need-slice_bounds-list_and_find-end
+slice_bounds-list_and_find-end c =
     let made = c.before.before.before.before in
     let few = edges_few (judged made.before.before.before.before.before) in
     let long : length made.shift_row.new.0 ≡ 63 = rw made.shift_row.ensures (moved_row_long _ _ (shiftable made.before.before) (pos 1)) in
@@ -178,43 +178,26 @@ list_and_find-requires c κs =
     let b = basis (judged here) in
     let listed = shifted_listed (complex_of start.args.c) b.walks.accepted start.args.lambda start.args.triangle start.args.state (there here).0 (there here).1 in
     rw (part made)
-    (record { complex = complex_of start.args.c; basis = b; sized = listed.0; listed = listed.1 (band_told shown.before ∙ not-false _ shown.if4.false); long = room enough })
+    (record { complex = complex_of start.args.c; basis = b; sized = listed.0; listed = listed.1 (band_told shown.before ∙ not-false _ shown.if-not-three_within.false); long = room enough })
 
-same_length : tie.Need-same-length
-same_length c = search rules
+shape_of-states : tie.Need-shape_of-states
+shape_of-states c = search rules
 
-returns-5 : tie.Need-returns-5
+returns : tie.Need-returns
 unfolding triangle_call number_answer
-returns-5 c =
+returns c =
     let shown = c.before.before.before.before.before in
     let made = shown.before.before.before in
     let enough = made.before.before.before.before in
     let found = enough.before in
     let b = basis (judged found) in
-    let band = band_told shown.before ∙ not-false _ shown.if4.false in
+    let band = band_told shown.before ∙ not-false _ shown.if-not-three_within.false in
     let listed = shifted_listed _ b.walks.accepted _ _ _ (there found).0 (there found).1 in
     let placed = rw (part made) at (c.before.list_and_find.ensures _ b) in
-    shift_demanded _ _ _ _ _ _ _ (ends _ (past_basis (judged found).before.prepare_basis.ensures (judged found).if1.false (past (numbers found) (past (room enough) (past (rw band) none))))
+    shift_demanded _ _ _ _ _ _ _ (ends _ (past_basis (judged found).before.prepare_basis-basis.ensures (judged found).if-number-ne0.false (past (numbers found) (past (room enough) (past (rw band) none))))
     (placed.found (listed.0, listed.1 band)) placed.list (record { found = in_basis_at _ b.walks.accepted _ _ listed.0 (listed.1 band); few = b.few }))
 
 pub apply_triangle_shift_spec : {M : Type 1} → statement M
 apply_triangle_shift_spec =
     tie.close
-    (tie.spec
-    prepare_basis-requires
-    returns
-    count_states-requires
-    returns-2
-    mul-if3
-    returns-3
-    triangle_sides-requires
-    state_at-requires
-    shift_row-requires
-    three_within-requires
-    returns-4
-    sub-list-and-find
-    part-list-and-find-start
-    part-list-and-find-end
-    list_and_find-requires
-    same_length
-    returns-5)
+    (tie.spec prepare_basis-basis-requires returns-then-number-ne0 count_states-n-requires returns-then-c-triangle overflow_mul-n returns-then-states-n triangle_sides-sides-requires state_at-row-requires shift_row-requires three_within-requires returns-then-not-three_within slice_bounds-list_and_find-count slice_bounds-list_and_find-start slice_bounds-list_and_find-end list_and_find-requires shape_of-states returns)

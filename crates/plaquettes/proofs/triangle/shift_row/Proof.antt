@@ -11,10 +11,10 @@ move_edge-requires-2 : tie.Need-move_edge-requires-2
 move_edge-requires-2 c κs = rw c.before.move_edge.ensures (second_ready _ _ c.before.before.before.requires (pos 1) one_small)
 
 move_edge-requires-3 : tie.Need-move_edge-requires-3
-move_edge-requires-3 c κs = rw (c.before.move-edge2.ensures, c.before.before.before.move_edge.ensures) (third_ready _ _ c.before.before.before.before.before.requires (pos 1) one_small)
+move_edge-requires-3 c κs = rw (c.before.move_edge-2.ensures, c.before.before.before.move_edge.ensures) (third_ready _ _ c.before.before.before.before.before.requires (pos 1) one_small)
 
 returns : tie.Need-returns
-returns c = c.move-edge3.ensures ∙ rw (c.before.before.move-edge2.ensures, c.before.before.before.before.move_edge.ensures)
+returns c = c.move_edge-3.ensures ∙ rw (c.before.before.move_edge-2.ensures, c.before.before.before.before.move_edge.ensures)
 
 pub shift_row_spec : {M : Type 1} → statement M
 shift_row_spec =

@@ -7,28 +7,28 @@ use Rattle.recorded.proofs.Numbers.{negative_fits, negative_is}
 use Rattle.recorded.proofs.number.i8_at.Statement.{statement}
 use Rattle.recorded.proofs.number.i8_at.Tie as tie
 
-u8_at-requires : tie.Need-u8_at-requires
-u8_at-requires c κs = search rules
+u8_at-n-requires : tie.Need-u8_at-n-requires
+u8_at-n-requires c κs = search rules
 
-cast-result : tie.Need-overflow-cast-result
-cast-result c = search rules
+overflow_cast-result : tie.Need-overflow_cast-result
+overflow_cast-result c = search rules
+
+returns-then-n-lt128 : tie.Need-returns-then-n-lt128
+returns-then-n-lt128 c = ap (to_z w8) c.before.u8_at-n.ensures
+
+overflow_sub-result : tie.Need-overflow_sub-result
+overflow_sub-result c = search rules
+
+overflow_cast-result-2 : tie.Need-overflow_cast-result-2
+overflow_cast-result-2 c = search rules
+
+overflow_sub-result-2 : tie.Need-overflow_sub-result-2
+overflow_sub-result-2 c = negative_fits w8 (255 - c.before.u8_at-n.result) c.before.u8_at-n.result (search rules) (search rules) (search rules)
 
 returns : tie.Need-returns
-returns c = ap (to_z w8) c.before.u8_at.ensures
-
-sub-result : tie.Need-overflow-sub-result
-sub-result c = search rules
-
-cast-result-2 : tie.Need-overflow-cast-result-2
-cast-result-2 c = search rules
-
-sub-result-2 : tie.Need-overflow-sub-result-2
-sub-result-2 c = negative_fits w8 (255 - c.before.u8_at.result) c.before.u8_at.result (search rules) (search rules) (search rules)
-
-returns-2 : tie.Need-returns-2
-returns-2 c = negative_is w8 (255 - c.before.u8_at.result) c.before.u8_at.result (search rules) (search rules) (search rules) ∙ ap (to_z w8) c.before.u8_at.ensures
+returns c = negative_is w8 (255 - c.before.u8_at-n.result) c.before.u8_at-n.result (search rules) (search rules) (search rules) ∙ ap (to_z w8) c.before.u8_at-n.ensures
 
 pub i8_at_spec : {M : Type 1} → statement M
 i8_at_spec =
     tie.close
-    (tie.spec u8_at-requires cast-result returns sub-result cast-result-2 sub-result-2 returns-2)
+    (tie.spec u8_at-n-requires overflow_cast-result returns-then-n-lt128 overflow_sub-result overflow_cast-result-2 overflow_sub-result-2 returns)

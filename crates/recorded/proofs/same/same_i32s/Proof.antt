@@ -11,63 +11,49 @@ use Rattle.recorded.proofs.Holding.{Holding, hold_not, hold_none, hold_next, hol
 use Rattle.recorded.proofs.same.same_i32s.Statement.{statement}
 use Rattle.recorded.proofs.same.same_i32s.Tie as tie
 
-abbrev invariant-loop : tie.invariant-loop
-invariant-loop list bytes n so-far₀ i₀ so_far i = Holding 4 (λ x n. equal x (to_z w32 n)) (pos 0) list bytes so_far i
+abbrev invariant-loop-i : tie.invariant-loop-i
+invariant-loop-i list bytes n so_far₀ i₀ so_far i = Holding 4 (λ x n. equal x (to_z w32 n)) (pos 0) list bytes so_far i
 
-abbrev decreases-loop : tie.decreases-loop
-decreases-loop list bytes n so-far₀ i₀ so_far i = n - i
+abbrev decreases-loop-i : tie.decreases-loop-i
+decreases-loop-i list bytes n so_far₀ i₀ so_far i = n - i
 
-whole-requires : tie.Need-whole-requires invariant-loop decreases-loop
+whole-requires : tie.Need-whole-requires invariant-loop-i decreases-loop-i
 whole-requires c κs = search rules
 
-returns : tie.Need-returns invariant-loop decreases-loop
-returns c = hold_not _ _ _ _ _ (sym c.before.whole.ensures ∙ not-true _ c.if1.true)
+returns-then-not-whole : tie.Need-returns-then-not-whole invariant-loop-i decreases-loop-i
+returns-then-not-whole c = hold_not _ _ _ _ _ (sym c.before.whole.ensures ∙ not-true _ c.if-not-whole.true)
 
-loop-holds : tie.Need-loop-init invariant-loop decreases-loop
-loop-holds c = hold_none _ _ _ _ _ (sym c.before.whole.ensures ∙ not-false _ c.if1.false)
+loop-i-init : tie.Need-loop-i-init invariant-loop-i decreases-loop-i
+loop-i-init c = hold_none _ _ _ _ _ (sym c.before.whole.ensures ∙ not-false _ c.if-not-whole.false)
 
-mul-same-i32 : tie.Need-overflow-mul-same-i32 invariant-loop decreases-loop
-mul-same-i32 c = search rules
+offset_bounds-list-i : tie.Need-offset_bounds-list-i invariant-loop-i decreases-loop-i
+offset_bounds-list-i c = search rules
 
-shared-slice-copy-out-same-i32 : tie.Need-shared-slice-copy-out-same-i32 invariant-loop decreases-loop
-shared-slice-copy-out-same-i32 c = search rules
+bounds-list-i : tie.Need-bounds-list-i invariant-loop-i decreases-loop-i
+bounds-list-i c = search rules
 
-mul-i32-at : tie.Need-overflow-mul-i32-at invariant-loop decreases-loop
-mul-i32-at c = search rules
+overflow_mul-i : tie.Need-overflow_mul-i invariant-loop-i decreases-loop-i
+overflow_mul-i c = search rules
 
-i32_at-requires : tie.Need-i32_at-requires invariant-loop decreases-loop
+i32_at-requires : tie.Need-i32_at-requires invariant-loop-i decreases-loop-i
 i32_at-requires c κs = search rules
 
-same_i32-requires : tie.Need-same_i32-requires invariant-loop decreases-loop
-same_i32-requires c κs = search rules
+same_i32-so_far-requires : tie.Need-same_i32-so_far-requires invariant-loop-i decreases-loop-i
+same_i32-so_far-requires c κs = search rules
 
-add-i : tie.Need-overflow-add-i invariant-loop decreases-loop
-add-i c = search rules
+overflow_step-i : tie.Need-overflow_step-i invariant-loop-i decreases-loop-i
+overflow_step-i c = search rules
 
-loop-less : tie.Need-loop-smaller invariant-loop decreases-loop
-loop-less c = search rules
+loop-i-smaller : tie.Need-loop-i-smaller invariant-loop-i decreases-loop-i
+loop-i-smaller c = search rules
 
-loop-again : tie.Need-loop-preserved invariant-loop decreases-loop
-loop-again c = hold_next _ _ _ _ _ c.before.before.before.before.loop.invariant (search rules) (c.same_i32.ensures ∙ rw (back32 _ c.before.before.same-i32-arg.given, back32 _ c.before.i32_at.type-inv, c.before.i32_at.ensures))
+loop-i-preserved : tie.Need-loop-i-preserved invariant-loop-i decreases-loop-i
+loop-i-preserved c = hold_next _ _ _ _ _ c.before.before.before.before.loop-i.invariant (search rules) (c.same_i32-so_far.ensures ∙ rw (back32 _ c.before.before.same_i32-arg-1.given, back32 _ c.before.i32_at.type_inv, c.before.i32_at.ensures))
 
-returns-2 : tie.Need-returns-2 invariant-loop decreases-loop
-returns-2 c = hold_all _ _ _ _ _ c.before.loop.invariant (search rules)
+returns : tie.Need-returns invariant-loop-i decreases-loop-i
+returns c = hold_all _ _ _ _ _ c.before.loop-i.invariant (search rules)
 
 pub same_i32s_spec : {M : Type 1} → statement M
 same_i32s_spec =
     tie.close
-    (tie.spec
-    invariant-loop
-    decreases-loop
-    whole-requires
-    returns
-    loop-holds
-    mul-same-i32
-    shared-slice-copy-out-same-i32
-    mul-i32-at
-    i32_at-requires
-    same_i32-requires
-    add-i
-    loop-less
-    loop-again
-    returns-2)
+    (tie.spec invariant-loop-i decreases-loop-i whole-requires returns-then-not-whole loop-i-init offset_bounds-list-i bounds-list-i overflow_mul-i i32_at-requires same_i32-so_far-requires overflow_step-i loop-i-smaller loop-i-preserved returns)

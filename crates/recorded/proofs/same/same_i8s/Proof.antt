@@ -12,55 +12,43 @@ use Rattle.recorded.proofs.Holding.{Holding, hold_not, hold_none, hold_next, hol
 use Rattle.recorded.proofs.same.same_i8s.Statement.{statement}
 use Rattle.recorded.proofs.same.same_i8s.Tie as tie
 
-abbrev invariant-loop : tie.invariant-loop
-invariant-loop list bytes n so-far₀ i₀ so_far i = Holding 1 (λ x n. equal x (to_z w8 n)) (pos 0) list bytes so_far i
+abbrev invariant-loop-i : tie.invariant-loop-i
+invariant-loop-i list bytes n so_far₀ i₀ so_far i = Holding 1 (λ x n. equal x (to_z w8 n)) (pos 0) list bytes so_far i
 
-abbrev decreases-loop : tie.decreases-loop
-decreases-loop list bytes n so-far₀ i₀ so_far i = n - i
+abbrev decreases-loop-i : tie.decreases-loop-i
+decreases-loop-i list bytes n so_far₀ i₀ so_far i = n - i
 
-whole-requires : tie.Need-whole-requires invariant-loop decreases-loop
+whole-requires : tie.Need-whole-requires invariant-loop-i decreases-loop-i
 whole-requires c κs = search rules
 
-returns : tie.Need-returns invariant-loop decreases-loop
-returns c = hold_not _ _ _ _ _ (sym c.before.whole.ensures ∙ not-true _ c.if1.true)
+returns-then-not-whole : tie.Need-returns-then-not-whole invariant-loop-i decreases-loop-i
+returns-then-not-whole c = hold_not _ _ _ _ _ (sym c.before.whole.ensures ∙ not-true _ c.if-not-whole.true)
 
-loop-holds : tie.Need-loop-init invariant-loop decreases-loop
-loop-holds c = hold_none _ _ _ _ _ (sym c.before.whole.ensures ∙ not-false _ c.if1.false)
+loop-i-init : tie.Need-loop-i-init invariant-loop-i decreases-loop-i
+loop-i-init c = hold_none _ _ _ _ _ (sym c.before.whole.ensures ∙ not-false _ c.if-not-whole.false)
 
-shared-slice-copy-out-same-i8 : tie.Need-shared-slice-copy-out-same-i8 invariant-loop decreases-loop
-shared-slice-copy-out-same-i8 c = search rules
+bounds-list-i : tie.Need-bounds-list-i invariant-loop-i decreases-loop-i
+bounds-list-i c = search rules
 
-i8_at-requires : tie.Need-i8_at-requires invariant-loop decreases-loop
+i8_at-requires : tie.Need-i8_at-requires invariant-loop-i decreases-loop-i
 i8_at-requires c κs = search rules
 
-same_i8-requires : tie.Need-same_i8-requires invariant-loop decreases-loop
-same_i8-requires c κs = search rules
+same_i8-so_far-requires : tie.Need-same_i8-so_far-requires invariant-loop-i decreases-loop-i
+same_i8-so_far-requires c κs = search rules
 
-add-i : tie.Need-overflow-add-i invariant-loop decreases-loop
-add-i c = search rules
+overflow_step-i : tie.Need-overflow_step-i invariant-loop-i decreases-loop-i
+overflow_step-i c = search rules
 
-loop-less : tie.Need-loop-smaller invariant-loop decreases-loop
-loop-less c = search rules
+loop-i-smaller : tie.Need-loop-i-smaller invariant-loop-i decreases-loop-i
+loop-i-smaller c = search rules
 
-loop-again : tie.Need-loop-preserved invariant-loop decreases-loop
-loop-again c = hold_next _ _ _ _ _ c.before.before.before.before.loop.invariant (search rules) (c.same_i8.ensures ∙ rw (back8 _ c.before.before.same-i8-arg.given, back8 _ c.before.i8_at.type-inv, c.before.i8_at.ensures, byte_number _ _))
+loop-i-preserved : tie.Need-loop-i-preserved invariant-loop-i decreases-loop-i
+loop-i-preserved c = hold_next _ _ _ _ _ c.before.before.before.before.loop-i.invariant (search rules) (c.same_i8-so_far.ensures ∙ rw (back8 _ c.before.before.same_i8-arg-1.given, back8 _ c.before.i8_at.type_inv, c.before.i8_at.ensures, byte_number _ _))
 
-returns-2 : tie.Need-returns-2 invariant-loop decreases-loop
-returns-2 c = hold_all _ _ _ _ _ c.before.loop.invariant (search rules)
+returns : tie.Need-returns invariant-loop-i decreases-loop-i
+returns c = hold_all _ _ _ _ _ c.before.loop-i.invariant (search rules)
 
 pub same_i8s_spec : {M : Type 1} → statement M
 same_i8s_spec =
     tie.close
-    (tie.spec
-    invariant-loop
-    decreases-loop
-    whole-requires
-    returns
-    loop-holds
-    shared-slice-copy-out-same-i8
-    i8_at-requires
-    same_i8-requires
-    add-i
-    loop-less
-    loop-again
-    returns-2)
+    (tie.spec invariant-loop-i decreases-loop-i whole-requires returns-then-not-whole loop-i-init bounds-list-i i8_at-requires same_i8-so_far-requires overflow_step-i loop-i-smaller loop-i-preserved returns)

@@ -7,23 +7,23 @@ use Rattle.recorded_fields.proofs.case.word_at.Tie as tie
 byte_at-requires : tie.Need-byte_at-requires
 byte_at-requires c κs = search rules
 
-add-byte-at : tie.Need-overflow-add-byte-at
-add-byte-at c = search rules
+overflow_add-at : tie.Need-overflow_add-at
+overflow_add-at c = search rules
 
 byte_at-requires-2 : tie.Need-byte_at-requires-2
 byte_at-requires-2 c κs = search rules
 
-mul-result : tie.Need-overflow-mul-result
-mul-result c = search rules
+overflow_mul-result : tie.Need-overflow_mul-result
+overflow_mul-result c = search rules
 
-add-result : tie.Need-overflow-add-result
-add-result c = search rules
+overflow_add-result : tie.Need-overflow_add-result
+overflow_add-result c = search rules
 
 returns : tie.Need-returns
 unfolding word
-returns c = (rw (c.before.byte_at.ensures.0, c.byte-at2.ensures.0), omega (arith, c.before.byte_at.ensures.1, c.byte-at2.ensures.1))
+returns c = (rw (c.before.byte_at.ensures.0, c.byte_at-2.ensures.0), omega (arith, c.before.byte_at.ensures.1, c.byte_at-2.ensures.1))
 
 pub word_at_spec : {M : Type 1} → statement M
 word_at_spec =
     tie.close
-    (tie.spec byte_at-requires add-byte-at byte_at-requires-2 mul-result add-result returns)
+    (tie.spec byte_at-requires overflow_add-at byte_at-requires-2 overflow_mul-result overflow_add-result returns)

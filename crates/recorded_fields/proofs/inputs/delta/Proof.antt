@@ -13,7 +13,7 @@ i32_at-requires c κs = search rules
 
 returns : tie.Need-returns
 unfolding case_at
-returns c = back32 _ c.i32_at.type-inv ∙ c.i32_at.ensures ∙ rw c.before.field.ensures.0
+returns c = back32 _ c.i32_at.type_inv ∙ c.i32_at.ensures ∙ rw c.before.field.ensures.0
 
 pub delta_spec : {M : Type 1} → statement M
 delta_spec = tie.close (tie.spec field-requires i32_at-requires returns)

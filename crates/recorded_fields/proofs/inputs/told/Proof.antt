@@ -13,7 +13,7 @@ i64_at-requires c κs = search rules
 
 returns : tie.Need-returns
 unfolding case_at
-returns c = back64 _ c.i64_at.type-inv ∙ c.i64_at.ensures ∙ rw c.before.field.ensures.0
+returns c = back64 _ c.i64_at.type_inv ∙ c.i64_at.ensures ∙ rw c.before.field.ensures.0
 
 pub told_spec : {M : Type 1} → statement M
 told_spec = tie.close (tie.spec field-requires i64_at-requires returns)

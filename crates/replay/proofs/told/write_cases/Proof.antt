@@ -29,35 +29,35 @@ room_1 : (s : tie.Start) → 0 + length (counted s) ≤ length s.args.out.now
 room_1 s = room_first (counted s) (compared s) _ _ (room_2 s)
 
 -- what is written after one and two
-abbrev start : tie.After-write_named → tie.Start
+abbrev start : tie.After-write_named-counted → tie.Start
 start c = c.before.before.before.before
 
-put_1 : (c : tie.After-write_named) → Put (counted (start c)) (start c).args.out.now 0 c.write_named.new.0 c.write_named.result
+put_1 : (c : tie.After-write_named-counted) → Put (counted (start c)) (start c).args.out.now 0 c.write_named-counted.new.0 c.write_named-counted.result
 unfolding named ascii
-put_1 c = c.write_named.ensures
+put_1 c = c.write_named-counted.ensures
 
-abbrev one : tie.After-write-named2 → tie.After-write_named
+abbrev one : tie.After-write_named-compared → tie.After-write_named-counted
 one c = c.before.before.before.before.before
 
-put_2 : (c : tie.After-write-named2) → Put (counted (start (one c)) ++ compared (start (one c))) (start (one c)).args.out.now 0 c.write-named2.new.0 c.write-named2.result
+put_2 : (c : tie.After-write_named-compared) → Put (counted (start (one c)) ++ compared (start (one c))) (start (one c)).args.out.now 0 c.write_named-compared.new.0 c.write_named-compared.result
 unfolding named ascii
 put_2 c =
     let s = start (one c) in
-    both (counted s) (compared s) _ _ _ _ _ _ (room_1 s) (put_1 (one c)) c.write-named2.ensures
+    both (counted s) (compared s) _ _ _ _ _ _ (room_1 s) (put_1 (one c)) c.write_named-compared.ensures
 
 slice-aggregate-write-named : tie.Need-slice-aggregate-write-named
 slice-aggregate-write-named c = search rules
 
-write_named-requires : tie.Need-write_named-requires
+write_named-counted-requires : tie.Need-write_named-counted-requires
 unfolding named ascii
-write_named-requires c κs = room_1 c.before.before.before
+write_named-counted-requires c κs = room_1 c.before.before.before
 
 slice-aggregate-write-named-2 : tie.Need-slice-aggregate-write-named-2
 slice-aggregate-write-named-2 c = search rules
 
-write_named-requires-2 : tie.Need-write_named-requires-2
+write_named-compared-requires : tie.Need-write_named-compared-requires
 unfolding named ascii
-write_named-requires-2 c κs =
+write_named-compared-requires c κs =
     let written = c.before.before.before.before in
     let s = start written in
     room_second (counted s) (compared s) _ _ _ _ (room_2 s) (put_1 written)
@@ -72,8 +72,8 @@ write_text-requires c κs =
     let s = start (one written) in
     room_second (counted s ++ compared s) (ascii " differ\n") _ _ _ _ (room_3 s) (put_2 written)
 
-same_length : tie.Need-same-length
-same_length c = search rules
+shape_of-out : tie.Need-shape_of-out
+shape_of-out c = search rules
 
 returns : tie.Need-returns
 unfolding cases_line ascii
@@ -87,12 +87,4 @@ returns c =
 pub write_cases_spec : {M : Type 1} → statement M
 write_cases_spec =
     tie.close
-    (tie.spec
-    slice-aggregate-write-named
-    write_named-requires
-    slice-aggregate-write-named-2
-    write_named-requires-2
-    slice-aggregate-write-text
-    write_text-requires
-    same_length
-    returns)
+    (tie.spec write_named-counted-requires write_named-compared-requires write_text-requires shape_of-out returns)

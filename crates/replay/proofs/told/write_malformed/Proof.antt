@@ -22,19 +22,19 @@ room_2 s = omega (arith, malformed_line_long s.args.at s.ranges.at.fits)
 room_1 : (s : tie.Start) → 0 + length (placed s) ≤ length s.args.out.now
 room_1 s = room_first (placed s) (ascii "\n") _ _ (room_2 s)
 
-abbrev start : tie.After-write_named → tie.Start
+abbrev start : tie.After-write_named-next → tie.Start
 start c = c.before.before.before.before
 
-put_1 : (c : tie.After-write_named) → Put (placed (start c)) (start c).args.out.now 0 c.write_named.new.0 c.write_named.result
+put_1 : (c : tie.After-write_named-next) → Put (placed (start c)) (start c).args.out.now 0 c.write_named-next.new.0 c.write_named-next.result
 unfolding named ascii
-put_1 c = c.write_named.ensures
+put_1 c = c.write_named-next.ensures
 
 slice-aggregate-write-named : tie.Need-slice-aggregate-write-named
 slice-aggregate-write-named c = search rules
 
-write_named-requires : tie.Need-write_named-requires
+write_named-next-requires : tie.Need-write_named-next-requires
 unfolding named ascii
-write_named-requires c κs = room_1 c.before.before.before
+write_named-next-requires c κs = room_1 c.before.before.before
 
 write_byte-requires : tie.Need-write_byte-requires
 unfolding ascii
@@ -44,8 +44,8 @@ write_byte-requires c κs =
     let room = room_second (placed s) (ascii "\n") _ _ _ _ (room_2 s) (put_1 written) in
     omega arith
 
-same_length : tie.Need-same-length
-same_length c = search rules
+shape_of-out : tie.Need-shape_of-out
+shape_of-out c = search rules
 
 returns : tie.Need-returns
 unfolding malformed_line ascii
@@ -59,9 +59,4 @@ returns c =
 pub write_malformed_spec : {M : Type 1} → statement M
 write_malformed_spec =
     tie.close
-    (tie.spec
-    slice-aggregate-write-named
-    write_named-requires
-    write_byte-requires
-    same_length
-    returns)
+    (tie.spec write_named-next-requires write_byte-requires shape_of-out returns)

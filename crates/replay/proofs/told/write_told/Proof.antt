@@ -4,49 +4,40 @@ use borrow.Author.Rules.{rules}
 use Rattle.replay.proofs.told.write_told.Statement.{statement}
 use Rattle.replay.proofs.told.write_told.Tie as tie
 
-replay-requires : tie.Need-replay-requires
-replay-requires c κs = search rules
+replay-told-requires : tie.Need-replay-told-requires
+replay-told-requires c κs = search rules
 
-enum-known-told : tie.Need-enum-known-told
-enum-known-told c = search rules
+enum_known-told : tie.Need-enum_known-told
+enum_known-told c = search rules
 
 write_cases-requires : tie.Need-write_cases-requires
 write_cases-requires c κs = search rules
 
-enum-known-told-2 : tie.Need-enum-known-told-2
-enum-known-told-2 c = search rules
+enum_known-told-in-Malformed-1 : tie.Need-enum_known-told-in-Malformed-1
+enum_known-told-in-Malformed-1 c = search rules
 
 write_malformed-requires : tie.Need-write_malformed-requires
 write_malformed-requires c κs = search rules
 
-same_length : tie.Need-same-length
-same_length c = search rules
+shape_of-out-in-Cases : tie.Need-shape_of-out-in-Cases
+shape_of-out-in-Cases c = search rules
 
-returns : tie.Need-returns
+returns-in-Cases : tie.Need-returns-in-Cases
 unfolding replayed_text
-returns c =
+returns-in-Cases c =
     let known = c.before.before.before.before.before in
-    rw (sym known.before.before.replay.ensures ∙ known.told.given.1) c.before.before.write_cases.ensures
+    rw (sym known.before.before.replay-told.ensures ∙ known.told-1.given.1) c.before.before.write_cases.ensures
 
-same-length-2 : tie.Need-same-length-2
-same-length-2 c = search rules
+shape_of-out-in-Malformed : tie.Need-shape_of-out-in-Malformed
+shape_of-out-in-Malformed c = search rules
 
-returns-2 : tie.Need-returns-2
+returns-in-Malformed : tie.Need-returns-in-Malformed
 unfolding replayed_text
-returns-2 c =
+returns-in-Malformed c =
     let known = c.before.before.before.before.before in
-    rw (sym known.before.before.replay.ensures ∙ known.told2.given.1) c.before.before.write_malformed.ensures
+    rw (sym known.before.before.replay-told.ensures ∙ known.told-in-Malformed-1.given.1) c.before.before.write_malformed.ensures
 
 pub write_told_spec : {M : Type 1} → statement M
 write_told_spec =
     tie.close
-    (tie.spec
-    replay-requires
-    enum-known-told
-    write_cases-requires
-    enum-known-told-2
-    write_malformed-requires
-    same_length
-    returns
-    same-length-2
-    returns-2)
+    (tie.spec replay-told-requires enum_known-told write_cases-requires enum_known-told-in-Malformed-1 write_malformed-requires shape_of-out-in-Cases returns-in-Cases shape_of-out-in-Malformed returns-in-Malformed)

@@ -3,8 +3,8 @@ use borrow.Author.Rules.{rules}
 use Rattle.replay.proofs.walk.ends.Statement.{statement}
 use Rattle.replay.proofs.walk.ends.Tie as tie
 
-add-result : tie.Need-overflow-add-result
-add-result c = search rules
+overflow_add-result : tie.Need-overflow_add-result
+overflow_add-result c = search rules
 
 byte_at-requires : tie.Need-byte_at-requires
 byte_at-requires c κs = search rules
@@ -14,4 +14,4 @@ unfolding ends
 returns c = rw c.byte_at.ensures.0
 
 pub ends_spec : {M : Type 1} → statement M
-ends_spec = tie.close (tie.spec add-result byte_at-requires returns)
+ends_spec = tie.close (tie.spec overflow_add-result byte_at-requires returns)

@@ -12,78 +12,65 @@ use Rattle.replay.proofs.Walking.{Walked, walked_none, walked_next, walked_all, 
 use Rattle.replay.proofs.walk.replay.Statement.{statement}
 use Rattle.replay.proofs.walk.replay.Tie as tie
 
-abbrev invariant-loop : tie.invariant-loop
-invariant-loop list at₀ cases₀ differ₀ at cases differ = Walked list at cases differ
+abbrev invariant-loop-differ : tie.invariant-loop-differ
+invariant-loop-differ list at₀ cases₀ differ₀ at cases differ = Walked list at cases differ
 
-abbrev decreases-loop : tie.decreases-loop
-decreases-loop list at₀ cases₀ differ₀ at cases differ = length list - at
+abbrev decreases-loop-differ : tie.decreases-loop-differ
+decreases-loop-differ list at₀ cases₀ differ₀ at cases differ = length list - at
 
-loop-holds : tie.Need-loop-init invariant-loop decreases-loop
-loop-holds c = walked_none _
+loop-differ-init : tie.Need-loop-differ-init invariant-loop-differ decreases-loop-differ
+loop-differ-init c = walked_none _
 
-stands-requires : tie.Need-stands-requires invariant-loop decreases-loop
-stands-requires c κs = c.loop.invariant.inside
+stands-requires : tie.Need-stands-requires invariant-loop-differ decreases-loop-differ
+stands-requires c κs = c.loop-differ.invariant.inside
 
 -- the case lies within the list
-fits : (c : tie.Then1 invariant-loop decreases-loop) → Whole c.before.before.before.before.args.list.now c.before.before.loop.at
-fits c = whole_of _ _ (sym c.before.stands.ensures ∙ c.if1.true)
+fits : (c : tie.In-loop-differ invariant-loop-differ decreases-loop-differ) → Whole c.before.before.before.before.args.list.now c.before.before.loop-differ.at
+fits c = whole_of _ _ (sym c.before.stands.ensures ∙ c.loop-differ-test.true)
 
-case_same-requires : tie.Need-case_same-requires invariant-loop decreases-loop
+case_same-requires : tie.Need-case_same-requires invariant-loop-differ decreases-loop-differ
 case_same-requires c κs = fits c
 
-add-differ : tie.Need-overflow-add-differ invariant-loop decreases-loop
-add-differ c = omega (arith, case_inside _ _ (fits c.before.before))
+overflow_add-differ : tie.Need-overflow_add-differ invariant-loop-differ decreases-loop-differ
+overflow_add-differ c = omega (arith, case_inside _ _ (fits c.before.before))
 
-add-cases : tie.Need-overflow-add-cases invariant-loop decreases-loop
-add-cases c = omega (arith, case_inside _ _ (fits c.before.before))
+overflow_add-cases : tie.Need-overflow_add-cases invariant-loop-differ decreases-loop-differ
+overflow_add-cases c = omega (arith, case_inside _ _ (fits c.before.before))
 
-place-requires : tie.Need-place-requires invariant-loop decreases-loop
-place-requires c κs = (c.before.before.before.before.loop.invariant.inside, omega arith)
+place-at-requires : tie.Need-place-at-requires invariant-loop-differ decreases-loop-differ
+place-at-requires c κs = (c.before.before.before.before.loop-differ.invariant.inside, omega arith)
 
-loop-less : tie.Need-loop-smaller invariant-loop decreases-loop
-loop-less c =
+loop-differ-smaller : tie.Need-loop-differ-smaller invariant-loop-differ decreases-loop-differ
+loop-differ-smaller c =
     let test = c.before.before.before in
-    omega (arith, later test.before.before.before.before.args.list.now test.before.before.loop.at 15, c.place.ensures, fits test)
+    omega (arith, later test.before.before.before.before.args.list.now test.before.before.loop-differ.at 15, c.place-at.ensures, fits test)
 
-loop-again : tie.Need-loop-preserved invariant-loop decreases-loop
-loop-again c =
+loop-differ-preserved : tie.Need-loop-differ-preserved invariant-loop-differ decreases-loop-differ
+loop-differ-preserved c =
     let same = c.before.before in
     let test = same.before in
-    let now = test.before.before.loop in
+    let now = test.before.before.loop-differ in
     let agrees = same.case_same.ensures in
-    walked_next _ _ _ _ now.invariant (sym test.before.stands.ensures ∙ test.if1.true) _ c.place.ensures _
+    walked_next _ _ _ _ now.invariant (sym test.before.stands.ensures ∙ test.loop-differ-test.true) _ c.place-at.ensures _
     (⊎_elim
     (λ w. w.1 ∙ rw agrees at (one_more same.case_same.result now.differ w.0.taken))
     (λ w. w.1 ∙ rw agrees at (none_more same.case_same.result now.differ w.0.left))
-    c.before.if2.branch)
+    c.before.if-not-case_same.branch)
 
 -- no case is left
-all_walked : (c : tie.Else1 invariant-loop decreases-loop) → replayed c.before.before.before.before.args.list.now ≡ cond (ends c.before.before.before.before.args.list.now c.before.before.loop.at) (Cases c.before.before.loop.cases c.before.before.loop.differ) (Malformed c.before.before.loop.at)
-all_walked c = walked_all _ _ _ _ c.before.before.loop.invariant (sym c.before.stands.ensures ∙ c.if1.false)
+all_walked : (c : tie.After-loop-differ invariant-loop-differ decreases-loop-differ) → replayed c.before.before.before.before.args.list.now ≡ cond (ends c.before.before.before.before.args.list.now c.before.before.loop-differ.at) (Cases c.before.before.loop-differ.cases c.before.before.loop-differ.differ) (Malformed c.before.before.loop-differ.at)
+all_walked c = walked_all _ _ _ _ c.before.before.loop-differ.invariant (sym c.before.stands.ensures ∙ c.loop-differ-test.false)
 
-ends-requires : tie.Need-ends-requires invariant-loop decreases-loop
-ends-requires c κs = c.before.before.loop.invariant.inside
+ends-requires : tie.Need-ends-requires invariant-loop-differ decreases-loop-differ
+ends-requires c κs = c.before.before.loop-differ.invariant.inside
 
-returns : tie.Need-returns invariant-loop decreases-loop
-returns c = sym (all_walked c.before.before ∙ rw (sym c.before.ends.ensures ∙ c.if3.true))
+returns-then-ends : tie.Need-returns-then-ends invariant-loop-differ decreases-loop-differ
+returns-then-ends c = sym (all_walked c.before.before ∙ rw (sym c.before.ends.ensures ∙ c.if-ends.true))
 
-returns-2 : tie.Need-returns-2 invariant-loop decreases-loop
-returns-2 c = sym (all_walked c.before.before ∙ rw (sym c.before.ends.ensures ∙ c.if3.false))
+returns : tie.Need-returns invariant-loop-differ decreases-loop-differ
+returns c = sym (all_walked c.before.before ∙ rw (sym c.before.ends.ensures ∙ c.if-ends.false))
 
 pub replay_spec : {M : Type 1} → statement M
 replay_spec =
     tie.close
-    (tie.spec
-    invariant-loop
-    decreases-loop
-    loop-holds
-    stands-requires
-    case_same-requires
-    add-differ
-    add-cases
-    place-requires
-    loop-less
-    loop-again
-    ends-requires
-    returns
-    returns-2)
+    (tie.spec invariant-loop-differ decreases-loop-differ loop-differ-init stands-requires case_same-requires overflow_add-differ overflow_add-cases place-at-requires loop-differ-smaller loop-differ-preserved ends-requires returns-then-ends returns)

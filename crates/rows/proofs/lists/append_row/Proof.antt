@@ -11,36 +11,36 @@ copy_row-requires : tie.Need-copy_row-requires
 copy_row-requires c κs = search rules
 
 -- src/lists.rt:66:16
-add-next : tie.Need-overflow-add-next
-add-next c = search rules
+overflow_add-next : tie.Need-overflow_add-next
+overflow_add-next c = search rules
 
 -- src/lists.rt:67:21
-cast-starts : tie.Need-overflow-cast-starts
-cast-starts c = search rules
+overflow_cast-starts : tie.Need-overflow_cast-starts
+overflow_cast-starts c = search rules
 
 -- src/lists.rt:67:12
-add-starts : tie.Need-overflow-add-starts
-add-starts c = search rules
+overflow_add-starts : tie.Need-overflow_add-starts
+overflow_add-starts c = search rules
 
 -- src/lists.rt:67:5
-mul-starts : tie.Need-overflow-mul-starts
-mul-starts c = search rules
+offset_bounds-starts-i : tie.Need-offset_bounds-starts-i
+offset_bounds-starts-i c = search rules
 
 -- src/lists.rt:67:5
-slice-write-starts : tie.Need-slice-write-starts
-slice-write-starts c = search rules
+bounds-starts-i : tie.Need-bounds-starts-i
+bounds-starts-i c = search rules
 
 -- src/lists.rt:52:1
-same_length : tie.Need-same-length
-same_length c = search rules
+shape_of-starts : tie.Need-shape_of-starts
+shape_of-starts c = search rules
 
 -- src/lists.rt:52:1
-same-length-2 : tie.Need-same-length-2
-same-length-2 c = search rules
+shape_of-columns : tie.Need-shape_of-columns
+shape_of-columns c = search rules
 
 -- src/lists.rt:52:1
-same-length-3 : tie.Need-same-length-3
-same-length-3 c = search rules
+shape_of-values : tie.Need-shape_of-values
+shape_of-values c = search rules
 
 -- src/lists.rt:52:1
 returns : tie.Need-returns
@@ -52,14 +52,4 @@ returns c =
 pub append_row_spec : {M : Type 1} → statement M
 append_row_spec =
     tie.close
-    (tie.spec
-    copy_row-requires
-    add-next
-    cast-starts
-    add-starts
-    mul-starts
-    slice-write-starts
-    same_length
-    same-length-2
-    same-length-3
-    returns)
+    (tie.spec copy_row-requires overflow_add-next overflow_cast-starts overflow_add-starts offset_bounds-starts-i bounds-starts-i shape_of-starts shape_of-columns shape_of-values returns)

@@ -11,111 +11,92 @@ use Rattle.rows.proofs.lists.copy_row.Tie as tie
 use Rattle.rows.proofs.lists.copy_row.Reads as reads
 use Rattle.rows.proofs.lists.copy_row.Lts as lts
 
-abbrev invariant-loop : tie.invariant-loop
-invariant-loop row_columns row_values m at columns₀ values₀ k₀ columns values k = (k ≤ m) × (length columns ≡ length columns₀) × (length values ≡ length values₀) × (columns ≡ paste columns₀ at row_columns k) × (values ≡ paste values₀ at row_values k)
+abbrev invariant-loop-k : tie.invariant-loop-k
+invariant-loop-k row_columns row_values m at columns₀ values₀ k₀ columns values k = (k ≤ m) × (length columns ≡ length columns₀) × (length values ≡ length values₀) × (columns ≡ paste columns₀ at row_columns k) × (values ≡ paste values₀ at row_values k)
 
-abbrev decreases-loop : tie.decreases-loop
-decreases-loop row_columns row_values m at columns₀ values₀ k₀ columns values k = m - k
+abbrev decreases-loop-k : tie.decreases-loop-k
+decreases-loop-k row_columns row_values m at columns₀ values₀ k₀ columns values k = m - k
 
 -- src/lists.rt:45:5
-loop-holds : tie.Need-loop-init invariant-loop decreases-loop
-loop-holds c = (omega arith, refl, refl, paste-zero c.args.columns.now c.args.at c.args.row_columns.now, paste-zero c.args.values.now c.args.at c.args.row_values.now)
+loop-k-init : tie.Need-loop-k-init invariant-loop-k decreases-loop-k
+loop-k-init c = (omega arith, refl, refl, paste-zero c.args.columns.now c.args.at c.args.row_columns.now, paste-zero c.args.values.now c.args.at c.args.row_values.now)
 
 -- src/lists.rt:46:27
-mul-columns : tie.Need-overflow-mul-columns invariant-loop decreases-loop
-mul-columns c = search rules
+offset_bounds-row_columns-k : tie.Need-offset_bounds-row_columns-k invariant-loop-k decreases-loop-k
+offset_bounds-row_columns-k c = search rules
 
 -- src/lists.rt:46:27
-shared-slice-read-columns : tie.Need-shared-slice-read-columns invariant-loop decreases-loop
-shared-slice-read-columns c = search rules
+bounds-row_columns-k : tie.Need-bounds-row_columns-k invariant-loop-k decreases-loop-k
+bounds-row_columns-k c = search rules
 
 -- src/lists.rt:46:17
-add-columns : tie.Need-overflow-add-columns invariant-loop decreases-loop
-add-columns c = search rules
+overflow_add-columns : tie.Need-overflow_add-columns invariant-loop-k decreases-loop-k
+overflow_add-columns c = search rules
 
 -- src/lists.rt:46:9
-mul-columns-2 : tie.Need-overflow-mul-columns-2 invariant-loop decreases-loop
-mul-columns-2 c = search rules
+offset_bounds-columns-at : tie.Need-offset_bounds-columns-at invariant-loop-k decreases-loop-k
+offset_bounds-columns-at c = search rules
 
 -- src/lists.rt:46:9
-slice-write-columns : tie.Need-slice-write-columns invariant-loop decreases-loop
-slice-write-columns c = search rules
+bounds-columns-at : tie.Need-bounds-columns-at invariant-loop-k decreases-loop-k
+bounds-columns-at c = search rules
 
 -- src/lists.rt:47:26
-mul-values : tie.Need-overflow-mul-values invariant-loop decreases-loop
-mul-values c = search rules
+offset_bounds-row_values-k : tie.Need-offset_bounds-row_values-k invariant-loop-k decreases-loop-k
+offset_bounds-row_values-k c = search rules
 
 -- src/lists.rt:47:26
-shared-slice-read-values : tie.Need-shared-slice-read-values invariant-loop decreases-loop
-shared-slice-read-values c = search rules
+bounds-row_values-k : tie.Need-bounds-row_values-k invariant-loop-k decreases-loop-k
+bounds-row_values-k c = search rules
 
 -- src/lists.rt:47:16
-add-values : tie.Need-overflow-add-values invariant-loop decreases-loop
-add-values c = search rules
+overflow_add-values : tie.Need-overflow_add-values invariant-loop-k decreases-loop-k
+overflow_add-values c = search rules
 
 -- src/lists.rt:47:9
-mul-values-2 : tie.Need-overflow-mul-values-2 invariant-loop decreases-loop
-mul-values-2 c = search rules
+offset_bounds-values-at : tie.Need-offset_bounds-values-at invariant-loop-k decreases-loop-k
+offset_bounds-values-at c = search rules
 
 -- src/lists.rt:47:9
-slice-write-values : tie.Need-slice-write-values invariant-loop decreases-loop
-slice-write-values c = search rules
+bounds-values-at : tie.Need-bounds-values-at invariant-loop-k decreases-loop-k
+bounds-values-at c = search rules
 
 -- src/lists.rt:45:9
-add-k : tie.Need-overflow-add-k invariant-loop decreases-loop
-add-k c = search rules
+overflow_step-k : tie.Need-overflow_step-k invariant-loop-k decreases-loop-k
+overflow_step-k c = search rules
 
 -- src/lists.rt:45:5
-loop-less : tie.Need-loop-smaller invariant-loop decreases-loop
-loop-less c = search rules
+loop-k-smaller : tie.Need-loop-k-smaller invariant-loop-k decreases-loop-k
+loop-k-smaller c = search rules
 
 -- src/lists.rt:45:5
-loop-again : tie.Need-loop-preserved invariant-loop decreases-loop
-loop-again c =
+loop-k-preserved : tie.Need-loop-k-preserved invariant-loop-k decreases-loop-k
+loop-k-preserved c =
     let at_loop = c.before.before.before in
     let a = at_loop.before.args in
-    let k = at_loop.loop.k in (
+    let k = at_loop.loop-k.k in (
       omega arith,
-      rw length-set at_loop.loop.invariant.1,
-      rw length-set at_loop.loop.invariant.2,
-      paste_turn _ a.at _ _ k 0 (omega arith) (omega arith) at_loop.loop.invariant.3,
-      paste_turn _ a.at _ _ k nan (omega arith) (omega arith) at_loop.loop.invariant.4,
+      rw length-set at_loop.loop-k.invariant.1,
+      rw length-set at_loop.loop-k.invariant.2,
+      paste_turn _ a.at _ _ k 0 (omega arith) (omega arith) at_loop.loop-k.invariant.3,
+      paste_turn _ a.at _ _ k nan (omega arith) (omega arith) at_loop.loop-k.invariant.4,
     )
 
 -- src/lists.rt:34:1
-same_length : tie.Need-same-length invariant-loop decreases-loop
-same_length c = search rules
+shape_of-columns : tie.Need-shape_of-columns invariant-loop-k decreases-loop-k
+shape_of-columns c = search rules
 
 -- src/lists.rt:34:1
-same-length-2 : tie.Need-same-length-2 invariant-loop decreases-loop
-same-length-2 c = search rules
+shape_of-values : tie.Need-shape_of-values invariant-loop-k decreases-loop-k
+shape_of-values c = search rules
 
 -- src/lists.rt:34:1
-returns : tie.Need-returns invariant-loop decreases-loop
+returns : tie.Need-returns invariant-loop-k decreases-loop-k
 returns c =
-    let past : c.before.loop.k ≡ c.before.before.args.m = omega arith in
-    (rw past at c.before.loop.invariant.3, rw past at c.before.loop.invariant.4)
+    let past : c.before.loop-k.k ≡ c.before.before.args.m = omega arith in
+    (rw past at c.before.loop-k.invariant.3, rw past at c.before.loop-k.invariant.4)
 
 pub copy_row_spec : {M : Type 1} → statement M
 copy_row_spec =
     tie.close
-    (tie.spec
-    invariant-loop
-    decreases-loop
-    loop-holds
-    mul-columns
-    shared-slice-read-columns
-    add-columns
-    mul-columns-2
-    slice-write-columns
-    mul-values
-    shared-slice-read-values
-    add-values
-    mul-values-2
-    slice-write-values
-    add-k
-    loop-less
-    loop-again
-    same_length
-    same-length-2
-    returns)
+    (tie.spec invariant-loop-k decreases-loop-k loop-k-init offset_bounds-row_columns-k bounds-row_columns-k overflow_add-columns offset_bounds-columns-at bounds-columns-at offset_bounds-row_values-k bounds-row_values-k overflow_add-values offset_bounds-values-at bounds-values-at overflow_step-k loop-k-smaller loop-k-preserved shape_of-columns shape_of-values returns)

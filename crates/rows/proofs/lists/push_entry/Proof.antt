@@ -6,61 +6,50 @@ use Rattle.rows.proofs.lists.push_entry.Reads as reads
 use Rattle.rows.proofs.lists.push_entry.Lts as lts
 
 -- src/lists.rt:28:5
-mul-columns : tie.Need-overflow-mul-columns
-mul-columns c = search rules
+offset_bounds-columns-n : tie.Need-offset_bounds-columns-n
+offset_bounds-columns-n c = search rules
 
 -- src/lists.rt:28:5
-slice-write-columns : tie.Need-slice-write-columns
-slice-write-columns c = search rules
+bounds-columns-n : tie.Need-bounds-columns-n
+bounds-columns-n c = search rules
 
 -- src/lists.rt:29:5
-mul-values : tie.Need-overflow-mul-values
-mul-values c = search rules
+offset_bounds-values-n : tie.Need-offset_bounds-values-n
+offset_bounds-values-n c = search rules
 
 -- src/lists.rt:29:5
-slice-write-values : tie.Need-slice-write-values
-slice-write-values c = search rules
+bounds-values-n : tie.Need-bounds-values-n
+bounds-values-n c = search rules
 
 -- src/lists.rt:30:16
-add-result : tie.Need-overflow-add-result
-add-result c = search rules
+overflow_add-result : tie.Need-overflow_add-result
+overflow_add-result c = search rules
 
 -- src/lists.rt:17:1
-same_length : tie.Need-same-length
-same_length c = search rules
+shape_of-columns-then-taken : tie.Need-shape_of-columns-then-taken
+shape_of-columns-then-taken c = search rules
 
 -- src/lists.rt:17:1
-same-length-2 : tie.Need-same-length-2
-same-length-2 c = search rules
+shape_of-values-then-taken : tie.Need-shape_of-values-then-taken
+shape_of-values-then-taken c = search rules
 
 -- src/lists.rt:17:1
-returns : tie.Need-returns
-returns c = entry_taken _ _ _ _ _ c.before.requires.0 c.before.requires.1 _ c.if1.true
+returns-then-taken : tie.Need-returns-then-taken
+returns-then-taken c = entry_taken _ _ _ _ _ c.before.requires.0 c.before.requires.1 _ c.if-taken.true
 
 -- src/lists.rt:17:1
-same-length-3 : tie.Need-same-length-3
-same-length-3 c = search rules
+shape_of-columns-else-taken : tie.Need-shape_of-columns-else-taken
+shape_of-columns-else-taken c = search rules
 
 -- src/lists.rt:17:1
-same-length-4 : tie.Need-same-length-4
-same-length-4 c = search rules
+shape_of-values-else-taken : tie.Need-shape_of-values-else-taken
+shape_of-values-else-taken c = search rules
 
 -- src/lists.rt:17:1
-returns-2 : tie.Need-returns-2
-returns-2 c = entry_left _ _ _ _ _ c.before.requires.0 c.before.requires.1 _ c.if1.false
+returns-else-taken : tie.Need-returns-else-taken
+returns-else-taken c = entry_left _ _ _ _ _ c.before.requires.0 c.before.requires.1 _ c.if-taken.false
 
 pub push_entry_spec : {M : Type 1} → statement M
 push_entry_spec =
     tie.close
-    (tie.spec
-    mul-columns
-    slice-write-columns
-    mul-values
-    slice-write-values
-    add-result
-    same_length
-    same-length-2
-    returns
-    same-length-3
-    same-length-4
-    returns-2)
+    (tie.spec offset_bounds-columns-n bounds-columns-n offset_bounds-values-n bounds-values-n overflow_add-result shape_of-columns-then-taken shape_of-values-then-taken returns-then-taken shape_of-columns-else-taken shape_of-values-else-taken returns-else-taken)

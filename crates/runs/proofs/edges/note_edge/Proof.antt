@@ -17,45 +17,37 @@ test : (c : tie.After-kind) (b : Bool) → eqb c.kind.result c.before.before.bef
     → of_kind c.before.before.before.args.first.now c.before.before.before.args.second.now c.before.before.before.args.k c.before.before.before.args.e ≡ b
 unfolding of_kind
 test c b t =
-    sym (ap (λ n. eqb n c.before.before.before.args.k) (c.kind.ensures ∙ ap₂ kind (back8 _ c.before.before.kind-arg.given) (back8 _ c.before.kind-arg2.given))) ∙ t
+    sym (ap (λ n. eqb n c.before.before.before.args.k) (c.kind.ensures ∙ ap₂ kind (back8 _ c.before.before.kind-arg-1.given) (back8 _ c.before.kind-arg-2-1.given))) ∙ t
 
-shared-slice-copy-out-kind : tie.Need-shared-slice-copy-out-kind
-shared-slice-copy-out-kind c = search rules
+bounds-first-e : tie.Need-bounds-first-e
+bounds-first-e c = search rules
 
-shared-slice-copy-out-kind-2 : tie.Need-shared-slice-copy-out-kind-2
-shared-slice-copy-out-kind-2 c = search rules
+bounds-second-e : tie.Need-bounds-second-e
+bounds-second-e c = search rules
 
 kind-requires : tie.Need-kind-requires
 kind-requires c κs = search rules
 
-cast-more : tie.Need-overflow-cast-more
-cast-more c = search rules
+overflow_cast-more : tie.Need-overflow_cast-more
+overflow_cast-more c = search rules
 
-element-write-more : tie.Need-element-write-more
-element-write-more c = search rules
+bounds-more-at : tie.Need-bounds-more-at
+bounds-more-at c = search rules
 
-add-more : tie.Need-overflow-add-more
-add-more c = search rules
+overflow_add-more : tie.Need-overflow_add-more
+overflow_add-more c = search rules
+
+returns-then-kind-k : tie.Need-returns-then-kind-k
+returns-then-kind-k c =
+    let s = c.before.before.before.before in
+    edges_more _ _ _ _ _ _ s.requires.3 s.requires.0 (test c.before _ (eq-eqb _ _ c.if-kind-k.true))
 
 returns : tie.Need-returns
 returns c =
     let s = c.before.before.before.before in
-    edges_more _ _ _ _ _ _ s.requires.3 s.requires.0 (test c.before _ (eq-eqb _ _ c.if1.true))
-
-returns-2 : tie.Need-returns-2
-returns-2 c =
-    let s = c.before.before.before.before in
-    edges_same _ _ _ _ _ _ s.requires.3 (test c.before _ (ne_eqb _ _ c.if1.false))
+    edges_same _ _ _ _ _ _ s.requires.3 (test c.before _ (ne_eqb _ _ c.if-kind-k.false))
 
 pub note_edge_spec : {M : Type 1} → statement M
 note_edge_spec =
     tie.close
-    (tie.spec
-    shared-slice-copy-out-kind
-    shared-slice-copy-out-kind-2
-    kind-requires
-    cast-more
-    element-write-more
-    add-more
-    returns
-    returns-2)
+    (tie.spec bounds-first-e bounds-second-e kind-requires overflow_cast-more bounds-more-at overflow_add-more returns-then-kind-k returns)

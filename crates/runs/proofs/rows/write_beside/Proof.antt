@@ -8,66 +8,66 @@ use borrow.Author.Rules.{rules}
 use Rattle.runs.proofs.rows.write_beside.Statement.{statement}
 use Rattle.runs.proofs.rows.write_beside.Tie as tie
 
-larger-requires : tie.Need-larger-requires
-larger-requires c κs = search rules
+larger-low-requires : tie.Need-larger-low-requires
+larger-low-requires c κs = search rules
 
-smaller-requires : tie.Need-smaller-requires
-smaller-requires c κs = search rules
+smaller-high-requires : tie.Need-smaller-high-requires
+smaller-high-requires c κs = search rules
 
 write_rows-requires : tie.Need-write_rows-requires
 write_rows-requires c κs = search rules
 
-same_length : tie.Need-same-length
-same_length c = search rules
+shape_of-states-then-high-low : tie.Need-shape_of-states-then-high-low
+shape_of-states-then-high-low c = search rules
 
-returns : tie.Need-returns
-returns c = search rules
+returns-then-high-low : tie.Need-returns-then-high-low
+returns-then-high-low c = search rules
 
-write_rows-requires-2 : tie.Need-write_rows-requires-2
-write_rows-requires-2 c κs = search rules
+write_rows-requires-then-rows-eq0 : tie.Need-write_rows-requires-then-rows-eq0
+write_rows-requires-then-rows-eq0 c κs = search rules
 
-same-length-2 : tie.Need-same-length-2
-same-length-2 c = search rules
+shape_of-states-then-rows-eq0 : tie.Need-shape_of-states-then-rows-eq0
+shape_of-states-then-rows-eq0 c = search rules
 
-returns-2 : tie.Need-returns-2
-returns-2 c = search rules
+returns-then-rows-eq0 : tie.Need-returns-then-rows-eq0
+returns-then-rows-eq0 c = search rules
 
 -- where rows of both blocks are
 abbrev Chosen : Type 0
-Chosen = tie.After-smaller
+Chosen = tie.After-smaller-high
 
-module _ (c : Chosen) (some : c.before.larger.result < c.smaller.result) where
+module _ (c : Chosen) (some : c.before.larger-low.result < c.smaller-high.result) where
   abbrev start : tie.Start
   start = c.before.before
 
-  over : start.args.span.from ≤ c.before.larger.result
-  over = omega (arith, c.before.larger.ensures)
+  over : start.args.span.from ≤ c.before.larger-low.result
+  over = omega (arith, c.before.larger-low.ensures)
 
-  among : start.args.last.from ≤ c.before.larger.result
-  among = omega (arith, c.before.larger.ensures)
+  among : start.args.last.from ≤ c.before.larger-low.result
+  among = omega (arith, c.before.larger-low.ensures)
 
-  under : c.smaller.result ≤ start.args.span.to
-  under = omega (arith, c.smaller.ensures)
+  under : c.smaller-high.result ≤ start.args.span.to
+  under = omega (arith, c.smaller-high.ensures)
 
-  ends : c.smaller.result ≤ start.args.last.to
-  ends = omega (arith, c.smaller.ensures)
+  ends : c.smaller-high.result ≤ start.args.last.to
+  ends = omega (arith, c.smaller-high.ensures)
 
-  parts : (c.before.larger.result - start.args.span.from) * length start.args.config.now + (c.smaller.result - c.before.larger.result) * length start.args.config.now
-      + (start.args.span.to - c.smaller.result) * length start.args.config.now ≡ (start.args.span.to - start.args.span.from) * length start.args.config.now
+  parts : (c.before.larger-low.result - start.args.span.from) * length start.args.config.now + (c.smaller-high.result - c.before.larger-low.result) * length start.args.config.now
+      + (start.args.span.to - c.smaller-high.result) * length start.args.config.now ≡ (start.args.span.to - start.args.span.from) * length start.args.config.now
   parts =
       let s = start.args in
-      first_room s.config.now s.first.now s.second.now start.pre.0 start.pre.1 s.states.now s.at s.last start.pre.4 s.span.from s.span.to c.before.larger.result c.smaller.result over among some under ends start.pre.2 start.pre.3
+      first_room s.config.now s.first.now s.second.now start.pre.0 start.pre.1 s.states-1.now s.at s.last start.pre.4 s.span.from s.span.to c.before.larger-low.result c.smaller-high.result over among some under ends start.pre.2 start.pre.3
 
-  low_high : (c.smaller.result - start.args.span.from) * length start.args.config.now
-      ≡ (c.before.larger.result - start.args.span.from) * length start.args.config.now + (c.smaller.result - c.before.larger.result) * length start.args.config.now
+  low_high : (c.smaller-high.result - start.args.span.from) * length start.args.config.now
+      ≡ (c.before.larger-low.result - start.args.span.from) * length start.args.config.now + (c.smaller-high.result - c.before.larger-low.result) * length start.args.config.now
   low_high =
-      let e : c.smaller.result - start.args.span.from ≡ c.before.larger.result - start.args.span.from + (c.smaller.result - c.before.larger.result) = omega (arith, over) in
-      rw e (add-mul (c.before.larger.result - start.args.span.from) (c.smaller.result - c.before.larger.result) (length start.args.config.now))
+      let e : c.smaller-high.result - start.args.span.from ≡ c.before.larger-low.result - start.args.span.from + (c.smaller-high.result - c.before.larger-low.result) = omega (arith, over) in
+      rw e (add-mul (c.before.larger-low.result - start.args.span.from) (c.smaller-high.result - c.before.larger-low.result) (length start.args.config.now))
 
-write_rows-requires-3 : tie.Need-write_rows-requires-3
-write_rows-requires-3 c κs =
+write_rows-requires-2 : tie.Need-write_rows-requires-2
+write_rows-requires-2 c κs =
     let chosen = c.before.before.before in
-    let some : chosen.before.larger.result < chosen.smaller.result = omega arith in
+    let some : chosen.before.larger-low.result < chosen.smaller-high.result = omega arith in
     let start = chosen.before.before in
     let s = start.args in
     let bound = start.requires.2 in
@@ -75,13 +75,13 @@ write_rows-requires-3 c κs =
     let sizes = parts chosen some in
     (start.requires.0, omega (arith, under chosen some), omega (arith, sizes), start.requires.6)
 
-sub-raise-rows : tie.Need-overflow-sub-raise-rows
-sub-raise-rows c = search rules
+overflow_sub-low : tie.Need-overflow_sub-low
+overflow_sub-low c = search rules
 
-mul-raise-rows : tie.Need-overflow-mul-raise-rows
-mul-raise-rows c =
+overflow_mul-low : tie.Need-overflow_mul-low
+overflow_mul-low c =
     let chosen = c.before.before.before.before.before.before in
-    let some : chosen.before.larger.result < chosen.smaller.result = omega arith in
+    let some : chosen.before.larger-low.result < chosen.smaller-high.result = omega arith in
     let start = chosen.before.before in
     let s = start.args in
     let bound = start.requires.2 in
@@ -89,10 +89,10 @@ mul-raise-rows c =
     let sizes = parts chosen some in
     search rules
 
-add-raise-rows : tie.Need-overflow-add-raise-rows
-add-raise-rows c =
+overflow_add-at : tie.Need-overflow_add-at
+overflow_add-at c =
     let chosen = c.before.before.before.before.before.before in
-    let some : chosen.before.larger.result < chosen.smaller.result = omega arith in
+    let some : chosen.before.larger-low.result < chosen.smaller-high.result = omega arith in
     let start = chosen.before.before in
     let s = start.args in
     let bound = start.requires.2 in
@@ -100,45 +100,45 @@ add-raise-rows c =
     let sizes = parts chosen some in
     search rules
 
-sub-raise-rows-2 : tie.Need-overflow-sub-raise-rows-2
-sub-raise-rows-2 c = search rules
+overflow_sub-end : tie.Need-overflow_sub-end
+overflow_sub-end c = search rules
 
-mul-raise-rows-2 : tie.Need-overflow-mul-raise-rows-2
-mul-raise-rows-2 c =
+overflow_mul-end : tie.Need-overflow_mul-end
+overflow_mul-end c =
     let chosen = c.before.before.before.before.before.before in
-    let some : chosen.before.larger.result < chosen.smaller.result = omega arith in
+    let some : chosen.before.larger-low.result < chosen.smaller-high.result = omega arith in
     let start = chosen.before.before in
     let s = start.args in
     let bound = start.requires.2 in
     let enough = start.requires.3 in
     let sizes = parts chosen some in
-    let back = back_is s.config.now s.first.now s.second.now start.requires.0 start.requires.1 s.states.now s.at s.last start.requires.4 s.span.from s.span.to chosen.before.larger.result chosen.smaller.result (over chosen some) (among chosen some) some (under chosen some) (ends chosen some) bound enough in
-    let inside = before_at s.config.now s.first.now s.second.now start.requires.0 start.requires.1 s.states.now s.at s.last start.requires.4 s.span.from s.span.to chosen.before.larger.result chosen.smaller.result (over chosen some) (among chosen some) some (under chosen some) (ends chosen some) bound enough in
+    let back = back_is s.config.now s.first.now s.second.now start.requires.0 start.requires.1 s.states-1.now s.at s.last start.requires.4 s.span.from s.span.to chosen.before.larger-low.result chosen.smaller-high.result (over chosen some) (among chosen some) some (under chosen some) (ends chosen some) bound enough in
+    let inside = before_at s.config.now s.first.now s.second.now start.requires.0 start.requires.1 s.states-1.now s.at s.last start.requires.4 s.span.from s.span.to chosen.before.larger-low.result chosen.smaller-high.result (over chosen some) (among chosen some) some (under chosen some) (ends chosen some) bound enough in
     search rules
 
-sub-raise-rows-3 : tie.Need-overflow-sub-raise-rows-3
-sub-raise-rows-3 c = search rules
+overflow_sub-high : tie.Need-overflow_sub-high
+overflow_sub-high c = search rules
 
 raise_rows-requires : tie.Need-raise_rows-requires
 raise_rows-requires c κs =
     let chosen = c.before.before.before.before.before.before in
-    let some : chosen.before.larger.result < chosen.smaller.result = omega arith in
+    let some : chosen.before.larger-low.result < chosen.smaller-high.result = omega arith in
     let start = chosen.before.before in
     let s = start.args in
     let bound = start.requires.2 in
     let enough = start.requires.3 in
     let sizes = parts chosen some in
-    let wrote = c.before.before.write-rows3 in
-    let some_rows : 1 ≤ s.rows = omega (arith, c.before.before.before.before.if2.false) in
-    (middle_may s.config.now s.first.now s.second.now start.requires.0 start.requires.1 s.states.now s.at s.last start.requires.4 s.span.from s.span.to chosen.before.larger.result chosen.smaller.result (over chosen some) (among chosen some) some (under chosen some) (ends chosen some) bound enough wrote.new.0 wrote.ensures wrote.auto.0, start.requires.5, some_rows, rw start.requires.1.sized start.requires.7)
+    let wrote = c.before.before.write_rows-2 in
+    let some_rows : 1 ≤ s.rows = omega (arith, c.before.before.before.before.if-rows-eq0.false) in
+    (middle_may s.config.now s.first.now s.second.now start.requires.0 start.requires.1 s.states-1.now s.at s.last start.requires.4 s.span.from s.span.to chosen.before.larger-low.result chosen.smaller-high.result (over chosen some) (among chosen some) some (under chosen some) (ends chosen some) bound enough wrote.new.0 wrote.ensures wrote.auto.0, start.requires.5, some_rows, rw start.requires.1.sized start.requires.7)
 
-sub-write-rows : tie.Need-overflow-sub-write-rows
-sub-write-rows c = search rules
+overflow_sub-high-2 : tie.Need-overflow_sub-high-2
+overflow_sub-high-2 c = search rules
 
-mul-write-rows : tie.Need-overflow-mul-write-rows
-mul-write-rows c =
+overflow_mul-high : tie.Need-overflow_mul-high
+overflow_mul-high c =
     let chosen = c.before.before.before.before.before.before.before.before.before in
-    let some : chosen.before.larger.result < chosen.smaller.result = omega arith in
+    let some : chosen.before.larger-low.result < chosen.smaller-high.result = omega arith in
     let start = chosen.before.before in
     let s = start.args in
     let bound = start.requires.2 in
@@ -147,10 +147,10 @@ mul-write-rows c =
     let split = low_high chosen some in
     search rules
 
-add-write-rows : tie.Need-overflow-add-write-rows
-add-write-rows c =
+overflow_add-at-2 : tie.Need-overflow_add-at-2
+overflow_add-at-2 c =
     let chosen = c.before.before.before.before.before.before.before.before.before in
-    let some : chosen.before.larger.result < chosen.smaller.result = omega arith in
+    let some : chosen.before.larger-low.result < chosen.smaller-high.result = omega arith in
     let start = chosen.before.before in
     let s = start.args in
     let bound = start.requires.2 in
@@ -159,57 +159,35 @@ add-write-rows c =
     let split = low_high chosen some in
     search rules
 
-write_rows-requires-4 : tie.Need-write_rows-requires-4
-write_rows-requires-4 c κs =
+write_rows-requires-3 : tie.Need-write_rows-requires-3
+write_rows-requires-3 c κs =
     let chosen = c.before.before.before.before.before.before.before.before.before in
-    let some : chosen.before.larger.result < chosen.smaller.result = omega arith in
+    let some : chosen.before.larger-low.result < chosen.smaller-high.result = omega arith in
     let start = chosen.before.before in
     let s = start.args in
     let bound = start.requires.2 in
     let enough = start.requires.3 in
     let sizes = parts chosen some in
-    (start.requires.0, bound, omega (arith, sizes, low_high chosen some, c.before.before.raise_rows.auto.0, c.before.before.before.before.before.write-rows3.auto.0), start.requires.6)
+    (start.requires.0, bound, omega (arith, sizes, low_high chosen some, c.before.before.raise_rows.auto.0, c.before.before.before.before.before.write_rows-2.auto.0), start.requires.6)
 
-same-length-3 : tie.Need-same-length-3
-same-length-3 c = search rules
+shape_of-states : tie.Need-shape_of-states
+shape_of-states c = search rules
 
-returns-3 : tie.Need-returns-3
-returns-3 c =
+returns : tie.Need-returns
+returns c =
     let chosen = c.before.before.before.before.before.before.before.before.before.before.before in
-    let some : chosen.before.larger.result < chosen.smaller.result = omega arith in
+    let some : chosen.before.larger-low.result < chosen.smaller-high.result = omega arith in
     let start = chosen.before.before in
     let s = start.args in
     let bound = start.requires.2 in
     let enough = start.requires.3 in
     let sizes = parts chosen some in
-    let one = c.before.before.before.before.before.before.before.write-rows3 in
+    let one = c.before.before.before.before.before.before.before.write_rows-2 in
     let two = c.before.before.before.before.raise_rows in
-    let three = c.before.write-rows4 in
-    all_written s.config.now s.first.now s.second.now start.requires.0 start.requires.1 s.states.now s.at s.last start.requires.4 s.span.from s.span.to chosen.before.larger.result chosen.smaller.result (over chosen some) (among chosen some) some (under chosen some) (ends chosen some) bound enough one.new.0 one.ensures one.auto.0 two.new.0 two.ensures three.new.0 three.ensures
+    let three = c.before.write_rows-3 in
+    all_written s.config.now s.first.now s.second.now start.requires.0 start.requires.1 s.states-1.now s.at s.last start.requires.4 s.span.from s.span.to chosen.before.larger-low.result chosen.smaller-high.result (over chosen some) (among chosen some) some (under chosen some) (ends chosen some) bound enough one.new.0 one.ensures one.auto.0 two.new.0 two.ensures three.new.0 three.ensures
 
 pub write_beside_spec : {M : Type 1} → statement M
 write_beside_spec =
     tie.close
-    (tie.spec
-    larger-requires
-    smaller-requires
-    write_rows-requires
-    same_length
-    returns
-    write_rows-requires-2
-    same-length-2
-    returns-2
-    write_rows-requires-3
-    sub-raise-rows
-    mul-raise-rows
-    add-raise-rows
-    sub-raise-rows-2
-    mul-raise-rows-2
-    sub-raise-rows-3
-    raise_rows-requires
-    sub-write-rows
-    mul-write-rows
-    add-write-rows
-    write_rows-requires-4
-    same-length-3
-    returns-3)
+    (tie.spec larger-low-requires smaller-high-requires write_rows-requires shape_of-states-then-high-low returns-then-high-low write_rows-requires-then-rows-eq0 shape_of-states-then-rows-eq0 returns-then-rows-eq0 write_rows-requires-2 overflow_sub-low overflow_mul-low overflow_add-at overflow_sub-end overflow_mul-end overflow_sub-high raise_rows-requires overflow_sub-high-2 overflow_mul-high overflow_add-at-2 write_rows-requires-3 shape_of-states returns)

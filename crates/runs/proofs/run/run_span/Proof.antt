@@ -21,17 +21,17 @@ span_over-requires c κs =
       start.requires.5,
     )
 
-returns : tie.Need-returns
-returns c =
+returns-then-all_within : tie.Need-returns-then-all_within
+returns-then-all_within c =
     let start = c.before.before.before in
     let s = start.args in
-    side_span s.lambda s.config.now s.second.now start.requires.4 s.still.now s.side.now s.n-still s.n-side s.run start.requires.1 (c.before.before.all_within.ensures.all c.before.if1.true) c.span_over.result c.span_over.ensures
+    side_span s.lambda s.config.now s.second.now start.requires.4 s.still.now s.side.now s.n_still s.n_side s.run start.requires.1 (c.before.before.all_within.ensures.all c.before.if-all_within.true) c.span_over.result c.span_over.ensures
 
-returns-2 : tie.Need-returns-2
-returns-2 c =
+returns : tie.Need-returns
+returns c =
     let start = c.before.before in
     let s = start.args in
-    side_none s.lambda s.config.now s.second.now start.requires.4 s.still.now s.side.now s.n-still s.n-side s.run start.requires.1 (c.before.all_within.ensures.some c.if1.false)
+    side_none s.lambda s.config.now s.second.now start.requires.4 s.still.now s.side.now s.n_still s.n_side s.run start.requires.1 (c.before.all_within.ensures.some c.if-all_within.false)
 
 pub run_span_spec : {M : Type 1} → statement M
-run_span_spec = tie.close (tie.spec all_within-requires span_over-requires returns returns-2)
+run_span_spec = tie.close (tie.spec all_within-requires span_over-requires returns-then-all_within returns)

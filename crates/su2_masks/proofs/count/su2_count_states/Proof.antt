@@ -16,35 +16,35 @@ use borrow.Author.Rules.{rules}
 use Rattle.su2_masks.proofs.count.su2_count_states.Statement.{statement}
 use Rattle.su2_masks.proofs.count.su2_count_states.Tie as tie
 
-good : (c : tie.Else1) → refusal (complex_of c.before.before.args.c) ≡ 0
-good c = sym c.before.judge.ensures ∙ c.if1.false
+good : (c : tie.Else-number-ne0) → refusal (complex_of c.before.before.args.c) ≡ 0
+good c = sym c.before.judge-number.ensures ∙ c.if-number-ne0.false
 
-loops : (c : tie.After-closing_loops) → LoopsOf (complex_of c.before.before.before.args.c) c.closing_loops.result
-loops c = loops_of _ (good c.before) _ c.closing_loops.ensures
+loops : (c : tie.After-closing_loops-f) → LoopsOf (complex_of c.before.before.before.args.c) c.closing_loops-f.result
+loops c = loops_of _ (good c.before) _ c.closing_loops-f.ensures
 
-few : (c : tie.Else2) → c.before.closing_loops.result.count ≤ 20
+few : (c : tie.Else-n-gt20) → c.before.closing_loops-f.result.count ≤ 20
 few c = omega arith
 
-judge-requires : tie.Need-judge-requires
-judge-requires c κs = search rules
+judge-number-requires : tie.Need-judge-number-requires
+judge-number-requires c κs = search rules
+
+returns-then-number-ne0 : tie.Need-returns-then-number-ne0
+unfolding su2_counted_call number_answer
+returns-then-number-ne0 c = refuses _ (record_refuses _ c.before.judge-number.ensures c.if-number-ne0.true _) (ne_eqb _ 0 c.if-number-ne0.true)
+
+closing_loops-f-requires : tie.Need-closing_loops-f-requires
+closing_loops-f-requires c κs = search rules
+
+returns-then-n-gt20 : tie.Need-returns-then-n-gt20
+unfolding su2_counted_call number_answer
+returns-then-n-gt20 c = refuses _ (limit_refuses (good c.before.before) (loops c.before) c.if-n-gt20.true _) refl
+
+overflow_shl-count : tie.Need-overflow_shl-count
+overflow_shl-count c = search rules
 
 returns : tie.Need-returns
 unfolding su2_counted_call number_answer
-returns c = refuses _ (record_refuses _ c.before.judge.ensures c.if1.true _) (ne_eqb _ 0 c.if1.true)
-
-closing_loops-requires : tie.Need-closing_loops-requires
-closing_loops-requires c κs = search rules
-
-returns-2 : tie.Need-returns-2
-unfolding su2_counted_call number_answer
-returns-2 c = refuses _ (limit_refuses (good c.before.before) (loops c.before) c.if2.true _) refl
-
-shl-count : tie.Need-overflow-shl-count
-shl-count c = search rules
-
-returns-3 : tie.Need-returns-3
-unfolding su2_counted_call number_answer
-returns-3 c =
+returns c =
     let right = good c.before.before in
     let of = loops c.before in
     ends (su2_counted_call _) (past_masks right of (few c) none) (power_shifted _ (omega (arith, few c)) ∙ sym (states_number _ _ of)) refl (masks_known right of (few c))
@@ -52,10 +52,4 @@ returns-3 c =
 pub su2_count_states_spec : {M : Type 1} → statement M
 su2_count_states_spec =
     tie.close
-    (tie.spec
-    judge-requires
-    returns
-    closing_loops-requires
-    returns-2
-    shl-count
-    returns-3)
+    (tie.spec judge-number-requires returns-then-number-ne0 closing_loops-f-requires returns-then-n-gt20 overflow_shl-count returns)

@@ -5,14 +5,14 @@ use borrow.Author.Rules.{rules}
 use Rattle.su2_masks.proofs.flip.triangle_place.Statement.{statement}
 use Rattle.su2_masks.proofs.flip.triangle_place.Tie as tie
 
-shl-closing-bits : tie.Need-overflow-shl-closing-bits
-shl-closing-bits c = search rules
+overflow_shl-sides : tie.Need-overflow_shl-sides
+overflow_shl-sides c = search rules
 
-shl-closing-bits-2 : tie.Need-overflow-shl-closing-bits-2
-shl-closing-bits-2 c = search rules
+overflow_shl-sides-2 : tie.Need-overflow_shl-sides-2
+overflow_shl-sides-2 c = search rules
 
-shl-closing-bits-3 : tie.Need-overflow-shl-closing-bits-3
-shl-closing-bits-3 c = search rules
+overflow_shl-sides-3 : tie.Need-overflow_shl-sides-3
+overflow_shl-sides-3 c = search rules
 
 closing_bits-requires : tie.Need-closing_bits-requires
 closing_bits-requires c κs = let ready = c.before.before.requires.0 in (ready.few, ready.long, ready.below)
@@ -27,9 +27,4 @@ returns c complex t loops of =
 pub triangle_place_spec : {M : Type 1} → statement M
 triangle_place_spec =
     tie.close
-    (tie.spec
-    shl-closing-bits
-    shl-closing-bits-2
-    shl-closing-bits-3
-    closing_bits-requires
-    returns)
+    (tie.spec overflow_shl-sides overflow_shl-sides-2 overflow_shl-sides-3 closing_bits-requires returns)

@@ -26,8 +26,8 @@ add_triangles-requires c κs =
     let start = c.before.before.before.before.before.before.before.before.before.before.before.before in
     rw (c.before.before.before.add_energies.auto.0, c.before.before.before.before.before.before.before.clear_matrix.auto.0) (start.requires.0, start.requires.1)
 
-same_length : tie.Need-same-length
-same_length c = search rules
+shape_of-h : tie.Need-shape_of-h
+shape_of-h c = search rules
 
 returns : tie.Need-returns
 returns c =
@@ -40,4 +40,4 @@ returns c =
     matrix_written _ right start.args.p _ rows _ _ _ (c.before.before.add_triangles.ensures start.args.h.now electric) matrix.long
 
 pub write_matrix_spec : {M : Type 1} → statement M
-write_matrix_spec = tie.close (tie.spec clear_matrix-requires add_energies-requires add_triangles-requires same_length returns)
+write_matrix_spec = tie.close (tie.spec clear_matrix-requires add_energies-requires add_triangles-requires shape_of-h returns)

@@ -11,32 +11,32 @@ use Rattle.su2_recorded.proofs.cases.z2_same.Tie as tie
 field-requires : tie.Need-field-requires
 field-requires c κs = search rules
 
-slice-aggregate-floats : tie.Need-slice-aggregate-floats
-slice-aggregate-floats c = search rules
+slice_bounds-floats-end : tie.Need-slice_bounds-floats-end
+slice_bounds-floats-end c = search rules
 
-floats-requires : tie.Need-floats-requires
-floats-requires c κs = search rules
+floats-n_weights-requires : tie.Need-floats-n_weights-requires
+floats-n_weights-requires c κs = search rules
 
 field-requires-2 : tie.Need-field-requires-2
 field-requires-2 c κs = search rules
 
-slice-aggregate-floats-2 : tie.Need-slice-aggregate-floats-2
-slice-aggregate-floats-2 c = search rules
+slice_bounds-floats-end-2 : tie.Need-slice_bounds-floats-end-2
+slice_bounds-floats-end-2 c = search rules
 
-floats-requires-2 : tie.Need-floats-requires-2
-floats-requires-2 c κs = search rules
+floats-n_vector-requires : tie.Need-floats-n_vector-requires
+floats-n_vector-requires c κs = search rules
 
-array-share-prefix-weights : tie.Need-array-share-prefix-weights
-array-share-prefix-weights c = search rules
+slice_bounds-weights-end : tie.Need-slice_bounds-weights-end
+slice_bounds-weights-end c = search rules
 
-slice-aggregate-answers-same : tie.Need-slice-aggregate-answers-same
-slice-aggregate-answers-same c = sym (length-take-le _ _ (array-share-prefix-weights c.before))
+slice_bounds-answers_same-end : tie.Need-slice_bounds-answers_same-end
+slice_bounds-answers_same-end c = sym (length-take-le _ _ (slice_bounds-weights-end c.before))
 
-array-share-prefix-vector : tie.Need-array-share-prefix-vector
-array-share-prefix-vector c = search rules
+slice_bounds-vector-end : tie.Need-slice_bounds-vector-end
+slice_bounds-vector-end c = search rules
 
-slice-aggregate-answers-same-2 : tie.Need-slice-aggregate-answers-same-2
-slice-aggregate-answers-same-2 c = sym (length-take-le _ _ (array-share-prefix-vector c.before))
+slice_bounds-answers_same-end-2 : tie.Need-slice_bounds-answers_same-end-2
+slice_bounds-answers_same-end-2 c = sym (length-take-le _ _ (slice_bounds-vector-end c.before))
 
 answers_same-requires : tie.Need-answers_same-requires
 unfolding case_at
@@ -46,8 +46,8 @@ answers_same-requires c κs =
     let first = vector.before.before in
     let weights = first.before.before in (
       weights.before.before.requires,
-      all_read 8 float_of first.floats.ensures weights.field.ensures.0 (omega (arith, weights.field.ensures.1)),
-      all_read 8 float_of second.floats2.ensures vector.field2.ensures.0 (omega (arith, vector.field2.ensures.1)),
+      all_read 8 float_of first.floats-n_weights.ensures weights.field.ensures.0 (omega (arith, weights.field.ensures.1)),
+      all_read 8 float_of second.floats-n_vector.ensures vector.field-2.ensures.0 (omega (arith, vector.field-2.ensures.1)),
     )
 
 returns : tie.Need-returns
@@ -56,16 +56,4 @@ returns c = search rules
 pub z2_same_spec : {M : Type 1} → statement M
 z2_same_spec =
     tie.close
-    (tie.spec
-    field-requires
-    slice-aggregate-floats
-    floats-requires
-    field-requires-2
-    slice-aggregate-floats-2
-    floats-requires-2
-    array-share-prefix-weights
-    slice-aggregate-answers-same
-    array-share-prefix-vector
-    slice-aggregate-answers-same-2
-    answers_same-requires
-    returns)
+    (tie.spec field-requires slice_bounds-floats-end floats-n_weights-requires field-requires-2 slice_bounds-floats-end-2 floats-n_vector-requires slice_bounds-weights-end slice_bounds-answers_same-end slice_bounds-vector-end slice_bounds-answers_same-end-2 answers_same-requires returns)

@@ -5,20 +5,20 @@ use borrow.Author.Rules.{rules}
 use Rattle.su2_rows.proofs.build.write_lists.Statement.{statement}
 use Rattle.su2_rows.proofs.build.write_lists.Tie as tie
 
-slice-aggregate-write-tables : tie.Need-slice-aggregate-write-tables
-slice-aggregate-write-tables c = search rules
+slice_bounds-write_tables-end : tie.Need-slice_bounds-write_tables-end
+slice_bounds-write_tables-end c = search rules
 
-slice-aggregate-write-tables-2 : tie.Need-slice-aggregate-write-tables-2
-slice-aggregate-write-tables-2 c = search rules
+slice_bounds-write_tables-end-2 : tie.Need-slice_bounds-write_tables-end-2
+slice_bounds-write_tables-end-2 c = search rules
 
 write_tables-requires : tie.Need-write_tables-requires
 write_tables-requires c κs = search rules
 
-slice-aggregate-write-rows : tie.Need-slice-aggregate-write-rows
-slice-aggregate-write-rows c = search rules
+slice_bounds-write_rows-end : tie.Need-slice_bounds-write_rows-end
+slice_bounds-write_rows-end c = search rules
 
-slice-aggregate-write-rows-2 : tie.Need-slice-aggregate-write-rows-2
-slice-aggregate-write-rows-2 c = search rules
+slice_bounds-write_rows-end-2 : tie.Need-slice_bounds-write_rows-end-2
+slice_bounds-write_rows-end-2 c = search rules
 
 write_rows-requires : tie.Need-write_rows-requires
 write_rows-requires c κs =
@@ -26,14 +26,14 @@ write_rows-requires c κs =
     let start = made.before.before.before.before.before.before.before.before in
     rw (← (triangles_long start.args.c)) (rows_fit _ _ _ _ _ _ _ start.requires.0 _ _ _ made.write_tables.ensures _ start.requires.2.0 start.requires.2.1 (omega (arith, made.write_tables.auto.0)) (omega (arith, made.write_tables.auto.1.0)))
 
-same_length : tie.Need-same-length
-same_length c = search rules
+shape_of-starts : tie.Need-shape_of-starts
+shape_of-starts c = search rules
 
-same-length-2 : tie.Need-same-length-2
-same-length-2 c = search rules
+shape_of-columns : tie.Need-shape_of-columns
+shape_of-columns c = search rules
 
-same-length-3 : tie.Need-same-length-3
-same-length-3 c = search rules
+shape_of-values : tie.Need-shape_of-values
+shape_of-values c = search rules
 
 returns : tie.Need-returns
 returns c =
@@ -45,14 +45,4 @@ returns c =
 pub write_lists_spec : {M : Type 1} → statement M
 write_lists_spec =
     tie.close
-    (tie.spec
-    slice-aggregate-write-tables
-    slice-aggregate-write-tables-2
-    write_tables-requires
-    slice-aggregate-write-rows
-    slice-aggregate-write-rows-2
-    write_rows-requires
-    same_length
-    same-length-2
-    same-length-3
-    returns)
+    (tie.spec slice_bounds-write_tables-end slice_bounds-write_tables-end-2 write_tables-requires slice_bounds-write_rows-end slice_bounds-write_rows-end-2 write_rows-requires shape_of-starts shape_of-columns shape_of-values returns)

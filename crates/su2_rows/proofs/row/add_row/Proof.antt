@@ -10,28 +10,28 @@ use borrow.Author.Rules.{rules}
 use Rattle.su2_rows.proofs.row.add_row.Statement.{statement}
 use Rattle.su2_rows.proofs.row.add_row.Tie as tie
 
-abbrev start : tie.After-collect_row → tie.Start
+abbrev start : tie.After-collect_row-found → tie.Start
 start c = c.before.before.before.before.before.before.before.before.before.before
 
 -- the entries that are found: there is room for them, and how many there are
-long : (c : tie.After-collect_row) → length c.collect_row.new.0 ≡ length c.collect_row.new.1.0
-long c = c.collect_row.auto.0 ∙ (start c).requires.2 ∙ sym c.collect_row.auto.1.0
+long : (c : tie.After-collect_row-found) → length c.collect_row-found.new.0 ≡ length c.collect_row-found.new.1.0
+long c = c.collect_row-found.auto.0 ∙ (start c).requires.2 ∙ sym c.collect_row-found.auto.1.0
 
-room : (c : tie.After-collect_row) → c.collect_row.result ≤ length c.collect_row.new.0
-room c = omega (arith, c.collect_row.ensures.1, (start c).requires.1, c.collect_row.auto.0)
+room : (c : tie.After-collect_row-found) → c.collect_row-found.result ≤ length c.collect_row-found.new.0
+room c = omega (arith, c.collect_row-found.ensures.1, (start c).requires.1, c.collect_row-found.auto.0)
 
-count : (c : tie.After-collect_row) → c.collect_row.result ≡ length (diagonal_first (start c).args.i (start c).args.diagonal (take (start c).args.n (pairs (start c).args.flips.now (start c).args.terms.now)))
+count : (c : tie.After-collect_row-found) → c.collect_row-found.result ≡ length (diagonal_first (start c).args.i (start c).args.diagonal (take (start c).args.n (pairs (start c).args.flips.now (start c).args.terms.now)))
 count c =
-    sym (length-take-le _ (pairs c.collect_row.new.0 c.collect_row.new.1.0) (rw (pairs_length c.collect_row.new.0 c.collect_row.new.1.0 (long c)) (room c)))
-    ∙ ap length c.collect_row.ensures.0
+    sym (length-take-le _ (pairs c.collect_row-found.new.0 c.collect_row-found.new.1.0) (rw (pairs_length c.collect_row-found.new.0 c.collect_row-found.new.1.0 (long c)) (room c)))
+    ∙ ap length c.collect_row-found.ensures.0
 
-collect_row-requires : tie.Need-collect_row-requires
-collect_row-requires c κs = search rules
+collect_row-found-requires : tie.Need-collect_row-found-requires
+collect_row-found-requires c κs = search rules
 
 sort_row-requires : tie.Need-sort_row-requires
 sort_row-requires c κs =
     let found = c.before.before.before.before.before.before in
-    (room found, long found, rw found.collect_row.ensures.0 (start found).requires.6)
+    (room found, long found, rw found.collect_row-found.ensures.0 (start found).requires.6)
 
 append_row-requires : tie.Need-append_row-requires
 append_row-requires c κs =
@@ -47,25 +47,25 @@ append_row-requires c κs =
       rw many pre.7.small,
     )
 
-same_length : tie.Need-same-length
-same_length c = search rules
+shape_of-row_columns : tie.Need-shape_of-row_columns
+shape_of-row_columns c = search rules
 
-same-length-2 : tie.Need-same-length-2
-same-length-2 c = search rules
+shape_of-row_values : tie.Need-shape_of-row_values
+shape_of-row_values c = search rules
 
-same-length-3 : tie.Need-same-length-3
-same-length-3 c = search rules
+shape_of-starts : tie.Need-shape_of-starts
+shape_of-starts c = search rules
 
-same-length-4 : tie.Need-same-length-4
-same-length-4 c = search rules
+shape_of-columns : tie.Need-shape_of-columns
+shape_of-columns c = search rules
 
-same-length-5 : tie.Need-same-length-5
-same-length-5 c = search rules
+shape_of-values : tie.Need-shape_of-values
+shape_of-values c = search rules
 
 returns : tie.Need-returns
 returns c =
     let sorted = c.before.before.before.before.before.before.before.before.before.before.before.before.before.before.before.before.sort_row in
-    let found = c.before.before.before.before.before.before.before.before.before.before.before.before.before.before.before.before.before.before.before.before.before.before.before.collect_row in
+    let found = c.before.before.before.before.before.before.before.before.before.before.before.before.before.before.before.before.before.before.before.before.before.before.before.collect_row-found in
     record {
       row = take found.result (pairs sorted.new.0 sorted.new.1.0);
       is = rw found.ensures.0 at sorted.ensures.sorted;
@@ -75,13 +75,4 @@ returns c =
 pub add_row_spec : {M : Type 1} → statement M
 add_row_spec =
     tie.close
-    (tie.spec
-    collect_row-requires
-    sort_row-requires
-    append_row-requires
-    same_length
-    same-length-2
-    same-length-3
-    same-length-4
-    same-length-5
-    returns)
+    (tie.spec collect_row-found-requires sort_row-requires append_row-requires shape_of-row_columns shape_of-row_values shape_of-starts shape_of-columns shape_of-values returns)

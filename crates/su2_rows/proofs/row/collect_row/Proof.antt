@@ -10,91 +10,74 @@ use borrow.Author.Rules.{rules}
 use Rattle.su2_rows.proofs.row.collect_row.Statement.{statement}
 use Rattle.su2_rows.proofs.row.collect_row.Tie as tie
 
-abbrev invariant-loop : tie.invariant-loop
-invariant-loop row-columns₀ row-values₀ i diagonal flips terms n column kept m₀ t₀ row_columns row_values m t = (t ≤ n) × (length row_columns ≡ length row-columns₀) × (length row_values ≡ length row-values₀) × (take m (pairs row_columns row_values) ≡ diagonal_first column diagonal (take t (pairs flips terms))) × (m ≤ t + 1)
+abbrev invariant-loop-t : tie.invariant-loop-t
+invariant-loop-t row_columns₀ row_values₀ i diagonal flips terms n column kept m₀ t₀ row_columns row_values m t = (t ≤ n) × (length row_columns ≡ length row_columns₀) × (length row_values ≡ length row_values₀) × (take m (pairs row_columns row_values) ≡ diagonal_first column diagonal (take t (pairs flips terms))) × (m ≤ t + 1)
 
-abbrev decreases-loop : tie.decreases-loop
-decreases-loop row-columns₀ row-values₀ i diagonal flips terms n column kept m₀ t₀ row_columns row_values m t = n - t
+abbrev decreases-loop-t : tie.decreases-loop-t
+decreases-loop-t row_columns₀ row_values₀ i diagonal flips terms n column kept m₀ t₀ row_columns row_values m t = n - t
 
-cast-column : tie.Need-overflow-cast-column invariant-loop decreases-loop
-cast-column c = search rules
+overflow_cast-column : tie.Need-overflow_cast-column invariant-loop-t decreases-loop-t
+overflow_cast-column c = search rules
 
-is_kept-requires : tie.Need-is_kept-requires invariant-loop decreases-loop
-is_kept-requires c κs = search rules
+is_kept-kept-requires : tie.Need-is_kept-kept-requires invariant-loop-t decreases-loop-t
+is_kept-kept-requires c κs = search rules
 
-push_entry-requires : tie.Need-push_entry-requires invariant-loop decreases-loop
-push_entry-requires c κs = search rules
+push_entry-m-requires : tie.Need-push_entry-m-requires invariant-loop-t decreases-loop-t
+push_entry-m-requires c κs = search rules
 
-loop-holds : tie.Need-loop-init invariant-loop decreases-loop
-loop-holds c =
-    let pushed = c.before.before.before.before.push_entry.ensures in
-    (omega arith, refl, refl, diagonal_pushed _ _ _ _ _ (rw c.before.before.before.before.before.before.before.is_kept.ensures at pushed), pushed_few pushed)
+loop-t-init : tie.Need-loop-t-init invariant-loop-t decreases-loop-t
+loop-t-init c =
+    let pushed = c.before.before.before.before.push_entry-m.ensures in
+    (omega arith, refl, refl, diagonal_pushed _ _ _ _ _ (rw c.before.before.before.before.before.before.before.is_kept-kept.ensures at pushed), pushed_few pushed)
 
-mul-push-entry : tie.Need-overflow-mul-push-entry invariant-loop decreases-loop
-mul-push-entry c = search rules
+offset_bounds-flips-t : tie.Need-offset_bounds-flips-t invariant-loop-t decreases-loop-t
+offset_bounds-flips-t c = search rules
 
-shared-slice-read-push-entry : tie.Need-shared-slice-read-push-entry invariant-loop decreases-loop
-shared-slice-read-push-entry c = search rules
+bounds-flips-t : tie.Need-bounds-flips-t invariant-loop-t decreases-loop-t
+bounds-flips-t c = search rules
 
-mul-push-entry-2 : tie.Need-overflow-mul-push-entry-2 invariant-loop decreases-loop
-mul-push-entry-2 c = search rules
+offset_bounds-terms-t : tie.Need-offset_bounds-terms-t invariant-loop-t decreases-loop-t
+offset_bounds-terms-t c = search rules
 
-shared-slice-read-push-entry-2 : tie.Need-shared-slice-read-push-entry-2 invariant-loop decreases-loop
-shared-slice-read-push-entry-2 c = search rules
+bounds-terms-t : tie.Need-bounds-terms-t invariant-loop-t decreases-loop-t
+bounds-terms-t c = search rules
 
-push_entry-requires-2 : tie.Need-push_entry-requires-2 invariant-loop decreases-loop
-push_entry-requires-2 c κs =
+push_entry-m-requires-in-loop-t : tie.Need-push_entry-m-requires-in-loop-t invariant-loop-t decreases-loop-t
+push_entry-m-requires-in-loop-t c κs =
     let at_loop = c.before.before.before.before.before in
-    let inv = at_loop.loop.invariant in
-    let kept = at_loop.before.before.before.before.before.push_entry.auto in
+    let inv = at_loop.loop-t.invariant in
+    let kept = at_loop.before.before.before.before.before.push_entry-m.auto in
     let pre = at_loop.before.before.before.before.before.before.before.before.before.before.before.before.before.requires in
-    (omega (arith, inv.1, inv.4, kept.0, pre.1, c.before.before.before.before.loop-test.true), inv.1 ∙ kept.0 ∙ pre.2 ∙ sym (inv.2 ∙ kept.1.0))
+    (omega (arith, inv.1, inv.4, kept.0, pre.1, c.before.before.before.before.loop-t-test.true), inv.1 ∙ kept.0 ∙ pre.2 ∙ sym (inv.2 ∙ kept.1.0))
 
-add-t : tie.Need-overflow-add-t invariant-loop decreases-loop
-add-t c = search rules
+overflow_step-t : tie.Need-overflow_step-t invariant-loop-t decreases-loop-t
+overflow_step-t c = search rules
 
-loop-less : tie.Need-loop-smaller invariant-loop decreases-loop
-loop-less c = search rules
+loop-t-smaller : tie.Need-loop-t-smaller invariant-loop-t decreases-loop-t
+loop-t-smaller c = search rules
 
-loop-again : tie.Need-loop-preserved invariant-loop decreases-loop
-loop-again c =
+loop-t-preserved : tie.Need-loop-t-preserved invariant-loop-t decreases-loop-t
+loop-t-preserved c =
     let at_loop = c.before.before.before.before.before.before.before.before.before.before in
-    let inv = at_loop.loop.invariant in
-    let added = c.before.before.before.before.push-entry2 in
+    let inv = at_loop.loop-t.invariant in
+    let added = c.before.before.before.before.push_entry-m-in-loop-t in
     let start = at_loop.before.before.before.before.before.before.before.before.before.before.before.before.before in
-    let inside : at_loop.loop.t < length start.args.flips.now = omega (arith, start.requires.3, c.before.before.before.before.before.before.before.before.before.loop-test.true) in
+    let inside : at_loop.loop-t.t < length start.args.flips.now = omega (arith, start.requires.3, c.before.before.before.before.before.before.before.before.before.loop-t-test.true) in
     (omega arith, added.auto.0 ∙ inv.1, added.auto.1.0 ∙ inv.2, triangle_pushed _ _ _ _ _ _ _ _ _ start.requires.4 inside inv.3 added.ensures, omega (arith, inv.4, pushed_few added.ensures))
 
-same_length : tie.Need-same-length invariant-loop decreases-loop
-same_length c = search rules
+shape_of-row_columns : tie.Need-shape_of-row_columns invariant-loop-t decreases-loop-t
+shape_of-row_columns c = search rules
 
-same-length-2 : tie.Need-same-length-2 invariant-loop decreases-loop
-same-length-2 c = search rules
+shape_of-row_values : tie.Need-shape_of-row_values invariant-loop-t decreases-loop-t
+shape_of-row_values c = search rules
 
-returns : tie.Need-returns invariant-loop decreases-loop
+returns : tie.Need-returns invariant-loop-t decreases-loop-t
 returns c =
-    let inv = c.before.loop.invariant in
-    let past : c.before.loop.t ≡ c.before.before.before.before.before.before.before.before.before.before.before.before.before.before.args.n = omega arith in
+    let inv = c.before.loop-t.invariant in
+    let past : c.before.loop-t.t ≡ c.before.before.before.before.before.before.before.before.before.before.before.before.before.before.args.n = omega arith in
     (rw past at inv.3, omega (arith, past, inv.4))
 
 pub collect_row_spec : {M : Type 1} → statement M
 collect_row_spec =
     tie.close
-    (tie.spec
-    invariant-loop
-    decreases-loop
-    cast-column
-    is_kept-requires
-    push_entry-requires
-    loop-holds
-    mul-push-entry
-    shared-slice-read-push-entry
-    mul-push-entry-2
-    shared-slice-read-push-entry-2
-    push_entry-requires-2
-    add-t
-    loop-less
-    loop-again
-    same_length
-    same-length-2
-    returns)
+    (tie.spec invariant-loop-t decreases-loop-t overflow_cast-column is_kept-kept-requires push_entry-m-requires loop-t-init offset_bounds-flips-t bounds-flips-t offset_bounds-terms-t bounds-terms-t push_entry-m-requires-in-loop-t overflow_step-t loop-t-smaller loop-t-preserved shape_of-row_columns shape_of-row_values returns)

@@ -7,57 +7,45 @@ use borrow.Author.Rules.{rules}
 use Rattle.su2_rows.proofs.row.flip_columns.Statement.{statement}
 use Rattle.su2_rows.proofs.row.flip_columns.Tie as tie
 
-abbrev invariant-loop : tie.invariant-loop
-invariant-loop flips₀ n by t₀ flips t = (t ≤ n) × (length flips ≡ length flips₀) × Flipped flips₀ by t flips
+abbrev invariant-loop-t : tie.invariant-loop-t
+invariant-loop-t flips₀ n by t₀ flips t = (t ≤ n) × (length flips ≡ length flips₀) × Flipped flips₀ by t flips
 
-abbrev decreases-loop : tie.decreases-loop
-decreases-loop flips₀ n by t₀ flips t = n - t
+abbrev decreases-loop-t : tie.decreases-loop-t
+decreases-loop-t flips₀ n by t₀ flips t = n - t
 
-loop-holds : tie.Need-loop-init invariant-loop decreases-loop
-loop-holds c = (omega arith, refl, none_flipped _ _)
+loop-t-init : tie.Need-loop-t-init invariant-loop-t decreases-loop-t
+loop-t-init c = (omega arith, refl, none_flipped _ _)
 
-mul-flips : tie.Need-overflow-mul-flips invariant-loop decreases-loop
-mul-flips c = search rules
+offset_bounds-flips-t : tie.Need-offset_bounds-flips-t invariant-loop-t decreases-loop-t
+offset_bounds-flips-t c = search rules
 
-slice-read-flips : tie.Need-slice-read-flips invariant-loop decreases-loop
-slice-read-flips c = search rules
+bounds-flips-t : tie.Need-bounds-flips-t invariant-loop-t decreases-loop-t
+bounds-flips-t c = search rules
 
-mul-flips-2 : tie.Need-overflow-mul-flips-2 invariant-loop decreases-loop
-mul-flips-2 c = search rules
+offset_bounds-flips-t-in-loop-t : tie.Need-offset_bounds-flips-t-in-loop-t invariant-loop-t decreases-loop-t
+offset_bounds-flips-t-in-loop-t c = search rules
 
-slice-write-flips : tie.Need-slice-write-flips invariant-loop decreases-loop
-slice-write-flips c = search rules
+bounds-flips-t-in-loop-t : tie.Need-bounds-flips-t-in-loop-t invariant-loop-t decreases-loop-t
+bounds-flips-t-in-loop-t c = search rules
 
-add-t : tie.Need-overflow-add-t invariant-loop decreases-loop
-add-t c = search rules
+overflow_step-t : tie.Need-overflow_step-t invariant-loop-t decreases-loop-t
+overflow_step-t c = search rules
 
-loop-less : tie.Need-loop-smaller invariant-loop decreases-loop
-loop-less c = search rules
+loop-t-smaller : tie.Need-loop-t-smaller invariant-loop-t decreases-loop-t
+loop-t-smaller c = search rules
 
-loop-again : tie.Need-loop-preserved invariant-loop decreases-loop
-loop-again c =
-    let inv = c.before.before.loop.invariant in
+loop-t-preserved : tie.Need-loop-t-preserved invariant-loop-t decreases-loop-t
+loop-t-preserved c =
+    let inv = c.before.before.loop-t.invariant in
     (omega arith, rw length-set inv.1, one_flipped _ _ _ _ (omega arith) inv.2)
 
-same_length : tie.Need-same-length invariant-loop decreases-loop
-same_length c = search rules
+shape_of-flips : tie.Need-shape_of-flips invariant-loop-t decreases-loop-t
+shape_of-flips c = search rules
 
-returns : tie.Need-returns invariant-loop decreases-loop
-returns c t h = c.before.loop.invariant.2.flipped t (omega arith)
+returns : tie.Need-returns invariant-loop-t decreases-loop-t
+returns c t h = c.before.loop-t.invariant.2.flipped t (omega arith)
 
 pub flip_columns_spec : {M : Type 1} → statement M
 flip_columns_spec =
     tie.close
-    (tie.spec
-    invariant-loop
-    decreases-loop
-    loop-holds
-    mul-flips
-    slice-read-flips
-    mul-flips-2
-    slice-write-flips
-    add-t
-    loop-less
-    loop-again
-    same_length
-    returns)
+    (tie.spec invariant-loop-t decreases-loop-t loop-t-init offset_bounds-flips-t bounds-flips-t offset_bounds-flips-t-in-loop-t bounds-flips-t-in-loop-t overflow_step-t loop-t-smaller loop-t-preserved shape_of-flips returns)

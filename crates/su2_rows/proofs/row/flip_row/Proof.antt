@@ -30,15 +30,15 @@ sort_row-requires c κs =
     let long = flipped.flip_columns.auto.0 in
     (omega (arith, pre.0, long), long ∙ pre.1, rw (are_flipped flipped) (flipped_differ (start flipped).args.by (entries (start flipped)) pre.2))
 
-same_length : tie.Need-same-length
-same_length c = search rules
+shape_of-flips : tie.Need-shape_of-flips
+shape_of-flips c = search rules
 
-same-length-2 : tie.Need-same-length-2
-same-length-2 c = search rules
+shape_of-terms : tie.Need-shape_of-terms
+shape_of-terms c = search rules
 
 returns : tie.Need-returns
 returns c = rw (are_flipped c.before.before.before.before.before.before.before.before.before) at c.before.before.before.before.sort_row.ensures.sorted
 
 pub flip_row_spec : {M : Type 1} → statement M
 flip_row_spec =
-    tie.close (tie.spec flip_columns-requires sort_row-requires same_length same-length-2 returns)
+    tie.close (tie.spec flip_columns-requires sort_row-requires shape_of-flips shape_of-terms returns)

@@ -15,7 +15,7 @@ unfolding entries_agrees
 returns c =
     let called = c.before in
     let start = called.before.before in
-    told_as called.export_count_entries.ensures called.export_count_entries.type-inv start.ranges.told c.same_number.ensures
+    told_as called.export_count_entries.ensures called.export_count_entries.type_inv start.ranges.told c.same_number.ensures
 
 pub count_entries_same_spec : {M : Type 1} → statement M
 count_entries_same_spec =

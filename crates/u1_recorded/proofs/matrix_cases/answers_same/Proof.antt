@@ -14,147 +14,124 @@ use Rattle.u1_recorded.proofs.matrix_cases.answers_same.Statement.{statement}
 use Rattle.u1_recorded.proofs.matrix_cases.answers_same.Tie as tie
 
 -- the kind was read
-abbrev read : tie.After-given → tie.After-byte_at
+abbrev read : tie.After-given-given → tie.After-byte_at-kind
 read c = c.before.before.before.before.before.before
 
-abbrev start : tie.After-given → tie.Start
+abbrev start : tie.After-given-given → tie.Start
 start c = (read c).before.before.before.before
 
-told_is : (c : tie.After-given) → to_z w64 (of_z w64 c.before.before.before.before.told.result) ≡ told_of (case_at (start c).args.list.now (start c).args.at)
-told_is c = back64 _ c.before.before.before.before.told.type-inv ∙ c.before.before.before.before.told.ensures
+told_is : (c : tie.After-given-given) → to_z w64 (of_z w64 c.before.before.before.before.told-told.result) ≡ told_of (case_at (start c).args.list.now (start c).args.at)
+told_is c = back64 _ c.before.before.before.before.told-told.type_inv ∙ c.before.before.before.before.told-told.ensures
 
-byte_at-requires : tie.Need-byte_at-requires
-byte_at-requires c κs = search rules
+byte_at-kind-requires : tie.Need-byte_at-kind-requires
+byte_at-kind-requires c κs = search rules
 
-field-requires : tie.Need-field-requires
-field-requires c κs = search rules
+field-sheet-requires : tie.Need-field-sheet-requires
+field-sheet-requires c κs = search rules
 
-told-requires : tie.Need-told-requires
-told-requires c κs = search rules
+told-told-requires : tie.Need-told-told-requires
+told-told-requires c κs = search rules
 
-field-requires-2 : tie.Need-field-requires-2
-field-requires-2 c κs = search rules
+field-states-requires : tie.Need-field-states-requires
+field-states-requires c κs = search rules
 
-field-requires-3 : tie.Need-field-requires-3
-field-requires-3 c κs = search rules
+field-result-requires : tie.Need-field-result-requires
+field-result-requires c κs = search rules
 
-coupling-requires : tie.Need-coupling-requires
-coupling-requires c κs = search rules
+coupling-p-requires : tie.Need-coupling-p-requires
+coupling-p-requires c κs = search rules
 
-given-requires : tie.Need-given-requires
-given-requires c κs = search rules
+given-given-requires : tie.Need-given-given-requires
+given-given-requires c κs = search rules
 
 build_hamiltonian_same-requires : tie.Need-build_hamiltonian_same-requires
 build_hamiltonian_same-requires c κs = search rules
 
-returns : tie.Need-returns
+returns-then-kind-eq12 : tie.Need-returns-then-kind-eq12
 unfolding matrices_agreed chosen case_at
-returns c =
+returns-then-kind-eq12 c =
     let chose = c.before in
     let known = chose.before in
-    let k = (read known).byte_at.ensures.0 in
-    rw (is k chose.if1.true)
-    (c.build_hamiltonian_same.ensures ∙ (λ i. dense_agrees (known.before.before.before.before.before.field.ensures.0 i) (known.before.coupling.ensures i) (known.given.ensures i) ((start known).requires.1 i) (told_is known i) (known.before.before.before.field2.ensures.0 i) (known.before.before.field3.ensures.0 i)))
+    let k = (read known).byte_at-kind.ensures.0 in
+    rw (is k chose.if-kind-eq12.true)
+    (c.build_hamiltonian_same.ensures ∙ (λ i. dense_agrees (known.before.before.before.before.before.field-sheet.ensures.0 i) (known.before.coupling-p.ensures i) (known.given-given.ensures i) ((start known).requires.1 i) (told_is known i) (known.before.before.before.field-states.ensures.0 i) (known.before.before.field-result.ensures.0 i)))
 
-field-requires-4 : tie.Need-field-requires-4
-field-requires-4 c κs = search rules
+field-starts-requires : tie.Need-field-starts-requires
+field-starts-requires c κs = search rules
 
-field-requires-5 : tie.Need-field-requires-5
-field-requires-5 c κs = search rules
+field-columns-requires : tie.Need-field-columns-requires
+field-columns-requires c κs = search rules
 
 build_csr_same-requires : tie.Need-build_csr_same-requires
 build_csr_same-requires c κs = search rules
 
-returns-2 : tie.Need-returns-2
+returns-then-kind-eq13 : tie.Need-returns-then-kind-eq13
 unfolding matrices_agreed chosen case_at
-returns-2 c =
+returns-then-kind-eq13 c =
     let chose = c.before.before.before in
     let known = chose.before.before in
-    let k = (read known).byte_at.ensures.0 in
-    rw (other k 12 chose.before.if1.false, is k chose.if2.true)
-    (c.build_csr_same.ensures ∙ (λ i. csr_agrees (known.before.before.before.before.before.field.ensures.0 i) (known.before.coupling.ensures i) (known.given.ensures i) ((start known).requires.1 i) (told_is known i) (known.before.before.before.field2.ensures.0 i) (c.before.before.field4.ensures.0 i) (c.before.field5.ensures.0 i) (known.before.before.field3.ensures.0 i)))
+    let k = (read known).byte_at-kind.ensures.0 in
+    rw (other k 12 chose.before.if-kind-eq12.false, is k chose.if-kind-eq13.true)
+    (c.build_csr_same.ensures ∙ (λ i. csr_agrees (known.before.before.before.before.before.field-sheet.ensures.0 i) (known.before.coupling-p.ensures i) (known.given-given.ensures i) ((start known).requires.1 i) (told_is known i) (known.before.before.before.field-states.ensures.0 i) (c.before.before.field-starts.ensures.0 i) (c.before.field-columns.ensures.0 i) (known.before.before.field-result.ensures.0 i)))
 
 count_entries_same-requires : tie.Need-count_entries_same-requires
 count_entries_same-requires c κs = search rules
 
-returns-3 : tie.Need-returns-3
+returns-then-kind-eq14 : tie.Need-returns-then-kind-eq14
 unfolding matrices_agreed chosen case_at
-returns-3 c =
+returns-then-kind-eq14 c =
     let chose = c.before in
     let known = chose.before.before.before in
-    let k = (read known).byte_at.ensures.0 in
-    rw (other k 12 chose.before.before.if1.false, other k 13 chose.before.if2.false, is k chose.if3.true)
-    (c.count_entries_same.ensures ∙ (λ i. entries_agrees (known.before.before.before.before.before.field.ensures.0 i) (told_is known i)))
+    let k = (read known).byte_at-kind.ensures.0 in
+    rw (other k 12 chose.before.before.if-kind-eq12.false, other k 13 chose.before.if-kind-eq13.false, is k chose.if-kind-eq14.true)
+    (c.count_entries_same.ensures ∙ (λ i. entries_agrees (known.before.before.before.before.before.field-sheet.ensures.0 i) (told_is known i)))
 
 hamiltonian_matvec_same-requires : tie.Need-hamiltonian_matvec_same-requires
 hamiltonian_matvec_same-requires c κs = search rules
 
-returns-4 : tie.Need-returns-4
+returns-then-kind-eq15 : tie.Need-returns-then-kind-eq15
 unfolding matrices_agreed chosen case_at
-returns-4 c =
+returns-then-kind-eq15 c =
     let chose = c.before in
     let known = chose.before.before.before.before in
-    let k = (read known).byte_at.ensures.0 in
-    rw (other k 12 chose.before.before.before.if1.false, other k 13 chose.before.before.if2.false, other k 14 chose.before.if3.false, is k chose.if4.true)
-    (c.hamiltonian_matvec_same.ensures ∙ (λ i. product_agrees (known.before.before.before.before.before.field.ensures.0 i) (known.before.coupling.ensures i) (known.given.ensures i) ((start known).requires.1 i) ((start known).requires.2 i) (told_is known i) (known.before.before.before.field2.ensures.0 i) (known.before.before.field3.ensures.0 i)))
+    let k = (read known).byte_at-kind.ensures.0 in
+    rw (other k 12 chose.before.before.before.if-kind-eq12.false, other k 13 chose.before.before.if-kind-eq13.false, other k 14 chose.before.if-kind-eq14.false, is k chose.if-kind-eq15.true)
+    (c.hamiltonian_matvec_same.ensures ∙ (λ i. product_agrees (known.before.before.before.before.before.field-sheet.ensures.0 i) (known.before.coupling-p.ensures i) (known.given-given.ensures i) ((start known).requires.1 i) ((start known).requires.2 i) (told_is known i) (known.before.before.before.field-states.ensures.0 i) (known.before.before.field-result.ensures.0 i)))
 
 electric_field_sq_same-requires : tie.Need-electric_field_sq_same-requires
 electric_field_sq_same-requires c κs = search rules
 
-returns-5 : tie.Need-returns-5
+returns-then-kind-eq16 : tie.Need-returns-then-kind-eq16
 unfolding matrices_agreed chosen case_at
-returns-5 c =
+returns-then-kind-eq16 c =
     let chose = c.before in
     let known = chose.before.before.before.before.before in
-    let k = (read known).byte_at.ensures.0 in
-    rw (other k 12 chose.before.before.before.before.if1.false, other k 13 chose.before.before.before.if2.false, other k 14 chose.before.before.if3.false, other k 15 chose.before.if4.false, is k chose.if5.true)
-    (c.electric_field_sq_same.ensures ∙ (λ i. electric_agrees (known.before.before.before.before.before.field.ensures.0 i) ((start known).requires.2 i) (told_is known i) (known.before.before.before.field2.ensures.0 i) (known.before.before.field3.ensures.0 i)))
+    let k = (read known).byte_at-kind.ensures.0 in
+    rw (other k 12 chose.before.before.before.before.if-kind-eq12.false, other k 13 chose.before.before.before.if-kind-eq13.false, other k 14 chose.before.before.if-kind-eq14.false, other k 15 chose.before.if-kind-eq15.false, is k chose.if-kind-eq16.true)
+    (c.electric_field_sq_same.ensures ∙ (λ i. electric_agrees (known.before.before.before.before.before.field-sheet.ensures.0 i) ((start known).requires.2 i) (told_is known i) (known.before.before.before.field-states.ensures.0 i) (known.before.before.field-result.ensures.0 i)))
 
-field-requires-6 : tie.Need-field-requires-6
-field-requires-6 c κs = search rules
+field-path-requires : tie.Need-field-path-requires
+field-path-requires c κs = search rules
 
 wilson_loop_same-requires : tie.Need-wilson_loop_same-requires
 wilson_loop_same-requires c κs = search rules
 
-returns-6 : tie.Need-returns-6
+returns-then-kind-eq17 : tie.Need-returns-then-kind-eq17
 unfolding matrices_agreed chosen case_at
-returns-6 c =
+returns-then-kind-eq17 c =
     let chose = c.before.before in
     let known = chose.before.before.before.before.before.before in
-    let k = (read known).byte_at.ensures.0 in
-    rw (other k 12 chose.before.before.before.before.before.if1.false, other k 13 chose.before.before.before.before.if2.false, other k 14 chose.before.before.before.if3.false, other k 15 chose.before.before.if4.false, other k 16 chose.before.if5.false, is k chose.if6.true)
-    (c.wilson_loop_same.ensures ∙ (λ i. wilson_agrees (known.before.before.before.before.before.field.ensures.0 i) ((start known).requires.2 i) (c.before.field6.ensures.0 i) ((start known).requires.3 i) (told_is known i) (known.before.before.before.field2.ensures.0 i) (known.before.before.field3.ensures.0 i)))
+    let k = (read known).byte_at-kind.ensures.0 in
+    rw (other k 12 chose.before.before.before.before.before.if-kind-eq12.false, other k 13 chose.before.before.before.before.if-kind-eq13.false, other k 14 chose.before.before.before.if-kind-eq14.false, other k 15 chose.before.before.if-kind-eq15.false, other k 16 chose.before.if-kind-eq16.false, is k chose.if-kind-eq17.true)
+    (c.wilson_loop_same.ensures ∙ (λ i. wilson_agrees (known.before.before.before.before.before.field-sheet.ensures.0 i) ((start known).requires.2 i) (c.before.field-path.ensures.0 i) ((start known).requires.3 i) (told_is known i) (known.before.before.before.field-states.ensures.0 i) (known.before.before.field-result.ensures.0 i)))
 
-returns-7 : tie.Need-returns-7
+returns : tie.Need-returns
 unfolding matrices_agreed chosen case_at
-returns-7 c =
-    let k = (read c.before.before.before.before.before.before).byte_at.ensures.0 in
-    rw (other k 12 c.before.before.before.before.before.if1.false, other k 13 c.before.before.before.before.if2.false, other k 14 c.before.before.before.if3.false, other k 15 c.before.before.if4.false, other k 16 c.before.if5.false, other k 17 c.if6.false)
+returns c =
+    let k = (read c.before.before.before.before.before.before).byte_at-kind.ensures.0 in
+    rw (other k 12 c.before.before.before.before.before.if-kind-eq12.false, other k 13 c.before.before.before.before.if-kind-eq13.false, other k 14 c.before.before.before.if-kind-eq14.false, other k 15 c.before.before.if-kind-eq15.false, other k 16 c.before.if-kind-eq16.false, other k 17 c.if-kind-eq17.false)
 
 pub answers_same_spec : {M : Type 1} → statement M
 answers_same_spec =
     tie.close
-    (tie.spec
-    byte_at-requires
-    field-requires
-    told-requires
-    field-requires-2
-    field-requires-3
-    coupling-requires
-    given-requires
-    build_hamiltonian_same-requires
-    returns
-    field-requires-4
-    field-requires-5
-    build_csr_same-requires
-    returns-2
-    count_entries_same-requires
-    returns-3
-    hamiltonian_matvec_same-requires
-    returns-4
-    electric_field_sq_same-requires
-    returns-5
-    field-requires-6
-    wilson_loop_same-requires
-    returns-6
-    returns-7)
+    (tie.spec byte_at-kind-requires field-sheet-requires told-told-requires field-states-requires field-result-requires coupling-p-requires given-given-requires build_hamiltonian_same-requires returns-then-kind-eq12 field-starts-requires field-columns-requires build_csr_same-requires returns-then-kind-eq13 count_entries_same-requires returns-then-kind-eq14 hamiltonian_matvec_same-requires returns-then-kind-eq15 electric_field_sq_same-requires returns-then-kind-eq16 field-path-requires wilson_loop_same-requires returns-then-kind-eq17 returns)

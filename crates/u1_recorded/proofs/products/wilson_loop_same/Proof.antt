@@ -4,17 +4,17 @@ use borrow.Author.Rules.{rules}
 use Rattle.u1_recorded.proofs.products.wilson_loop_same.Statement.{statement}
 use Rattle.u1_recorded.proofs.products.wilson_loop_same.Tie as tie
 
-slice-aggregate-export-wilson-loop : tie.Need-slice-aggregate-export-wilson-loop
-slice-aggregate-export-wilson-loop c = search rules
+slice_bounds-export_wilson_loop-end : tie.Need-slice_bounds-export_wilson_loop-end
+slice_bounds-export_wilson_loop-end c = search rules
 
-export_wilson_loop-requires : tie.Need-export_wilson_loop-requires
-export_wilson_loop-requires c κs = search rules
+export_wilson_loop-answer-requires : tie.Need-export_wilson_loop-answer-requires
+export_wilson_loop-answer-requires c κs = search rules
 
 same_number-requires : tie.Need-same_number-requires
 same_number-requires c κs = search rules
 
-slice-aggregate-same-i32s : tie.Need-slice-aggregate-same-i32s
-slice-aggregate-same-i32s c = search rules
+slice_bounds-same_i32s-end : tie.Need-slice_bounds-same_i32s-end
+slice_bounds-same_i32s-end c = search rules
 
 same_i32s-requires : tie.Need-same_i32s-requires
 same_i32s-requires c κs = search rules
@@ -29,17 +29,10 @@ returns c =
     let numbered = states.before.before in
     let called = numbered.before.before in
     let start = called.before.before.before.before.before.before.before.before in
-    agrees_as called.export_wilson_loop.ensures called.export_wilson_loop.type-inv start.ranges.told _ numbered.same_number.ensures
+    agrees_as called.export_wilson_loop-answer.ensures called.export_wilson_loop-answer.type_inv start.ranges.told _ numbered.same_number.ensures
     (rw (states.same_i32s.ensures, c.same_float.ensures))
 
 pub wilson_loop_same_spec : {M : Type 1} → statement M
 wilson_loop_same_spec =
     tie.close
-    (tie.spec
-    slice-aggregate-export-wilson-loop
-    export_wilson_loop-requires
-    same_number-requires
-    slice-aggregate-same-i32s
-    same_i32s-requires
-    same_float-requires
-    returns)
+    (tie.spec slice_bounds-export_wilson_loop-end export_wilson_loop-answer-requires same_number-requires slice_bounds-same_i32s-end same_i32s-requires same_float-requires returns)

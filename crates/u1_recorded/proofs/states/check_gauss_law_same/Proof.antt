@@ -15,7 +15,7 @@ unfolding law_agrees
 returns c =
     let called = c.before in
     let start = called.before.before in
-    told_as called.export_check_gauss_law.ensures called.export_check_gauss_law.type-inv start.ranges.told c.same_number.ensures
+    told_as called.export_check_gauss_law.ensures called.export_check_gauss_law.type_inv start.ranges.told c.same_number.ensures
 
 pub check_gauss_law_same_spec : {M : Type 1} → statement M
 check_gauss_law_same_spec =

@@ -15,7 +15,7 @@ unfolding counted_agrees
 returns c =
     let called = c.before in
     let start = called.before.before in
-    told_as called.export_count_states.ensures called.export_count_states.type-inv start.ranges.told c.same_number.ensures
+    told_as called.export_count_states.ensures called.export_count_states.type_inv start.ranges.told c.same_number.ensures
 
 pub count_states_same_spec : {M : Type 1} → statement M
 count_states_same_spec =

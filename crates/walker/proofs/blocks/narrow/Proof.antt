@@ -24,20 +24,20 @@ zero_test c = c.is_zero.ensures ∙ ap (λ s. equal s (pos 0)) (sign_back c.befo
 within_test : (c : tie.After-within) → c.within.result ≡ leb (nat_abs c.before.before.before.args.x) c.before.before.before.args.lambda
 within_test c = c.within.ensures ∙ ap (λ x. leb (nat_abs x) c.before.before.before.args.lambda) (x_back c.before.before.before)
 
-y_back : (c : tie.After-turn) → to_z w32 (of_z w32 c.turn.result) ≡ c.before.before.before.args.sign *ℤ c.before.before.before.args.x
-y_back c = back32 c.turn.result c.turn.type-inv ∙ c.turn.ensures ∙ ap₂ ◌*ℤ◌ (sign_back c.before.before.before) (x_back c.before.before.before)
+y_back : (c : tie.After-turn-y) → to_z w32 (of_z w32 c.turn-y.result) ≡ c.before.before.before.args.sign *ℤ c.before.before.before.args.x
+y_back c = back32 c.turn-y.result c.turn-y.type_inv ∙ c.turn-y.ensures ∙ ap₂ ◌*ℤ◌ (sign_back c.before.before.before) (x_back c.before.before.before)
 
-y_small : (c : tie.After-turn) → nat_abs (to_z w32 (of_z w32 c.turn.result)) ≤ 2 ^ 24
+y_small : (c : tie.After-turn-y) → nat_abs (to_z w32 (of_z w32 c.turn-y.result)) ≤ 2 ^ 24
 y_small c =
     let start = c.before.before.before in
     let pre = start.requires in
     rw (y_back c, *ℤ_comm start.args.sign start.args.x) (omega (arith, size_sign start.args.x start.args.sign pre.2))
 
 low_back : (c : tie.After-negative) → to_z w32 (of_z w32 c.negative.result) ≡ neg_ℤ (pos c.before.before.before.before.args.lambda)
-low_back c = back32 c.negative.result c.negative.type-inv ∙ c.negative.ensures
+low_back c = back32 c.negative.result c.negative.type_inv ∙ c.negative.ensures
 
 above_back : (c : tie.After-usize_to_i32) → to_z w32 (of_z w32 c.usize_to_i32.result) ≡ pos (c.before.before.before.before.before.before.before.args.lambda + 1)
-above_back c = back32 c.usize_to_i32.result c.usize_to_i32.type-inv ∙ c.usize_to_i32.ensures
+above_back c = back32 c.usize_to_i32.result c.usize_to_i32.type_inv ∙ c.usize_to_i32.ensures
 
 is_zero-requires : tie.Need-is_zero-requires
 is_zero-requires c κs = search rules
@@ -45,23 +45,23 @@ is_zero-requires c κs = search rules
 within-requires : tie.Need-within-requires
 within-requires c κs = search rules
 
-returns : tie.Need-returns
-returns c =
+returns-then-within : tie.Need-returns-then-within
+returns-then-within c =
     let start = c.before.before.before.before in
     narrow_inside start.args.lambda start.args.width start.args.x start.args.sign start.args.span start.requires.0
-    (sym (zero_test c.before.before.before) ∙ c.before.before.if1.true) (sym (within_test c.before) ∙ c.if2.true)
+    (sym (zero_test c.before.before.before) ∙ c.before.before.if-is_zero.true) (sym (within_test c.before) ∙ c.if-within.true)
 
 larger-requires : tie.Need-larger-requires
 larger-requires c κs = search rules
 
-returns-2 : tie.Need-returns-2
-returns-2 c =
+returns-then-is_zero : tie.Need-returns-then-is_zero
+returns-then-is_zero c =
     let start = c.before.before.before.before.before in
     narrow_outside start.args.lambda start.args.width start.args.x start.args.sign start.args.span start.requires.0
-    (sym (zero_test c.before.before.before.before) ∙ c.before.before.before.if1.true) (sym (within_test c.before.before) ∙ c.before.if2.false) _ c.larger.ensures
+    (sym (zero_test c.before.before.before.before) ∙ c.before.before.before.if-is_zero.true) (sym (within_test c.before.before) ∙ c.before.if-within.false) _ c.larger.ensures
 
-turn-requires : tie.Need-turn-requires
-turn-requires c κs = let start = c.before.before in let pre = start.requires in rw (sign_back start, x_back start) (pre.2, omega arith)
+turn-y-requires : tie.Need-turn-y-requires
+turn-y-requires c κs = let start = c.before.before in let pre = start.requires in rw (sign_back start, x_back start) (pre.2, omega arith)
 
 negative-requires : tie.Need-negative-requires
 negative-requires c κs = search rules
@@ -75,8 +75,8 @@ excess-requires c κs =
 larger-requires-2 : tie.Need-larger-requires-2
 larger-requires-2 c κs = search rules
 
-add-usize-to-i32 : tie.Need-overflow-add-usize-to-i32
-add-usize-to-i32 c = search rules
+overflow_add-lambda : tie.Need-overflow_add-lambda
+overflow_add-lambda c = search rules
 
 usize_to_i32-requires : tie.Need-usize_to_i32-requires
 usize_to_i32-requires c κs = search rules
@@ -89,30 +89,16 @@ excess-requires-2 c κs =
 smaller-requires : tie.Need-smaller-requires
 smaller-requires c κs = search rules
 
-returns-3 : tie.Need-returns-3
-returns-3 c =
+returns : tie.Need-returns
+returns c =
     let start = c.before.before.before.before.before.before.before.before.before in
     let turned = c.before.before.before.before.before.before in
     let below = rw (low_back c.before.before.before.before.before, y_back turned) at c.before.before.before.before.excess.ensures in
-    let over = rw (above_back c.before.before, y_back turned) at c.before.excess2.ensures in
+    let over = rw (above_back c.before.before, y_back turned) at c.before.excess-2.ensures in
     narrow_signed start.args.lambda start.args.width start.args.x start.args.sign start.args.span start.requires.0
-    (sym (zero_test turned.before.before) ∙ turned.before.if1.false) _ _ (c.before.before.before.larger2.ensures ∙ ap (max start.args.span.from) below) (c.smaller.ensures ∙ ap (min start.args.span.to) over)
+    (sym (zero_test turned.before.before) ∙ turned.before.if-is_zero.false) _ _ (c.before.before.before.larger-2.ensures ∙ ap (max start.args.span.from) below) (c.smaller.ensures ∙ ap (min start.args.span.to) over)
 
 pub narrow_spec : {M : Type 1} → statement M
 narrow_spec =
     tie.close
-    (tie.spec
-    is_zero-requires
-    within-requires
-    returns
-    larger-requires
-    returns-2
-    turn-requires
-    negative-requires
-    excess-requires
-    larger-requires-2
-    add-usize-to-i32
-    usize_to_i32-requires
-    excess-requires-2
-    smaller-requires
-    returns-3)
+    (tie.spec is_zero-requires within-requires returns-then-within larger-requires returns-then-is_zero turn-y-requires negative-requires excess-requires larger-requires-2 overflow_add-lambda usize_to_i32-requires excess-requires-2 smaller-requires returns)

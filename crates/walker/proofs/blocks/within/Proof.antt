@@ -13,7 +13,7 @@ usize_to_i32-requires c κs = search rules
 returns : tie.Need-returns
 returns c =
     let start = c.before.before in
-    rw (back32 start.args.x start.ranges.x.sfits, back32 c.usize_to_i32.result c.usize_to_i32.type-inv, c.usize_to_i32.ensures, back32 c.before.negative.result c.before.negative.type-inv, c.before.negative.ensures)
+    rw (back32 start.args.x start.ranges.x.sfits, back32 c.usize_to_i32.result c.usize_to_i32.type_inv, c.usize_to_i32.ensures, back32 c.before.negative.result c.before.negative.type_inv, c.before.negative.ensures)
     (within_test start.args.lambda start.args.x)
 
 pub within_spec : {M : Type 1} → statement M

@@ -24,8 +24,8 @@ one_row s z d =
 put_all : (old new : List ℤ) → length old ≡ length new → put old 0 new ≡ new
 put_all old new h = put_front old new ∙ rw (drop_of_length-le old {i = length new} (omega arith)) (append-nil new)
 
-add-t6 : tie.Need-overflow-add-t6
-add-t6 c = search rules
+overflow_add-one : tie.Need-overflow_add-one
+overflow_add-one c = search rules
 
 write_block-requires : tie.Need-write_block-requires
 write_block-requires c κs =
@@ -33,8 +33,8 @@ write_block-requires c κs =
     let one : start.args.times + 1 - start.args.times ≡ 1 = omega arith in
     (start.requires.0, omega (arith, start.requires.1), rw one (omega (arith, start.requires.2)))
 
-same_length : tie.Need-same-length
-same_length c = search rules
+shape_of-row : tie.Need-shape_of-row
+shape_of-row c = search rules
 
 returns : tie.Need-returns
 returns c =
@@ -47,4 +47,4 @@ returns c =
     ∙ put_all start.args.row.now (with_cycle s (pos d) z) (omega (arith, start.requires.2, added_length s (pos d) z))
 
 pub fill_row_spec : {M : Type 1} → statement M
-fill_row_spec = tie.close (tie.spec add-t6 write_block-requires same_length returns)
+fill_row_spec = tie.close (tie.spec overflow_add-one write_block-requires shape_of-row returns)

@@ -15,11 +15,11 @@ is c = rw (c.usize_to_i32.ensures, small_back (pos c.before.args.x) (omega (arit
 usize_to_i32-requires : tie.Need-usize_to_i32-requires
 usize_to_i32-requires c κs = search rules
 
-sub-result : tie.Need-overflow-sub-result
-sub-result c = rw (is c) (size_fits w32 (neg_ℤ (pos c.before.args.x)) (omega (arith, c.before.requires, size_neg (pos c.before.args.x))))
+overflow_sub-result : tie.Need-overflow_sub-result
+overflow_sub-result c = rw (is c) (size_fits w32 (neg_ℤ (pos c.before.args.x)) (omega (arith, c.before.requires, size_neg (pos c.before.args.x))))
 
 returns : tie.Need-returns
-returns c = to_z-of_z (sub-result c) ∙ is c
+returns c = to_z-of_z (overflow_sub-result c) ∙ is c
 
 pub negative_spec : {M : Type 1} → statement M
-negative_spec = tie.close (tie.spec usize_to_i32-requires sub-result returns)
+negative_spec = tie.close (tie.spec usize_to_i32-requires overflow_sub-result returns)

@@ -6,67 +6,57 @@ use Rattle.walker.proofs.Fitting.{begin_ready, cycles_may, tables_walk}
 use Rattle.walker.proofs.tables.prepare.Statement.{statement}
 use Rattle.walker.proofs.tables.prepare.Tie as tie
 
-spanned : (c : tie.After-search) → Spanned c.before.before.before.args.t1 c.search.result
-spanned c = searched_spanned _ _ c.before.before.before.requires.0 c.search.ensures
+spanned : (c : tie.After-search-tree) → Spanned c.before.before.before.args.t1 c.search-tree.result
+spanned c = searched_spanned _ _ c.before.before.before.requires.0 c.search-tree.ensures
 
-search-requires : tie.Need-search-requires
-search-requires c κs = accepted_searchable _ c.before.before.requires.0
+search-tree-requires : tie.Need-search-tree-requires
+search-tree-requires c κs = accepted_searchable _ c.before.before.requires.0
 
-free_edges-requires : tie.Need-free_edges-requires
-free_edges-requires c κs = spanned c
+free_edges-free-requires : tie.Need-free_edges-free-requires
+free_edges-free-requires c κs = spanned c
 
-tree_paths-requires : tie.Need-tree_paths-requires
-tree_paths-requires c κs = spanned c.before
+tree_paths-paths-requires : tie.Need-tree_paths-paths-requires
+tree_paths-paths-requires c κs = spanned c.before
 
-fundamental_cycles-requires : tie.Need-fundamental_cycles-requires
-fundamental_cycles-requires c κs = (c.before.before.before.before.before.before.requires.0, c.before.tree_paths.ensures, c.before.before.free_edges.ensures)
+fundamental_cycles-cycles-requires : tie.Need-fundamental_cycles-cycles-requires
+fundamental_cycles-cycles-requires c κs = (c.before.before.before.before.before.before.requires.0, c.before.tree_paths-paths.ensures, c.before.before.free_edges-free.ensures)
 
 abbrev Made : Type 0
-Made = tie.After-fundamental_cycles
+Made = tie.After-fundamental_cycles-cycles
 
 abbrev start : Made → tie.Start
 start c = c.before.before.before.before.before.before.before
 
-fit : (c : Made) → CyclesFit (start c).args.t1.n_edges c.before.before.before.free_edges.result.count (start c).args.lambda c.fundamental_cycles.result
+fit : (c : Made) → CyclesFit (start c).args.t1.n_edges c.before.before.before.free_edges-free.result.count (start c).args.lambda c.fundamental_cycles-cycles.result
 fit c =
-    cycles_may (start c).args.t1 (start c).requires.0 (start c).args.lambda (start c).requires.1 c.before.before.before.free_edges.result c.before.before.before.free_edges.ensures c.fundamental_cycles.result c.fundamental_cycles.ensures
+    cycles_may (start c).args.t1 (start c).requires.0 (start c).args.lambda (start c).requires.1 c.before.before.before.free_edges-free.result c.before.before.before.free_edges-free.ensures c.fundamental_cycles-cycles.result c.fundamental_cycles-cycles.ensures
 
-sub-begin : tie.Need-overflow-sub-begin
-sub-begin c = search rules
+slice_bounds-begin-count : tie.Need-slice_bounds-begin-count
+slice_bounds-begin-count c = search rules
 
-part-first-start : tie.Need-slice-bounds-first-start
-part-first-start c = search rules
+slice_bounds-first-start : tie.Need-slice_bounds-first-start
+slice_bounds-first-start c = search rules
 
-part-first-end : tie.Need-slice-bounds-first-end
-part-first-end c = let few = (fit c.before).edges_few in search rules
+slice_bounds-first-end : tie.Need-slice_bounds-first-end
+slice_bounds-first-end c = let few = (fit c.before).edges_few in search rules
 
-slice-aggregate-begin : tie.Need-slice-aggregate-begin
-slice-aggregate-begin c = search rules
+slice_bounds-begin-end : tie.Need-slice_bounds-begin-end
+slice_bounds-begin-end c = search rules
 
 begin-requires : tie.Need-begin-requires
 begin-requires c κs =
     let made = c.before.before.before in
-    begin_ready (start made).args.t1.n_edges made.before.before.before.free_edges.result.count (start made).args.lambda made.fundamental_cycles.result (fit made)
+    begin_ready (start made).args.t1.n_edges made.before.before.before.free_edges-free.result.count (start made).args.lambda made.fundamental_cycles-cycles.result (fit made)
 
 returns : tie.Need-returns
 returns c =
     let made = c.before.before.before.before.before in
     let s = start made in
-    let free = made.before.before.before.free_edges in
-    let cycles = made.fundamental_cycles in
+    let free = made.before.before.before.free_edges-free in
+    let cycles = made.fundamental_cycles-cycles in
     tables_walk s.args.t1 s.pre.0 s.args.lambda s.pre.1 free.result free.ensures cycles.result cycles.ensures c.before.begin.new.0 c.before.begin.auto.0 c.before.begin.ensures
 
 pub prepare_spec : {M : Type 1} → statement M
 prepare_spec =
     tie.close
-    (tie.spec
-    search-requires
-    free_edges-requires
-    tree_paths-requires
-    fundamental_cycles-requires
-    sub-begin
-    part-first-start
-    part-first-end
-    slice-aggregate-begin
-    begin-requires
-    returns)
+    (tie.spec search-tree-requires free_edges-free-requires tree_paths-paths-requires fundamental_cycles-cycles-requires slice_bounds-begin-count slice_bounds-first-start slice_bounds-first-end slice_bounds-begin-end begin-requires returns)
