@@ -1,5 +1,5 @@
-use mathlib.Core.Path.{◌≡◌, sym, ◌∙◌}
-use mathlib.Core.Bool.{true, cond, ◌&&◌}
+use mathlib.Core.Path.{◌≡◌, sym, ◌∙◌, ap}
+use mathlib.Core.Bool.{true, cond, ◌&&◌, not}
 use borrow.Author.Tests.{not-true, not-false}
 use Rattle.mathematics.specs.Tests.{every_entry}
 use Rattle.complex.specs.declared.SimplicialComplex.{SimplicialComplex}
@@ -33,23 +33,23 @@ abbrev to-4 : tie.Else-not-triangles_once → tie.Else-not-triangles_fit
 to-4 c = c.before.before.before.before.before
 
 abbrev judged-1 : tie.Else-not-counts_right → SimplicialComplex
-judged-1 c = c.before.before.args.t1
+judged-1 c = c.before.before.args.c
 
 passed_1 : (c : tie.Else-not-counts_right) → counts_of (judged-1 c) ≡ true
-passed_1 c = sym c.before.counts_right.ensures ∙ not-false _ c.if-not-counts_right.false
+passed_1 c = sym c.before.counts_right.ensures ∙ not-false _ (ap not c.if-not-counts_right.false)
 
 passed_2 : (c : tie.Else-not-edges_rise) → every_entry (rising (judged-1 (to-1 c)).n_vertices) (edges_of (judged-1 (to-1 c))) ≡ true
-passed_2 c = sym c.before.edges_rise.ensures ∙ not-false _ c.if-not-edges_rise.false
+passed_2 c = sym c.before.edges_rise.ensures ∙ not-false _ (ap not c.if-not-edges_rise.false)
 
 passed_3 : (c : tie.Else-not-index_edges) → simplices_right (judged-1 (to-1 (to-2 c))).n_vertices (edges_of (judged-1 (to-1 (to-2 c)))) ≡ true
 passed_3 c =
-    edges_right (judged-1 (to-1 (to-2 c))) c.before.index_edges.new.1.1.0 (passed_1 (to-1 (to-2 c))) (passed_2 (to-2 c)) (sym c.before.index_edges.ensures.once ∙ not-false _ c.if-not-index_edges.false)
+    edges_right (judged-1 (to-1 (to-2 c))) c.before.index_edges.new.table (passed_1 (to-1 (to-2 c))) (passed_2 (to-2 c)) (sym c.before.index_edges.ensures.once ∙ not-false _ (ap not c.if-not-index_edges.false))
 
-index_3 : (c : tie.Else-not-index_edges) → EdgeTable c.before.index_edges.new.1.1.0 (edges_of (judged-1 (to-1 (to-2 c))))
-index_3 c = c.before.index_edges.ensures.index (not-false _ c.if-not-index_edges.false)
+index_3 : (c : tie.Else-not-index_edges) → EdgeTable c.before.index_edges.new.table (edges_of (judged-1 (to-1 (to-2 c))))
+index_3 c = c.before.index_edges.ensures.index (not-false _ (ap not c.if-not-index_edges.false))
 
 passed_4 : (c : tie.Else-not-triangles_fit) → every_entry (λ s. rising (judged-1 (to-1 (to-2 (to-3 c)))).n_vertices s && sides_listed (edges_of (judged-1 (to-1 (to-2 (to-3 c))))) s) (triangles_of (judged-1 (to-1 (to-2 (to-3 c))))) ≡ true
-passed_4 c = sym (c.before.triangles_fit.ensures _ (index_3 (to-3 c))) ∙ not-false _ c.if-not-triangles_fit.false
+passed_4 c = sym (c.before.triangles_fit.ensures _ (index_3 (to-3 c))) ∙ not-false _ (ap not c.if-not-triangles_fit.false)
 
 -- src/judge.rt:146:9
 counts_right-requires : tie.Need-counts_right-requires
@@ -57,7 +57,7 @@ counts_right-requires c κs = search rules
 
 -- src/judge.rt:147:9
 returns-then-not-counts_right : tie.Need-returns-then-not-counts_right
-returns-then-not-counts_right c = wrong_counts _ _ (sym c.before.counts_right.ensures ∙ not-true _ c.if-not-counts_right.true)
+returns-then-not-counts_right c = wrong_counts _ _ (sym c.before.counts_right.ensures ∙ not-true _ (ap not c.if-not-counts_right.true))
 
 -- src/judge.rt:149:9
 edges_rise-requires : tie.Need-edges_rise-requires
@@ -65,7 +65,7 @@ edges_rise-requires c κs = (counts _ _ _ (passed_1 c.before.before)).edges
 
 -- src/judge.rt:150:9
 returns-then-not-edges_rise : tie.Need-returns-then-not-edges_rise
-returns-then-not-edges_rise c = falling_edge _ _ (passed_1 c.before.before.before.before) (sym c.before.edges_rise.ensures ∙ not-true _ c.if-not-edges_rise.true)
+returns-then-not-edges_rise c = falling_edge _ _ (passed_1 c.before.before.before.before) (sym c.before.edges_rise.ensures ∙ not-true _ (ap not c.if-not-edges_rise.true))
 
 -- src/judge.rt:152:8
 index_edges-requires : tie.Need-index_edges-requires
@@ -78,7 +78,7 @@ index_edges-requires c κs =
 returns-then-not-index_edges : tie.Need-returns-then-not-index_edges
 returns-then-not-index_edges c =
     let e = c.before.before.before.before.before in
-    repeated_edge _ _ (passed_1 (to-1 e)) (passed_2 e) (sym c.before.index_edges.ensures.once ∙ not-true _ c.if-not-index_edges.true)
+    repeated_edge _ _ (passed_1 (to-1 e)) (passed_2 e) (sym c.before.index_edges.ensures.once ∙ not-true _ (ap not c.if-not-index_edges.true))
 
 -- src/judge.rt:155:9
 triangles_fit-requires : tie.Need-triangles_fit-requires
@@ -90,7 +90,7 @@ triangles_fit-requires c κs =
 returns-then-not-triangles_fit : tie.Need-returns-then-not-triangles_fit
 returns-then-not-triangles_fit c =
     let e = c.before.before.before.before.before in
-    wrong_triangle _ _ (passed_1 (to-1 (to-2 e))) (passed_3 e) (sym (c.before.triangles_fit.ensures _ (index_3 e)) ∙ not-true _ c.if-not-triangles_fit.true)
+    wrong_triangle _ _ (passed_1 (to-1 (to-2 e))) (passed_3 e) (sym (c.before.triangles_fit.ensures _ (index_3 e)) ∙ not-true _ (ap not c.if-not-triangles_fit.true))
 
 -- src/judge.rt:158:8
 triangles_once-requires : tie.Need-triangles_once-requires
@@ -105,7 +105,7 @@ returns-then-not-triangles_once : tie.Need-returns-then-not-triangles_once
 returns-then-not-triangles_once c =
     let f = c.before.before.before.before.before in
     let e = to-3 f in
-    repeated_triangle (judged-1 (to-1 (to-2 e))) _ (passed_1 (to-1 (to-2 e))) (passed_3 e) (passed_4 f) (index_3 e) (sym (not-true _ c.if-not-triangles_once.true) ∙ c.before.triangles_once.ensures)
+    repeated_triangle (judged-1 (to-1 (to-2 e))) _ (passed_1 (to-1 (to-2 e))) (passed_3 e) (passed_4 f) (index_3 e) (sym (not-true _ (ap not c.if-not-triangles_once.true)) ∙ c.before.triangles_once.ensures)
 
 -- src/judge.rt:161:8
 connected-requires : tie.Need-connected-requires
@@ -113,12 +113,12 @@ connected-requires c κs =
     let d = to-2 (to-3 (to-4 c.before.before)) in
     searchable (judged-1 (to-1 d)) (passed_1 (to-1 d)) (passed_2 d)
 
-last_at : (c : tie.After-connected) → Judged (judged-1 (to-1 (to-2 (to-3 (to-4 c.before.before.before))))) (to-3 (to-4 c.before.before.before)).before.index_edges.new.1.1.0 (cond c.connected.result 0 9)
+last_at : (c : tie.After-connected) → Judged (judged-1 (to-1 (to-2 (to-3 (to-4 c.before.before.before))))) (to-3 (to-4 c.before.before.before)).before.index_edges.new.table (cond c.connected.result 0 9)
 last_at c =
     let g = c.before.before.before in
     let f = to-4 g in
     let e = to-3 f in
-    last_test (judged-1 (to-1 (to-2 e))) _ (passed_1 (to-1 (to-2 e))) (passed_3 e) (passed_4 f) (index_3 e) (sym (not-false _ g.if-not-triangles_once.false) ∙ g.before.triangles_once.ensures) _ c.connected.ensures
+    last_test (judged-1 (to-1 (to-2 e))) _ (passed_1 (to-1 (to-2 e))) (passed_3 e) (passed_4 f) (index_3 e) (sym (not-false _ (ap not g.if-not-triangles_once.false)) ∙ g.before.triangles_once.ensures) _ c.connected.ensures
 
 -- src/judge.rt:139:1
 returns-then-connected : tie.Need-returns-then-connected

@@ -1,6 +1,6 @@
 use Prim.Native.Nat.{ℕ, ◌+◌, ◌≤◌, ◌<◌}
 use mathlib.Core.List.{List}
-use mathlib.Core.Bool.{true}
+use mathlib.Core.Bool.{true, not}
 use mathlib.Core.Path.{◌≡◌, refl, sym, ap, ◌∙◌}
 use native.Mathlib.Omega.{arith}
 use borrow.Author.Tests.{not-false}
@@ -56,7 +56,7 @@ fill_more-piece-requires : tie.Need-fill_more-piece-requires invariant-loop-piec
 fill_more-piece-requires c κs =
     let at_loop = c.before.before.before.before.before.before in
     let room = at_loop.before.before.requires.0 in
-    (omega (arith, at_loop.loop-piece.invariant.0), at_loop.loop-piece.invariant.2 (not-false _ c.before.if-not-piece.false))
+    (omega (arith, at_loop.loop-piece.invariant.0), at_loop.loop-piece.invariant.2 (not-false _ (ap not c.before.if-not-piece.false)))
 
 loop-piece-smaller : tie.Need-loop-piece-smaller invariant-loop-piece decreases-loop-piece
 loop-piece-smaller c =

@@ -10,7 +10,7 @@ use Rattle.basis.proofs.say_refusal.Statement.{statement}
 use Rattle.basis.proofs.say_refusal.Tie as tie
 
 -- the sentence stands in the list
-inside : (c : tie.After-say-in-Number) → c.before.before.before.n-1.given.0.0 ≤ length c.before.before.before.before.before.before.refusal_text.new.1.0
+inside : (c : tie.After-say-in-Number) → c.before.before.before.n-1.given.0.0 ≤ length c.before.before.before.before.before.before.refusal_text.new.text
 unfolding number_answer
 inside c =
     let told = c.before.before.before.before.before.before.refusal_text in

@@ -15,7 +15,7 @@ abbrev decreases-loop-j : tie.decreases-loop-j
 decreases-loop-j paths c free cycles₀ j₀ j-end cycles j = free.count - j
 
 loop-j-init : tie.Need-loop-j-init invariant-loop-j decreases-loop-j
-loop-j-init c = (omega arith, refl, no_cycles c.args.t1 c.requires.0 c.args.paths.now c.requires.1 c.args.t3 c.requires.2)
+loop-j-init c = (omega arith, refl, no_cycles c.args.c c.requires.0 c.args.paths.now c.requires.1 c.args.free c.requires.2)
 
 bounds-free-j : tie.Need-bounds-free-j invariant-loop-j decreases-loop-j
 bounds-free-j c = omega (arith, c.before.before.before.before.before.requires.2.few)
@@ -28,11 +28,11 @@ close_cycle-requires c κs =
     let at_loop = c.before.before.before.before.before.before in
     let start = at_loop.before in
     let few = start.requires.2.few in
-    let more : at_loop.loop-j.j < start.args.t3.count = omega arith in
+    let more : at_loop.loop-j.j < start.args.free.count = omega arith in
     rw c.byte.ensures (
       omega arith,
-      inside_code start.args.t1 start.requires.0 start.args.paths.now start.requires.1 start.args.t3 start.requires.2 at_loop.loop-j.j more,
-      close_ready start.args.t1 start.requires.0 start.args.paths.now start.requires.1 start.args.t3 start.requires.2 at_loop.loop-j.j more,
+      inside_code start.args.c start.requires.0 start.args.paths.now start.requires.1 start.args.free start.requires.2 at_loop.loop-j.j more,
+      close_ready start.args.c start.requires.0 start.args.paths.now start.requires.1 start.args.free start.requires.2 at_loop.loop-j.j more,
       at_loop.loop-j.invariant.2.long,
     )
 
@@ -46,17 +46,17 @@ loop-j-preserved : tie.Need-loop-j-preserved invariant-loop-j decreases-loop-j
 loop-j-preserved c =
     let at_loop = c.before.before.before.before.before.before.before in
     let start = at_loop.before in
-    let more : at_loop.loop-j.j < start.args.t3.count = omega arith in (
+    let more : at_loop.loop-j.j < start.args.free.count = omega arith in (
       omega arith,
       refl,
       rw (c.close_cycle.ensures, c.before.byte.ensures)
-          (close_more start.args.t1 start.requires.0 start.args.paths.now start.requires.1 start.args.t3 start.requires.2 at_loop.loop-j.j more at_loop.loop-j.cycles at_loop.loop-j.invariant.2),
+          (close_more start.args.c start.requires.0 start.args.paths.now start.requires.1 start.args.free start.requires.2 at_loop.loop-j.j more at_loop.loop-j.cycles at_loop.loop-j.invariant.2),
     )
 
 returns : tie.Need-returns invariant-loop-j decreases-loop-j
 returns c =
     let start = c.before.before in
-    let past : c.before.loop-j.j ≡ start.args.t3.count = omega arith in
+    let past : c.before.loop-j.j ≡ start.args.free.count = omega arith in
     rw (past, start.requires.2.count) at c.before.loop-j.invariant.2
 
 pub fundamental_cycles_spec : {M : Type 1} → statement M

@@ -16,7 +16,7 @@ abbrev decreases-loop-i : tie.decreases-loop-i
 decreases-loop-i c tree paths₀ i₀ i-end paths i = tree.found - i
 
 loop-i-init : tie.Need-loop-i-init invariant-loop-i decreases-loop-i
-loop-i-init c = (omega arith, refl, no_paths c.args.t1 c.args.t2 c.requires)
+loop-i-init c = (omega arith, refl, no_paths c.args.c c.args.tree c.requires)
 
 bounds-tree-i : tie.Need-bounds-tree-i invariant-loop-i decreases-loop-i
 bounds-tree-i c = search rules
@@ -37,8 +37,8 @@ extend-requires : tie.Need-extend-requires invariant-loop-i decreases-loop-i
 extend-requires c κs =
     let at_loop = c.before.before.before.before.before.before.before.before in
     let start = at_loop.before in
-    let more : at_loop.loop-i.i < start.args.t2.found = omega arith in
-    let r = extend_ready start.args.t1 start.args.t2 start.requires at_loop.loop-i.i more in
+    let more : at_loop.loop-i.i < start.args.tree.found = omega arith in
+    let r = extend_ready start.args.c start.args.tree start.requires at_loop.loop-i.i more in
     rw (c.byte-in-loop-i.ensures, c.before.before.byte.ensures) (r.0, r.1, r.2, r.3, r.4, at_loop.loop-i.invariant.2.long)
 
 overflow_add-i : tie.Need-overflow_add-i invariant-loop-i decreases-loop-i
@@ -51,18 +51,18 @@ loop-i-preserved : tie.Need-loop-i-preserved invariant-loop-i decreases-loop-i
 loop-i-preserved c =
     let at_loop = c.before.before.before.before.before.before.before.before.before in
     let start = at_loop.before in
-    let more : at_loop.loop-i.i < start.args.t2.found = omega arith in (
+    let more : at_loop.loop-i.i < start.args.tree.found = omega arith in (
       omega arith,
       refl,
       rw (c.extend.ensures, c.before.byte-in-loop-i.ensures, c.before.before.before.byte.ensures)
-          (extend_more start.args.t1 start.args.t2 start.requires at_loop.loop-i.i more at_loop.loop-i.paths at_loop.loop-i.invariant.2),
+          (extend_more start.args.c start.args.tree start.requires at_loop.loop-i.i more at_loop.loop-i.paths at_loop.loop-i.invariant.2),
     )
 
 returns : tie.Need-returns invariant-loop-i decreases-loop-i
 returns c =
     let start = c.before.before in
-    let past : c.before.loop-i.i ≡ start.args.t2.found = omega arith in
-    rw (past, spanned_found start.args.t1 start.args.t2 start.requires) at c.before.loop-i.invariant.2
+    let past : c.before.loop-i.i ≡ start.args.tree.found = omega arith in
+    rw (past, spanned_found start.args.c start.args.tree start.requires) at c.before.loop-i.invariant.2
 
 overflow_step-i : tie.Need-overflow_step-i invariant-loop-i decreases-loop-i
 overflow_step-i c = search rules

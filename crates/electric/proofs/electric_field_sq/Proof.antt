@@ -1,5 +1,5 @@
 use Prim.Native.Nat.{◌*◌, ◌≤◌}
-use mathlib.Core.Bool.{◌||◌}
+use mathlib.Core.Bool.{◌||◌, not}
 use mathlib.Core.Path.{◌≡◌, refl, sym, ap, ◌∙◌}
 use native.Mathlib.Nat.{mul-le-mul}
 use borrow.Author.Tests.{eq-eqb, ne_eqb, not-true, not-false, ltb-false}
@@ -70,7 +70,7 @@ unfolding electric_call number_answer
 returns-then-not-all_bounded c =
     let long = c.before.before in
     let judged = long.before.before.before in
-    refuses _ (past_basis judged.before.prepare_basis-basis.ensures judged.if-number-ne0.false (past (rw (eq-eqb _ _ (long.if-amplitudes-n.false ∙ counted long.before))) (here (rw (sym c.before.all_bounded.ensures ∙ not-true _ c.if-not-all_bounded.true))))) refl
+    refuses _ (past_basis judged.before.prepare_basis-basis.ensures judged.if-number-ne0.false (past (rw (eq-eqb _ _ (long.if-amplitudes-n.false ∙ counted long.before))) (here (rw (sym c.before.all_bounded.ensures ∙ not-true _ (ap not c.if-not-all_bounded.true)))))) refl
 
 overflow_mul-n : tie.Need-overflow_mul-n
 overflow_mul-n c = let h = few c in search rules
@@ -81,7 +81,7 @@ returns-then-states-n c =
     let right = c.before in
     let long = right.before.before in
     let judged = long.before.before.before in
-    refuses _ (past_basis judged.before.prepare_basis-basis.ensures judged.if-number-ne0.false (past (rw (eq-eqb _ _ (long.if-amplitudes-n.false ∙ counted long.before))) (past (rw (sym right.before.all_bounded.ensures ∙ not-false _ right.if-not-all_bounded.false)) (here (rooms right ∙ c.if-states-n.true))))) refl
+    refuses _ (past_basis judged.before.prepare_basis-basis.ensures judged.if-number-ne0.false (past (rw (eq-eqb _ _ (long.if-amplitudes-n.false ∙ counted long.before))) (past (rw (sym right.before.all_bounded.ensures ∙ not-false _ (ap not right.if-not-all_bounded.false))) (here (rooms right ∙ c.if-states-n.true))))) refl
 
 -- both lists are long enough
 room : (c : tie.Else-states-n) → (c.before.before.before.before.count_states-n.result * (judged c.before).before.prepare_basis-basis.result.walker.n_edges ≤ length (start c.before).args.states.now) × ((judged c.before).before.prepare_basis-basis.result.walker.n_edges ≤ length (start c.before).args.res.now)
@@ -117,7 +117,7 @@ returns c =
     let judged = long.before.before.before in
     let b = basis judged in
     let work = (basis_written _ _ _ _ b _ _ _ listed.write_states.ensures).1 in
-    ends _ (past_basis judged.before.prepare_basis-basis.ensures judged.if-number-ne0.false (past (rw (eq-eqb _ _ (long.if-amplitudes-n.false ∙ counted long.before))) (past (rw (sym right.before.all_bounded.ensures ∙ not-false _ right.if-not-all_bounded.false)) (past (rooms right ∙ enough.if-states-n.false) none))))
+    ends _ (past_basis judged.before.prepare_basis-basis.ensures judged.if-number-ne0.false (past (rw (eq-eqb _ _ (long.if-amplitudes-n.false ∙ counted long.before))) (past (rw (sym right.before.all_bounded.ensures ∙ not-false _ (ap not right.if-not-all_bounded.false))) (past (rooms right ∙ enough.if-states-n.false) none))))
     b.walks.edges
     (both work (squares_written _ b.walks.accepted _ _ _ _ work _ _ (counted long.before) b.walks.edges _ _ (room enough).1 c.before.before.write_sums.ensures))
     b.walks.accepted.few_edges

@@ -1,5 +1,5 @@
-use mathlib.Core.Bool.{false}
-use mathlib.Core.Path.{◌≡◌, refl}
+use mathlib.Core.Bool.{false, not}
+use mathlib.Core.Path.{◌≡◌, refl, ap}
 use Rattle.mathematics.proofs.Calls.{none, here, past, refuses, ends}
 use Rattle.matvec.specs.Product.{product_answer}
 use Rattle.held_rows.specs.Lists.{list_places_wrong, values_wrong, lists_call}
@@ -15,7 +15,7 @@ places_fit : (c : tie.Else-starts_right-columns_right) → list_places_wrong (at
 places_fit c = rw (c.before.before.starts_right.ensures, c.before.columns_right.ensures, c.before.before.before.count_rows-n.ensures) at c.if-starts_right-columns_right.false
 
 values_fit : (c : tie.Else-not-values_right) → values_wrong (at-start c.before.before).args.values.now ≡ false
-values_fit c = rw c.before.values_right.ensures at c.if-not-values_right.false
+values_fit c = rw c.before.values_right.ensures at (ap not c.if-not-values_right.false)
 
 returns-then-starts-columns : tie.Need-returns-then-starts-columns
 unfolding lists_call product_answer
@@ -42,7 +42,7 @@ returns-then-not-values_right : tie.Need-returns-then-not-values_right
 unfolding lists_call product_answer
 returns-then-not-values_right c =
     let placed = c.before.before in
-    refuses _ (past placed.before.before.before.before.if-starts-columns.false (past (places_fit placed) (here (rw c.before.values_right.ensures at c.if-not-values_right.true)))) refl
+    refuses _ (past placed.before.before.before.before.if-starts-columns.false (past (places_fit placed) (here (rw c.before.values_right.ensures at (ap not c.if-not-values_right.true))))) refl
 
 returns : tie.Need-returns
 unfolding lists_call product_answer

@@ -1,5 +1,5 @@
-use mathlib.Core.Path.{◌≡◌, sym, ◌∙◌}
-use mathlib.Core.Bool.{true}
+use mathlib.Core.Path.{◌≡◌, sym, ◌∙◌, ap}
+use mathlib.Core.Bool.{true, not}
 use borrow.Author.Tests.{lt-ltb, le-ltb, not-true, not-false}
 use lib.ListN.{length}
 use Prim.Native.Nat.{◌/◌}
@@ -18,12 +18,12 @@ counts_right-requires : tie.Need-counts_right-requires
 counts_right-requires c κs = search rules
 
 passed_1 : (c : tie.Else-not-counts_right) → counts_right c.before.before.before.before.args.n_vertices (length c.before.before.before.before.args.edges.now / 2) (length c.before.before.before.before.args.triangles.now / 3) ≡ true
-passed_1 c = sym c.before.counts_right.ensures ∙ not-false _ c.if-not-counts_right.false
+passed_1 c = sym c.before.counts_right.ensures ∙ not-false _ (ap not c.if-not-counts_right.false)
 
 -- src/lib.rt:219:9
 returns-then-not-counts_right : tie.Need-returns-then-not-counts_right
 unfolding first size_tests
-returns-then-not-counts_right c = rw (← c.before.counts_right.ensures, not-true c.before.counts_right.result c.if-not-counts_right.true)
+returns-then-not-counts_right c = rw (← c.before.counts_right.ensures, not-true c.before.counts_right.result (ap not c.if-not-counts_right.true))
 
 -- src/lib.rt:222:9
 returns-then-lambda-gt-LARGEST_TRUNCATION : tie.Need-returns-then-lambda-gt-LARGEST_TRUNCATION
@@ -33,12 +33,12 @@ returns-then-lambda-gt-LARGEST_TRUNCATION c = rw (passed_1 c.before, lt-ltb _ _ 
 -- src/lib.rt:225:9
 returns-then-not-edges-triangles : tie.Need-returns-then-not-edges-triangles
 unfolding first size_tests
-returns-then-not-edges-triangles c = rw (passed_1 c.before.before, le-ltb _ _ c.before.if-lambda-gt-LARGEST_TRUNCATION.false, c.if-not-edges-triangles.true)
+returns-then-not-edges-triangles c = rw (passed_1 c.before.before, le-ltb _ _ c.before.if-lambda-gt-LARGEST_TRUNCATION.false, (ap not c.if-not-edges-triangles.true))
 
 -- src/lib.rt:215:1
 returns : tie.Need-returns
 unfolding first size_tests
-returns c = rw (passed_1 c.before.before, le-ltb _ _ c.before.if-lambda-gt-LARGEST_TRUNCATION.false, c.if-not-edges-triangles.false)
+returns c = rw (passed_1 c.before.before, le-ltb _ _ c.before.if-lambda-gt-LARGEST_TRUNCATION.false, (ap not c.if-not-edges-triangles.false))
 
 pub judge_sizes_spec : {M : Type 1} → statement M
 judge_sizes_spec = tie.close (tie.spec counts_right-requires returns-then-not-counts_right returns-then-lambda-gt-LARGEST_TRUNCATION returns-then-not-edges-triangles returns)

@@ -1,7 +1,7 @@
 use Prim.Native.Nat.{ℕ, ◌≤◌}
 use mathlib.Core.List.{List, [], ◌∷◌}
-use mathlib.Core.Path.{◌≡◌, sym, ◌∙◌}
-use mathlib.Core.Bool.{true, false}
+use mathlib.Core.Path.{◌≡◌, sym, ◌∙◌, ap}
+use mathlib.Core.Bool.{true, false, not}
 use native.Mathlib.Omega.{arith}
 use borrow.Author.Tests.{lt-ltb, le-ltb, eq-eqb, ne_eqb, not-true, not-false}
 use lib.ListN.{get_or, length, take}
@@ -40,10 +40,10 @@ long : (c : tie.Else-b-lt-SHEET_HEADER) → 3 ≤ length (bytes-1 c)
 long c = omega arith
 
 passed_2 : (c : tie.Else-not-b) → same (take 3 (bytes-1 (to-1 c))) (71 ∷ 76 ∷ 83 ∷ []) ≡ true
-passed_2 c = mark_test (bytes-1 (to-1 c)) 71 76 83 (long (to-1 c)) ∙ not-false _ c.if-not-b.false
+passed_2 c = mark_test (bytes-1 (to-1 c)) 71 76 83 (long (to-1 c)) ∙ not-false _ (ap not c.if-not-b.false)
 
 failed_2 : (c : tie.Then-not-b) → same (take 3 (bytes-1 c.before.before.before.before)) (71 ∷ 76 ∷ 83 ∷ []) ≡ false
-failed_2 c = mark_test (bytes-1 c.before.before.before.before) 71 76 83 (long c.before.before.before.before) ∙ not-true _ c.if-not-b.true
+failed_2 c = mark_test (bytes-1 c.before.before.before.before) 71 76 83 (long c.before.before.before.before) ∙ not-true _ (ap not c.if-not-b.true)
 
 passed_3 : (c : tie.Else-word-ne1) → eqb (word (bytes-1 (to-1 (to-2 c))) 3) 1 ≡ true
 passed_3 c = eq-eqb _ _ (sym c.before.word.ensures.0 ∙ c.if-word-ne1.false)
@@ -53,7 +53,7 @@ counted : (c : tie.After-counts_right) → counts_right (get_or (bytes-1 (to-1 (
 counted c = rw (← c.before.byte.ensures, ← c.before.before.before.before.byte-m.ensures, ← c.before.before.before.word-t.ensures.0) (sym c.counts_right.ensures)
 
 passed_4 : (c : tie.Else-not-counts_right) → counts_right (get_or (bytes-1 (to-1 (to-2 (to-3 c)))) 5 0) (get_or (bytes-1 (to-1 (to-2 (to-3 c)))) 6 0) (word (bytes-1 (to-1 (to-2 (to-3 c)))) 7) ≡ true
-passed_4 c = counted c.before ∙ not-false _ c.if-not-counts_right.false
+passed_4 c = counted c.before ∙ not-false _ (ap not c.if-not-counts_right.false)
 
 passed_5 : (c : tie.Else-word-gt-LARGEST_TRUNCATION) → ltb 1000 (word (bytes-1 (to-1 (to-2 (to-3 (to-4 c))))) 9) ≡ false
 passed_5 c = rw (← c.before.word-2.ensures.0) (le-ltb _ _ c.if-word-gt-LARGEST_TRUNCATION.false)
@@ -110,7 +110,7 @@ returns-then-not-counts_right : tie.Need-returns-then-not-counts_right
 unfolding first header_tests
 returns-then-not-counts_right c =
     let e = c.before.before.before.before.before.before.before in
-    rw (passed_1 (to-1 (to-2 e)), passed_2 (to-2 e), passed_3 e, counted c.before, not-true c.before.counts_right.result c.if-not-counts_right.true)
+    rw (passed_1 (to-1 (to-2 e)), passed_2 (to-2 e), passed_3 e, counted c.before, not-true c.before.counts_right.result (ap not c.if-not-counts_right.true))
 
 word-requires-2 : tie.Need-word-requires-2
 word-requires-2 c κs = search rules

@@ -1,5 +1,5 @@
 use Prim.Native.Nat.{◌-◌, ◌<◌, ◌≤◌}
-use mathlib.Core.Bool.{false, ◌||◌}
+use mathlib.Core.Bool.{false, ◌||◌, not}
 use mathlib.Core.Path.{◌≡◌, refl, sym, ap, ◌∙◌}
 use native.Mathlib.Omega.{arith}
 use lib.Dec.{ltb}
@@ -116,7 +116,7 @@ returns-then-not-sum_within c =
     let enough = c.before.before.before in
     let edge_is = enough.before.before.before in
     let long = edge_is.before in
-    index_refused _ (past_basis long.before.before.prepare_basis-basis.ensures long.before.if-number-ne0.false (past (rw (eq-eqb _ _ (sized long))) (past (lt-leb _ _ (edge edge_is)) (past (room enough) (here (rw (band_told c.before ∙ not-true _ c.if-not-sum_within.true))))))) refl refl
+    index_refused _ (past_basis long.before.before.prepare_basis-basis.ensures long.before.if-number-ne0.false (past (rw (eq-eqb _ _ (sized long))) (past (lt-leb _ _ (edge edge_is)) (past (room enough) (here (rw (band_told c.before ∙ not-true _ (ap not c.if-not-sum_within.true)))))))) refl refl
 
 offset_bounds-configuration-edge-2 : tie.Need-offset_bounds-configuration-edge-2
 offset_bounds-configuration-edge-2 c = search rules
@@ -130,7 +130,7 @@ sum-value-requires c κs =
     let fits = c.before.before in
     let start = at-start fits.before.before.before in
     let truncation = (basis fits.before.before.before.before.before.before.before).truncation in
-    let small : nat_abs (◌+ℤ◌ (get_or start.args.configuration.now start.args.edge (pos 0)) start.args.delta) ≤ start.args.lambda = leb-true _ _ (band_told fits ∙ not-false _ c.before.if-not-sum_within.false) in
+    let small : nat_abs (◌+ℤ◌ (get_or start.args.configuration.now start.args.edge (pos 0)) start.args.delta) ≤ start.args.lambda = leb-true _ _ (band_told fits ∙ not-false _ (ap not c.before.if-not-sum_within.false)) in
     rw (back32 (get_or start.args.configuration.now start.args.edge (pos 0)) c.sum-arg-1.given, back32 start.args.delta start.fits.delta.sfits) (omega (arith, small, truncation))
 
 shifted_row-shifted-requires : tie.Need-shifted_row-shifted-requires
@@ -185,8 +185,8 @@ returns-then-not-in_basis c =
     let enough = band.before.before.before in
     let edge_is = enough.before.before.before in
     let long = edge_is.before in
-    unlisted _ (past_basis long.before.before.prepare_basis-basis.ensures long.before.if-number-ne0.false (past (rw (eq-eqb _ _ (sized long))) (past (lt-leb _ _ (edge edge_is)) (past (room enough) (past (rw (band_told band.before ∙ not-false _ band.if-not-sum_within.false))
-    (here (rw (ap (in_basis _ _) (sym (row made)) ∙ sym c.before.in_basis.ensures ∙ not-true _ c.if-not-in_basis.true))))))))
+    unlisted _ (past_basis long.before.before.prepare_basis-basis.ensures long.before.if-number-ne0.false (past (rw (eq-eqb _ _ (sized long))) (past (lt-leb _ _ (edge edge_is)) (past (room enough) (past (rw (band_told band.before ∙ not-false _ (ap not band.if-not-sum_within.false)))
+    (here (rw (ap (in_basis _ _) (sym (row made)) ∙ sym c.before.in_basis.ensures ∙ not-true _ (ap not c.if-not-in_basis.true)))))))))
 
 write_shifted-requires : tie.Need-write_shifted-requires
 write_shifted-requires c κs =
@@ -217,7 +217,7 @@ list_and_find-requires c κs =
       complex = complex_of start.args.c;
       basis = basis long.before;
       sized = rw (row made) (shifted_length start.args.configuration.now start.args.edge start.args.delta ∙ sized long);
-      listed = sym shown.before.in_basis.ensures ∙ not-false _ shown.if-not-in_basis.false;
+      listed = sym shown.before.in_basis.ensures ∙ not-false _ (ap not shown.if-not-in_basis.false);
       long = (enough_room enough).0;
     }
 
@@ -239,8 +239,8 @@ returns c =
     let start = row_start made in
     let found = rw (row made) at (c.before.list_and_find.ensures _ (basis long.before)) in
     let sized_too = shifted_length start.args.configuration.now start.args.edge start.args.delta ∙ sized long in
-    let listed = ap (in_basis _ _) (sym (row made)) ∙ sym shown.before.in_basis.ensures ∙ not-false _ shown.if-not-in_basis.false in
-    indexed _ (past_basis long.before.before.prepare_basis-basis.ensures long.before.if-number-ne0.false (past (rw (eq-eqb _ _ (sized long))) (past (lt-leb _ _ (edge edge_is)) (past (room enough) (past (rw (band_told band.before ∙ not-false _ band.if-not-sum_within.false)) (past (rw listed) none))))))
+    let listed = ap (in_basis _ _) (sym (row made)) ∙ sym shown.before.in_basis.ensures ∙ not-false _ (ap not shown.if-not-in_basis.false) in
+    indexed _ (past_basis long.before.before.prepare_basis-basis.ensures long.before.if-number-ne0.false (past (rw (eq-eqb _ _ (sized long))) (past (lt-leb _ _ (edge edge_is)) (past (room enough) (past (rw (band_told band.before ∙ not-false _ (ap not band.if-not-sum_within.false))) (past (rw listed) none))))))
     (found.found (sized_too, listed))
     (both found.list (shifted_front start.args.configuration.now start.args.edge start.args.delta start.args.res.now _ (c.before.before.before.before.before.before.write_shifted.ensures ∙ rw (value made.before))))
     (record { found = in_basis_at _ (basis long.before).walks.accepted _ _ sized_too listed; few = (basis long.before).few })

@@ -33,20 +33,20 @@ sides_of-requires c κs =
     (small_triangle _ _ good _ index (omega arith), sided _ _ good _ index (omega arith))
 
 -- the edges that were found are those of the triangle
-found : (c : tie.After-sides_of invariant-loop-t decreases-loop-t) → SidesOf (complex_of c.before.before.before.before.before.before.before.before.args.t1) c.before.before.before.before.before.before.loop-t.t c.sides_of.result
+found : (c : tie.After-sides_of invariant-loop-t decreases-loop-t) → SidesOf (complex_of c.before.before.before.before.before.before.before.before.args.c) c.before.before.before.before.before.before.loop-t.t c.sides_of.result
 found c =
     let at_loop = c.before.before.before.before.before.before in
     let made = at_loop.before in
     let start = made.before in
     record {
-      number = rw (triangles_long start.args.t1) (omega arith);
+      number = rw (triangles_long start.args.c) (omega arith);
       are = rw c.sides_of.ensures (sides_read _ _ start.requires _ made.edge_table-table.ensures (omega arith));
     }
 
 write_sides-requires : tie.Need-write_sides-requires invariant-loop-t decreases-loop-t
 write_sides-requires c κs =
     let start = c.before.before.before.before.before.before.before.before in
-    let right = (accepted start.args.t1).0 start.requires in
+    let right = (accepted start.args.c).0 start.requires in
     let below = sides_below _ _ _ (found c).are right (found c).number in
     let t = (found c).number in
     (omega (arith, t, right.few_triangles), omega (arith, below.0, right.few_edges), omega (arith, below.1, right.few_edges), omega (arith, below.2, right.few_edges))
@@ -61,7 +61,7 @@ loop-t-preserved : tie.Need-loop-t-preserved invariant-loop-t decreases-loop-t
 loop-t-preserved c =
     let at_loop = c.before.before.before.before.before.before.before in
     let start = at_loop.before.before in
-    let right = (accepted start.args.t1).0 start.requires in
+    let right = (accepted start.args.c).0 start.requires in
     let of = found c.before in
     let t = of.number in
     let long : 3 * at_loop.loop-t.t + 2 < length at_loop.loop-t.all = omega (arith, t, right.few_triangles, at_loop.loop-t.invariant.2) in (
@@ -73,8 +73,8 @@ loop-t-preserved c =
 
 returns : tie.Need-returns invariant-loop-t decreases-loop-t
 returns c =
-    let past : c.before.loop-t.t ≡ c.before.before.before.args.t1.n_triangles = omega arith in
-    record { are = λ t h. c.before.loop-t.invariant.3 t (omega (arith, h, triangles_long c.before.before.before.args.t1)) }
+    let past : c.before.loop-t.t ≡ c.before.before.before.args.c.n_triangles = omega arith in
+    record { are = λ t h. c.before.loop-t.invariant.3 t (omega (arith, h, triangles_long c.before.before.before.args.c)) }
 
 pub all_sides_spec : {M : Type 1} → statement M
 all_sides_spec =

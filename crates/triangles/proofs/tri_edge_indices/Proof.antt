@@ -16,10 +16,10 @@ judge_indexed-number-requires : tie.Need-judge_indexed-number-requires
 judge_indexed-number-requires c κs = search rules
 
 -- the record is accepted
-accepted : (c : tie.Else-number-ne0) → refusal (complex_of c.before.before.before.args.t1) ≡ 0
+accepted : (c : tie.Else-number-ne0) → refusal (complex_of c.before.before.before.args.c) ≡ 0
 accepted c = sym c.before.judge_indexed-number.ensures.number ∙ c.if-number-ne0.false
 
-index_at : (c : tie.Else-number-ne0) → EdgeTable c.before.judge_indexed-number.new.1.0 (complex_of c.before.before.before.args.t1).edges
+index_at : (c : tie.Else-number-ne0) → EdgeTable c.before.judge_indexed-number.new.table (complex_of c.before.before.before.args.c).edges
 index_at c = c.before.judge_indexed-number.ensures.index c.if-number-ne0.false
 
 returns-then-number-ne0 : tie.Need-returns-then-number-ne0

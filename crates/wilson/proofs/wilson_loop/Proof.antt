@@ -72,7 +72,7 @@ returns-then-not-path_right : tie.Need-returns-then-not-path_right
 unfolding wilson_call expectation_answer
 returns-then-not-path_right c =
     let long = c.before.before in
-    refuses _ (past_basis (judged long).before.prepare_basis-basis.ensures (judged long).if-number-ne0.false (past (lengths long.before ∙ long.if-amplitudes-n.false) (here (rw (steps c.before ∙ not-true _ c.if-not-path_right.true))))) refl
+    refuses _ (past_basis (judged long).before.prepare_basis-basis.ensures (judged long).if-number-ne0.false (past (lengths long.before ∙ long.if-amplitudes-n.false) (here (rw (steps c.before ∙ not-true _ (ap not c.if-not-path_right.true)))))) refl
 
 all_bounded-requires : tie.Need-all_bounded-requires
 all_bounded-requires c κs = search rules
@@ -82,7 +82,7 @@ unfolding wilson_call expectation_answer
 returns-then-not-all_bounded c =
     let fits = c.before.before in
     let long = fits.before.before in
-    refuses _ (past_basis (judged long).before.prepare_basis-basis.ensures (judged long).if-number-ne0.false (past (lengths long.before ∙ long.if-amplitudes-n.false) (past (rw (steps fits.before ∙ not-false _ fits.if-not-path_right.false)) (here (rw (sym c.before.all_bounded.ensures ∙ not-true _ c.if-not-all_bounded.true)))))) refl
+    refuses _ (past_basis (judged long).before.prepare_basis-basis.ensures (judged long).if-number-ne0.false (past (lengths long.before ∙ long.if-amplitudes-n.false) (past (rw (steps fits.before ∙ not-false _ (ap not fits.if-not-path_right.false))) (here (rw (sym c.before.all_bounded.ensures ∙ not-true _ (ap not c.if-not-all_bounded.true))))))) refl
 
 -- ---- the room
 abbrev measured : tie.Else-not-all_bounded → tie.Else-amplitudes-n
@@ -104,7 +104,7 @@ judged_so_far : (c : tie.Else-not-all_bounded) {k : ℕ} → Tells ((15, short (
 judged_so_far c t =
     let fits = c.before.before in
     let long = measured c in
-    past_basis (judged long).before.prepare_basis-basis.ensures (judged long).if-number-ne0.left (past (lengths long.before ∙ long.if-amplitudes-n.left) (past (rw (steps fits.before ∙ not-false _ fits.if-not-path_right.false)) (past (rw (sym c.before.all_bounded.ensures ∙ not-false _ c.if-not-all_bounded.false)) t)))
+    past_basis (judged long).before.prepare_basis-basis.ensures (judged long).if-number-ne0.left (past (lengths long.before ∙ long.if-amplitudes-n.left) (past (rw (steps fits.before ∙ not-false _ (ap not fits.if-not-path_right.false))) (past (rw (sym c.before.all_bounded.ensures ∙ not-false _ (ap not c.if-not-all_bounded.false))) t)))
 
 overflow_mul-n : tie.Need-overflow_mul-n
 overflow_mul-n c = let h = few c in search rules
@@ -131,7 +131,7 @@ wilson_sum-requires c κs =
         basis = basis_listed _ _ _ _ b _ _ _ listed.write_states.ensures _ refl;
         one_each = (as_many long).0 ∙ long.before.count_states-n.ensures ∙ sym listed.write_states.ensures.count;
       },
-      rw b.walks.edges (path_fits _ _ _ (as_many long).1 (steps fits.before ∙ not-false _ fits.if-not-path_right.false)),
+      rw b.walks.edges (path_fits _ _ _ (as_many long).1 (steps fits.before ∙ not-false _ (ap not fits.if-not-path_right.false))),
     )
 
 shape_of-states : tie.Need-shape_of-states

@@ -1,5 +1,5 @@
 use Prim.Native.Nat.{ℕ, ◌+◌, ◌*◌, ◌-◌, ◌<◌, ◌≤◌}
-use mathlib.Core.Bool.{true}
+use mathlib.Core.Bool.{true, not}
 use mathlib.Core.List.{List, []}
 use mathlib.Core.Path.{◌≡◌, refl, sym, ap, ◌∙◌}
 use native.Mathlib.Nat.{sub-zero, mul-le-mul}
@@ -103,8 +103,8 @@ loop-k-init c =
     let m = begun.args.s.edges in
     let basis = begun.pre.0.basis in
     let inside : i < begun.args.s.states = omega arith in
-    let front = ap (λ (n : ℕ). take n c.copy_state.new.0) (sym (row_long _ _ _ _ basis i inside)) ∙ (rw (row_part begun.args.list.now m i) at c.copy_state.ensures.1) in
-    (refl, refl, omega arith, walk_begins _ _ _ _ c.copy_state.new.0 c.copy_state.ensures.0 front (row_small _ _ _ _ basis i inside))
+    let front = ap (λ (n : ℕ). take n c.copy_state.new.row) (sym (row_long _ _ _ _ basis i inside)) ∙ (rw (row_part begun.args.list.now m i) at c.copy_state.ensures.1) in
+    (refl, refl, omega arith, walk_begins _ _ _ _ c.copy_state.new.row c.copy_state.ensures.0 front (row_small _ _ _ _ basis i inside))
 
 shared_slice_read_take_step :
     tie.Need-bounds-edges-k invariant-loop-k decreases-loop-k invariant-states decreases-states
@@ -125,7 +125,7 @@ take_step-requires c κs =
 
 -- what the step did
 stepped : (c : tie.After-take_step invariant-loop-k decreases-loop-k invariant-states decreases-states)
-    → Stepped (start (outer c.before.before.before.before.before)).args.s.lambda c.before.before.before.before.before.loop-k.reached (get_or (start (outer c.before.before.before.before.before)).args.edges.now c.before.before.before.before.before.loop-k.k 0) (get_or (start (outer c.before.before.before.before.before)).args.directions.now c.before.before.before.before.before.loop-k.k (pos 0)) c.take_step.result c.take_step.new.0
+    → Stepped (start (outer c.before.before.before.before.before)).args.s.lambda c.before.before.before.before.before.loop-k.reached (get_or (start (outer c.before.before.before.before.before)).args.edges.now c.before.before.before.before.before.loop-k.k 0) (get_or (start (outer c.before.before.before.before.before)).args.directions.now c.before.before.before.before.before.loop-k.k (pos 0)) c.take_step.result c.take_step.new.row
 stepped c =
     let at_loop = c.before.before.before.before.before in
     rw (back8 (get_or (start (outer at_loop)).args.directions.now at_loop.loop-k.k (pos 0)) c.before.take_step-arg-1.given) at c.take_step.ensures
@@ -146,7 +146,7 @@ states-preserved-then-not-take_step c =
     let same : at_loop.loop-k.i ≡ i = at_loop.loop-k.invariant.0 in
     let more : at_loop.loop-k.k < length begun.args.edges.now = omega arith in
     let step = stepped c.before in
-    let out = step_leaves _ _ _ _ _ begun.pre.1 (edges_few _ _ _ _ begun.pre.0.basis) at_loop.loop-k.k _ u more (sym step.stays ∙ not-true _ c.if-not-take_step.true) in
+    let out = step_leaves _ _ _ _ _ begun.pre.1 (edges_few _ _ _ _ begun.pre.0.basis) at_loop.loop-k.k _ u more (sym step.stays ∙ not-true _ (ap not c.if-not-take_step.true)) in
     rw same (
       omega arith,
       at_states.states.inv.1,
@@ -169,7 +169,7 @@ loop-k-preserved c =
       at_loop.loop-k.invariant.0,
       refl,
       omega arith,
-      rw step.row_is (step_stays _ _ _ _ _ begun.pre.1 (edges_few _ _ _ _ begun.pre.0.basis) at_loop.loop-k.k _ at_loop.loop-k.invariant.3 more (sym step.stays ∙ not-false _ c.if-not-take_step.false)),
+      rw step.row_is (step_stays _ _ _ _ _ begun.pre.1 (edges_few _ _ _ _ begun.pre.0.basis) at_loop.loop-k.k _ at_loop.loop-k.invariant.3 more (sym step.stays ∙ not-false _ (ap not c.if-not-take_step.false))),
     )
 
 -- ---- the walk is over

@@ -39,11 +39,11 @@ abbrev walk : Numbers → Walk
 walk c =
     let a = (start c).args in
     let moves = c.before.before.before.before.write_moves.new in
-    walk_of a.all.now moves.1.1.1.1.1.1.1.1.1.0 moves.1.1.1.1.1.1.1.1.1.1.0 (2 * a.c.n_triangles) a.s.lambda c.write_numbers.new.1.1.1.0 a.s.states a.list.now a.s.edges a.p.electric
+    walk_of a.all.now moves.1.1.1.1.1.1.1.1.1.0 moves.1.1.1.1.1.1.1.1.1.1.0 (2 * a.c.n_triangles) a.s.lambda c.write_numbers.new.words a.s.states a.list.now a.s.edges a.p.electric
 
 is : (c : Numbers) → WalkOf (the_complex c) (start c).args.s.lambda (start c).args.p (weight (start c).args.given (start c).args.weights.now) (start c).args.free.now (walk c)
 is c =
-    walk_made (the_complex c) (start c).args.list.now (start c).args.s (start c).args.free.now (basis c) (start c).requires.2 (start c).args.p (weight (start c).args.given (start c).args.weights.now) (start c).args.starts.now c.write_numbers.new.1.1.1.0 c.write_numbers.ensures _ _ _ _ (triangles c) c.before.before.before.before.write_moves.ensures
+    walk_made (the_complex c) (start c).args.list.now (start c).args.s (start c).args.free.now (basis c) (start c).requires.2 (start c).args.p (weight (start c).args.given (start c).args.weights.now) (start c).args.starts.now c.write_numbers.new.words c.write_numbers.ensures _ _ _ _ (triangles c) c.before.before.before.before.write_moves.ensures
 
 slice_bounds-write_moves-end : tie.Need-slice_bounds-write_moves-end
 slice_bounds-write_moves-end c = search rules

@@ -113,13 +113,13 @@ loop_of c = c.before.before.before.before.before.before
 more : (c : Row) → 0 < (loop_of c).loop-here.here.left
 more c = omega arith
 
-row_here : (c : Row) → c.fill_row.new.0 ≡ get_or (whole (loop_of c)) (loop_of c).loop-here.here.number []
+row_here : (c : Row) → c.fill_row.new.row ≡ get_or (whole (loop_of c)) (loop_of c).loop-here.here.number []
 row_here c =
     let at_loop = loop_of c in
     let s = (start at_loop).args in
     c.fill_row.ensures ∙ row_is s.free.now s.cycles.now s.lambda s.n_free at_loop.loop-here.config _ at_loop.loop-here.inv.2.walkable (more c) at_loop.loop-here.here.d ∙ (here_is at_loop (more c)).1
 
-row_countable : (c : Row) → Countable (start (loop_of c)).args.lambda c.fill_row.new.0 (start (loop_of c)).args.all.now (start (loop_of c)).args.n
+row_countable : (c : Row) → Countable (start (loop_of c)).args.lambda c.fill_row.new.row (start (loop_of c)).args.all.now (start (loop_of c)).args.n
 row_countable c =
     let at_loop = loop_of c in
     let number = at_loop.loop-here.here.number in

@@ -22,10 +22,10 @@ unfolding tree_call number_answer
 returns-then-number-ne0 c = refuses _ (record_refuses _ c.before.judge-number.ensures c.if-number-ne0.true _) (ne_eqb _ 0 c.if-number-ne0.true)
 
 -- the record is accepted, and searched
-accepted : (c : tie.Else-number-ne0) → refusal (complex_of c.before.before.before.before.args.t1) ≡ 0
+accepted : (c : tie.Else-number-ne0) → refusal (complex_of c.before.before.before.before.args.c) ≡ 0
 accepted c = sym c.before.judge-number.ensures ∙ c.if-number-ne0.false
 
-spanned : (c : tie.After-search-t) → Spanned c.before.before.before.before.before.before.before.args.t1 c.search-t.result
+spanned : (c : tie.After-search-t) → Spanned c.before.before.before.before.before.before.before.args.c c.search-t.result
 spanned c = searched_spanned _ _ (accepted c.before.before.before) c.search-t.ensures
 
 search-t-requires : tie.Need-search-t-requires

@@ -1,5 +1,5 @@
-use mathlib.Core.Bool.{false}
-use mathlib.Core.Path.{◌≡◌, refl, sym, ◌∙◌}
+use mathlib.Core.Bool.{false, not}
+use mathlib.Core.Path.{◌≡◌, refl, sym, ◌∙◌, ap}
 use lib.ListN.{length}
 use borrow.Author.Tests.{eq-eqb, ne_eqb, not-true, not-false}
 use Rattle.mathematics.proofs.Calls.{none, here, past}
@@ -60,7 +60,7 @@ returns-then-not-in_basis c =
     let enough = c.before.before in
     let long = enough.before.before.before in
     let judged = long.before.before in
-    unlisted _ (past_basis judged.before.prepare_basis-basis.ensures judged.if-number-ne0.false (past (rw (eq-eqb _ _ (sized long))) (past (room enough) (here (rw (sym c.before.in_basis.ensures ∙ not-true _ c.if-not-in_basis.true))))))
+    unlisted _ (past_basis judged.before.prepare_basis-basis.ensures judged.if-number-ne0.false (past (rw (eq-eqb _ _ (sized long))) (past (room enough) (here (rw (sym c.before.in_basis.ensures ∙ not-true _ (ap not c.if-not-in_basis.true)))))))
 
 list_and_find-requires : tie.Need-list_and_find-requires
 list_and_find-requires c κs =
@@ -70,7 +70,7 @@ list_and_find-requires c κs =
       complex = _;
       basis = basis long.before.before;
       sized = sized long;
-      listed = sym c.before.before.in_basis.ensures ∙ not-false _ c.before.if-not-in_basis.false;
+      listed = sym c.before.before.in_basis.ensures ∙ not-false _ (ap not c.before.if-not-in_basis.false);
       long = room enough;
     }
 
@@ -85,7 +85,7 @@ returns c =
     let long = enough.before.before.before in
     let judged = long.before.before in
     let found = c.before.list_and_find.ensures _ (basis judged) in
-    let listed = sym shown.before.in_basis.ensures ∙ not-false _ shown.if-not-in_basis.false in
+    let listed = sym shown.before.in_basis.ensures ∙ not-false _ (ap not shown.if-not-in_basis.false) in
     indexed _ (past_basis judged.before.prepare_basis-basis.ensures judged.if-number-ne0.false (past (rw (eq-eqb _ _ (sized long))) (past (room enough) (past (rw listed) none))))
     (found.found (sized long, listed)) found.list (record { found = in_basis_at _ (basis judged).walks.accepted _ _ (sized long) listed; few = (basis judged).few })
 

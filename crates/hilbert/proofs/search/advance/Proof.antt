@@ -1,5 +1,6 @@
+use mathlib.Core.Bool.{not}
 use Prim.Native.Nat.{ℕ, ◌≤◌, ◌<◌, ◌+◌, ◌*◌, ◌-◌, ◌^◌}
-use mathlib.Core.Path.{◌≡◌, sym, ◌∙◌}
+use mathlib.Core.Path.{◌≡◌, sym, ◌∙◌, ap}
 use native.Mathlib.Omega.{arith}
 use lib.Dec.{ltb}
 use lib.ListN.{length}
@@ -79,7 +80,7 @@ past_row c p r =
 returns-then-not-row_before : tie.Need-returns-then-not-row_before invariant-loop-place decreases-loop-place
 returns-then-not-row_before c p r h =
     let at_loop = loop_of c.before in
-    omega (arith, at_loop.loop-place.inv.1 p r h, ltb-false at_loop.loop-place.place p (past_row c.before p r ∙ not-true _ c.if-not-row_before.true))
+    omega (arith, at_loop.loop-place.inv.1 p r h, ltb-false at_loop.loop-place.place p (past_row c.before p r ∙ not-true _ (ap not c.if-not-row_before.true)))
 
 overflow_add-place : tie.Need-overflow_add-place invariant-loop-place decreases-loop-place
 overflow_add-place c = search rules
@@ -91,7 +92,7 @@ loop-place-preserved : tie.Need-loop-place-preserved invariant-loop-place decrea
 loop-place-preserved c =
     let at_loop = loop_of c.before in (
       omega arith,
-      λ p r h. omega (arith, ltb-true at_loop.loop-place.place p (past_row c.before p r ∙ not-false _ c.if-not-row_before.false)),
+      λ p r h. omega (arith, ltb-true at_loop.loop-place.place p (past_row c.before p r ∙ not-false _ (ap not c.if-not-row_before.false))),
     )
 
 returns : tie.Need-returns invariant-loop-place decreases-loop-place

@@ -23,7 +23,7 @@ at_loop c = c.before
 abbrev start : Turn → tie.Start invariant-loop-x decreases-loop-x
 start c = c.before.before
 
-apart : (c : Turn) → Apart (start c).args.t1 (at_loop c).loop-x.x (at_loop c).loop-x.y
+apart : (c : Turn) → Apart (start c).args.c (at_loop c).loop-x.x (at_loop c).loop-x.y
 apart c = record { first = (at_loop c).loop-x.invariant.0; second = (at_loop c).loop-x.invariant.1; apart = c.loop-x-test.true }
 
 loop-x-init : tie.Need-loop-x-init invariant-loop-x decreases-loop-x
@@ -63,7 +63,7 @@ abbrev up_from : tie.After-across-x invariant-loop-x decreases-loop-x → Up
 up_from c = c.before.before.before.before.before
 
 climbed : (c : tie.After-across-x invariant-loop-x decreases-loop-x)
-    → let turn = up_turn (up_from c) in FirstClimbs (start turn).args.t1 (start turn).args.t2 (at_loop turn).loop-x.x (at_loop turn).loop-x.y c.across-x.result
+    → let turn = up_turn (up_from c) in FirstClimbs (start turn).args.c (start turn).args.parents (at_loop turn).loop-x.x (at_loop turn).loop-x.y c.across-x.result
 climbed c =
     let turn = up_turn (up_from c) in
     first_climbs (start turn).pre.0 (apart turn) (up_from c).if-parents-y.true (rw c.before.byte.ensures at c.across-x.ensures)
@@ -99,7 +99,7 @@ abbrev down-from : tie.After-across-y invariant-loop-x decreases-loop-x → Down
 down-from c = c.before.before.before.before.before
 
 reached : (c : tie.After-across-y invariant-loop-x decreases-loop-x)
-    → let turn = down_turn (down-from c) in SecondClimbs (start turn).args.t1 (start turn).args.t2 (at_loop turn).loop-x.x (at_loop turn).loop-x.y c.across-y.result
+    → let turn = down_turn (down-from c) in SecondClimbs (start turn).args.c (start turn).args.parents (at_loop turn).loop-x.x (at_loop turn).loop-x.y c.across-y.result
 reached c =
     let turn = down_turn (down-from c) in
     second_climbs (start turn).pre.0 (apart turn) (down-from c).if-parents-y.false (rw c.before.byte-else-parents-y.ensures at c.across-y.ensures)
@@ -116,7 +116,7 @@ loop-x-preserved c =
 returns : tie.Need-returns invariant-loop-x decreases-loop-x
 returns c =
     let start = c.before.before in
-    let met : length (path (complex_of start.args.t1) c.before.loop-x.x c.before.loop-x.y) ≡ 0 = ap length (path_met start.requires.0 c.loop-x-test.false) in
+    let met : length (path (complex_of start.args.c) c.before.loop-x.x c.before.loop-x.y) ≡ 0 = ap length (path_met start.requires.0 c.loop-x-test.false) in
     omega (arith, c.before.loop-x.invariant.2)
 
 pub path_length_spec : {M : Type 1} → statement M

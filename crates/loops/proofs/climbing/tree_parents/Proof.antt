@@ -14,7 +14,7 @@ abbrev decreases-loop-i : tie.decreases-loop-i
 decreases-loop-i tree place₀ led₀ i₀ i-end place led i = tree.found - i
 
 loop-i-init : tie.Need-loop-i-init invariant-loop-i decreases-loop-i
-loop-i-init c = (omega arith, refl, none_noted c.args.t1 c.requires)
+loop-i-init c = (omega arith, refl, none_noted c.args.tree c.requires)
 
 overflow_add-i : tie.Need-overflow_add-i invariant-loop-i decreases-loop-i
 overflow_add-i c = search rules
@@ -34,7 +34,7 @@ overflow_cast-place c = let room = c.before.before.before.before.requires.room i
 bounds-place-v : tie.Need-bounds-place-v invariant-loop-i decreases-loop-i
 bounds-place-v c =
     let at_loop = c.before.before.before in
-    rw c.byte-v.ensures (vertex_below at_loop.before.args.t1 at_loop.before.requires at_loop.loop-i.i (omega arith) at_loop.loop-i.place at_loop.loop-i.led at_loop.loop-i.invariant.2)
+    rw c.byte-v.ensures (vertex_below at_loop.before.args.tree at_loop.before.requires at_loop.loop-i.i (omega arith) at_loop.loop-i.place at_loop.loop-i.led at_loop.loop-i.invariant.2)
 
 bounds-tree-i-in-loop-i : tie.Need-bounds-tree-i-in-loop-i invariant-loop-i decreases-loop-i
 bounds-tree-i-in-loop-i c = let room = c.before.before.before.before.requires.room in search rules
@@ -53,12 +53,12 @@ loop-i-preserved c = (
   omega arith,
   refl,
   let at_loop = c.before.before.before.before in
-      rw c.before.byte-v.ensures (one_noted at_loop.before.args.t1 at_loop.before.requires at_loop.loop-i.i (omega arith) at_loop.loop-i.place at_loop.loop-i.led at_loop.loop-i.invariant.2),
+      rw c.before.byte-v.ensures (one_noted at_loop.before.args.tree at_loop.before.requires at_loop.loop-i.i (omega arith) at_loop.loop-i.place at_loop.loop-i.led at_loop.loop-i.invariant.2),
 )
 
 returns : tie.Need-returns invariant-loop-i decreases-loop-i
 returns c =
-    let past : c.before.loop-i.i ≡ c.before.before.args.t1.found = omega arith in
+    let past : c.before.loop-i.i ≡ c.before.before.args.tree.found = omega arith in
     rw past at c.before.loop-i.invariant.2
 
 overflow_step-i : tie.Need-overflow_step-i invariant-loop-i decreases-loop-i

@@ -32,7 +32,7 @@ at_loop c = c.before
 abbrev start : Turn → tie.Start invariant-loop-x decreases-loop-x
 start c = c.before.before.before
 
-apart : (c : Turn) → Apart (start c).args.t1 (at_loop c).loop-x.x (at_loop c).loop-x.y
+apart : (c : Turn) → Apart (start c).args.c (at_loop c).loop-x.x (at_loop c).loop-x.y
 apart c = record { first = (at_loop c).loop-x.invariant.0; second = (at_loop c).loop-x.invariant.1; apart = c.loop-x-test.true }
 
 overflow_add-back : tie.Need-overflow_add-back invariant-loop-x decreases-loop-x
@@ -70,7 +70,7 @@ Up = tie.Then-parents-y invariant-loop-x decreases-loop-x
 abbrev up_turn : Up → Turn
 up_turn c = c.before.before.before
 
-up_edge : (c : Up) → led_by (start (up_turn c)).args.t2 (at_loop (up_turn c)).loop-x.x < 63
+up_edge : (c : Up) → led_by (start (up_turn c)).args.parents (at_loop (up_turn c)).loop-x.x < 63
 up_edge c = first_edge (start (up_turn c)).pre.0 (apart (up_turn c)) c.if-parents-y.true
 
 bounds-parents-x-then-parents-y : tie.Need-bounds-parents-x-then-parents-y invariant-loop-x decreases-loop-x
@@ -104,7 +104,7 @@ overflow_add-front : tie.Need-overflow_add-front invariant-loop-x decreases-loop
 overflow_add-front c = let r = room (up_turn (up_from c)) in search rules
 
 climbed : (c : tie.After-across-x invariant-loop-x decreases-loop-x)
-    → let turn = up_turn (up_from c) in FirstClimbs (start turn).args.t1 (start turn).args.t2 (at_loop turn).loop-x.x (at_loop turn).loop-x.y c.across-x.result
+    → let turn = up_turn (up_from c) in FirstClimbs (start turn).args.c (start turn).args.parents (at_loop turn).loop-x.x (at_loop turn).loop-x.y c.across-x.result
 climbed c =
     let turn = up_turn (up_from c) in
     first_climbs (start turn).pre.0 (apart turn) (up_from c).if-parents-y.true (rw c.before.byte-then-parents-y.ensures at c.across-x.ensures)
@@ -115,7 +115,7 @@ loop-x-smaller-then-parents-y c = let q = (climbed c).shorter in omega arith
 -- the direction is stored as it was found
 way_up : (c : tie.After-direction invariant-loop-x decreases-loop-x)
     → let turn = up_turn (up-directed c) in
-    to_z w8 (of_z w8 c.direction.result) ≡ direction_of (step_read (start turn).args.t1 (led_by (start turn).args.t2 (at_loop turn).loop-x.x) (at_loop turn).loop-x.x)
+    to_z w8 (of_z w8 c.direction.result) ≡ direction_of (step_read (start turn).args.c (led_by (start turn).args.parents (at_loop turn).loop-x.x) (at_loop turn).loop-x.x)
 way_up c = back8 c.direction.result c.direction.type_inv ∙ (rw c.before.byte.ensures at c.direction.ensures)
 
 loop-x-preserved-then-parents-y : tie.Need-loop-x-preserved-then-parents-y invariant-loop-x decreases-loop-x
@@ -136,7 +136,7 @@ Down = tie.Else-parents-y invariant-loop-x decreases-loop-x
 abbrev down_turn : Down → Turn
 down_turn c = c.before.before.before
 
-down_edge : (c : Down) → led_by (start (down_turn c)).args.t2 (at_loop (down_turn c)).loop-x.y < 63
+down_edge : (c : Down) → led_by (start (down_turn c)).args.parents (at_loop (down_turn c)).loop-x.y < 63
 down_edge c = second_edge (start (down_turn c)).pre.0 (apart (down_turn c)) c.if-parents-y.false
 
 bounds-parents-y-else-parents-y : tie.Need-bounds-parents-y-else-parents-y invariant-loop-x decreases-loop-x
@@ -170,7 +170,7 @@ bounds-directions-back : tie.Need-bounds-directions-back invariant-loop-x decrea
 bounds-directions-back c = let r = room (down_turn (down-from (down-directed c))) in omega (arith, r.some, r.directions)
 
 reached : (c : tie.After-across-y invariant-loop-x decreases-loop-x)
-    → let turn = down_turn (down-from c) in SecondClimbs (start turn).args.t1 (start turn).args.t2 (at_loop turn).loop-x.x (at_loop turn).loop-x.y c.across-y.result
+    → let turn = down_turn (down-from c) in SecondClimbs (start turn).args.c (start turn).args.parents (at_loop turn).loop-x.x (at_loop turn).loop-x.y c.across-y.result
 reached c =
     let turn = down_turn (down-from c) in
     second_climbs (start turn).pre.0 (apart turn) (down-from c).if-parents-y.false (rw c.before.byte-else-parents-y.ensures at c.across-y.ensures)
@@ -180,13 +180,13 @@ loop-x-smaller c = let q = (reached (down-directed c)).shorter in omega arith
 
 way_down : (c : tie.After-direction-else-parents-y invariant-loop-x decreases-loop-x)
     → let turn = down_turn (down-from (down-directed c)) in
-    to_z w8 (of_z w8 c.direction-else-parents-y.result) ≡ direction_of (step_read (start turn).args.t1 (led_by (start turn).args.t2 (at_loop turn).loop-x.y) (down-directed c).across-y.result)
+    to_z w8 (of_z w8 c.direction-else-parents-y.result) ≡ direction_of (step_read (start turn).args.c (led_by (start turn).args.parents (at_loop turn).loop-x.y) (down-directed c).across-y.result)
 way_down c = back8 c.direction-else-parents-y.result c.direction-else-parents-y.type_inv ∙ (rw c.before.byte-else-parents-y-2.ensures at c.direction-else-parents-y.ensures)
 
 -- the place before back is the one behind the rest of the path
 last_place : (c : tie.After-across-y invariant-loop-x decreases-loop-x)
     → let turn = down_turn (down-from c) in
-    (at_loop turn).loop-x.back - 1 ≡ (at_loop turn).loop-x.front + length (path (complex_of (start turn).args.t1) (at_loop turn).loop-x.x c.across-y.result)
+    (at_loop turn).loop-x.back - 1 ≡ (at_loop turn).loop-x.front + length (path (complex_of (start turn).args.c) (at_loop turn).loop-x.x c.across-y.result)
 last_place c = let q = (reached c).shorter in omega (arith, (at_loop (down_turn (down-from c))).loop-x.inv.2)
 
 loop-x-preserved : tie.Need-loop-x-preserved invariant-loop-x decreases-loop-x

@@ -25,13 +25,13 @@ unfolding loops_call number_answer
 returns-then-number-ne0 c = refuses _ (record_refuses _ c.before.judge-number.ensures c.if-number-ne0.true _) (ne_eqb _ 0 c.if-number-ne0.true)
 
 -- the record is accepted, searched, and its parents are noted
-accepted : (c : tie.Else-number-ne0) → refusal (complex_of c.before.before.before.before.args.t1) ≡ 0
+accepted : (c : tie.Else-number-ne0) → refusal (complex_of c.before.before.before.before.args.c) ≡ 0
 accepted c = sym c.before.judge-number.ensures ∙ c.if-number-ne0.false
 
-spanned : (c : tie.After-search-tree) → Spanned c.before.before.before.before.before.before.before.args.t1 c.search-tree.result
+spanned : (c : tie.After-search-tree) → Spanned c.before.before.before.before.before.before.before.args.c c.search-tree.result
 spanned c = searched_spanned _ _ (accepted c.before.before.before) c.search-tree.ensures
 
-parented : (c : tie.After-tree_parents-parents) → Parented c.before.before.before.before.before.before.before.before.before.args.t1 c.tree_parents-parents.result
+parented : (c : tie.After-tree_parents-parents) → Parented c.before.before.before.before.before.before.before.before.before.args.c c.tree_parents-parents.result
 parented c = noted_parented _ _ (spanned c.before.before) _ c.tree_parents-parents.ensures
 
 search-tree-requires : tie.Need-search-tree-requires

@@ -15,7 +15,7 @@ start c = c.before.before.before.before.before.before
 edge_end-b-requires : tie.Need-edge_end-b-requires
 edge_end-b-requires c κs = let few = edges_few c.before.before.before.before.before.requires.0 in omega (arith, c.before.before.before.before.before.requires.1)
 
-read : (c : tie.After-edge_end-b) → EndsRead (start c).args.t1 (start c).args.f c.before.before.before.edge_start-a.result c.edge_end-b.result
+read : (c : tie.After-edge_end-b) → EndsRead (start c).args.c (start c).args.f c.before.before.before.edge_start-a.result c.edge_end-b.result
 read c = record { inside = (start c).requires.1; first = c.before.before.before.edge_start-a.ensures; second = c.edge_end-b.ensures }
 
 path_length-requires : tie.Need-path_length-requires

@@ -20,14 +20,14 @@ edge_end-b-requires c κs = let few = edges_few c.before.before.before.before.be
 abbrev start : tie.After-edge_end-b → tie.Start
 start c = c.before.before.before.before.before.before.before
 
-read : (c : tie.After-edge_end-b) → EndsRead (start c).args.t1 (start c).args.f c.before.before.before.edge_start-a.result c.edge_end-b.result
+read : (c : tie.After-edge_end-b) → EndsRead (start c).args.c (start c).args.f c.before.before.before.edge_start-a.result c.edge_end-b.result
 read c = record { inside = (start c).requires.1; first = c.before.before.before.edge_start-a.ensures; second = c.edge_end-b.ensures }
 
 path_length-count-requires : tie.Need-path_length-count-requires
 path_length-count-requires c κs = let e = ends_inside (start c).requires.0 (read c) in ((start c).requires.0, e.0, e.1)
 
 -- the loop has one step more than the path
-longer : (c : tie.After-path_length-count) → length (loop_of (complex_of (start c.before).args.t1) (start c.before).args.f) ≡ c.path_length-count.result + 1
+longer : (c : tie.After-path_length-count) → length (loop_of (complex_of (start c.before).args.c) (start c.before).args.f) ≡ c.path_length-count.result + 1
 longer c = rw c.path_length-count.ensures (loop_long (start c.before).requires.0 (read c.before))
 
 write_path-requires : tie.Need-write_path-requires

@@ -31,7 +31,7 @@ at_loop c = c.before.before.before
 abbrev start : tie.After-byte invariant-loop-j decreases-loop-j → tie.Start invariant-loop-j decreases-loop-j
 start c = c.before.before.before.before
 
-read : (c : tie.After-byte invariant-loop-j decreases-loop-j) → FreeRead (start c).args.t3 (at_loop c).loop-j.j c.byte.result
+read : (c : tie.After-byte invariant-loop-j decreases-loop-j) → FreeRead (start c).args.free (at_loop c).loop-j.j c.byte.result
 read c = record { more = omega arith; is = c.byte.ensures }
 
 loop_length-total-requires : tie.Need-loop_length-total-requires invariant-loop-j decreases-loop-j
@@ -62,7 +62,7 @@ loop-j-preserved c = (omega arith, refl, (next c).0)
 returns : tie.Need-returns invariant-loop-j decreases-loop-j
 returns c =
     let of = c.before.before.requires.1 in
-    let past : c.before.loop-j.j ≡ c.before.before.args.t3.count = omega arith in
+    let past : c.before.loop-j.j ≡ c.before.before.args.free.count = omega arith in
     rw (past, of.count) at c.before.loop-j.invariant.2
 
 pub total_steps_spec : {M : Type 1} → statement M

@@ -52,7 +52,7 @@ byte-requires c κs = tt
 abbrev at_loop : tie.After-byte invariant-loop-j decreases-loop-j → tie.At-loop-j invariant-loop-j decreases-loop-j
 at_loop c = c.before.before.before
 
-read : (c : tie.After-byte invariant-loop-j decreases-loop-j) → FreeRead (start (at_loop c)).args.t3 (at_loop c).loop-j.j c.byte.result
+read : (c : tie.After-byte invariant-loop-j decreases-loop-j) → FreeRead (start (at_loop c)).args.free (at_loop c).loop-j.j c.byte.result
 read c = record { more = omega arith; is = c.byte.ensures }
 
 put_loop-at-requires : tie.Need-put_loop-at-requires invariant-loop-j decreases-loop-j
@@ -100,7 +100,7 @@ bounds-starts-count : tie.Need-bounds-starts-count invariant-loop-j decreases-lo
 bounds-starts-count c = let r = room c.before in let same = c.before.loop-j.invariant.3 in let is = c.before.loop-j.invariant.1 in omega arith
 
 shape_of-starts : tie.Need-shape_of-starts invariant-loop-j decreases-loop-j
-shape_of-starts c = let loop = c.before.loop-j in length-set loop.starts (start c.before).args.t3.count loop.at ∙ loop.invariant.3
+shape_of-starts c = let loop = c.before.loop-j in length-set loop.starts (start c.before).args.free.count loop.at ∙ loop.invariant.3
 
 shape_of-edges : tie.Need-shape_of-edges invariant-loop-j decreases-loop-j
 shape_of-edges c = c.before.loop-j.invariant.5.long
@@ -112,7 +112,7 @@ returns : tie.Need-returns invariant-loop-j decreases-loop-j
 returns c =
     let inv = c.before.loop-j.invariant in
     let begun = start c.before in
-    let past : begun.args.t3.count ≡ c.before.loop-j.j = omega arith in
+    let past : begun.args.free.count ≡ c.before.loop-j.j = omega arith in
     let end = sym past ∙ begun.pre.1.count in
     record {
       start_list = rw past (all_started (one_started inv.4 inv.2 (room c.before)) end);

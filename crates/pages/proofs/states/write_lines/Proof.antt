@@ -95,13 +95,13 @@ loop_of c = c.before.before.before.before.before.before.before
 more : (c : Row) → 0 < (loop_of c).loop-here.here.left
 more c = omega arith
 
-row_here : (c : Row) → c.fill_row.new.0 ≡ state_here (start (loop_of c)).args.cycles.now (loop_of c).loop-here.config (loop_of c).loop-here.here
+row_here : (c : Row) → c.fill_row.new.row ≡ state_here (start (loop_of c)).args.cycles.now (loop_of c).loop-here.config (loop_of c).loop-here.here
 row_here c =
     let at_loop = loop_of c in
     let s = (start at_loop).args in
     c.fill_row.ensures ∙ row_is s.free.now s.cycles.now s.lambda s.n_free at_loop.loop-here.config _ at_loop.loop-here.inv.4.walkable (more c) at_loop.loop-here.here.d
 
-room : (c : Row) → (loop_of c).loop-here.len + length (state_line (loop_of c).loop-here.here.number c.fill_row.new.0) ≤ length (loop_of c).loop-here.out
+room : (c : Row) → (loop_of c).loop-here.len + length (state_line (loop_of c).loop-here.here.number c.fill_row.new.row) ≤ length (loop_of c).loop-here.out
 room c =
     let at_loop = loop_of c in
     let s = (start at_loop).args in
@@ -129,10 +129,10 @@ loop-here-preserved c =
       written.auto.0 ∙ at_loop.loop-here.inv.0,
       next.auto.1.0 ∙ at_loop.loop-here.inv.1,
       filled.fill_row.auto.0 ∙ at_loop.loop-here.inv.2,
-      ends_inside (state_line number filled.fill_row.new.0) _ _ _ _ (room filled) written.ensures,
+      ends_inside (state_line number filled.fill_row.new.row) _ _ _ _ (room filled) written.ensures,
       next.ensures.standing,
-      line_more _ _ _ _ _ number _ _ filled.fill_row.new.0 _ _ (room filled) at_loop.loop-here.inv.5 next.ensures.states (row_here filled) next.ensures.numbered written.ensures,
-      λ z. absurd (omega (arith, written.ensures.place, line_some number filled.fill_row.new.0)),
+      line_more _ _ _ _ _ number _ _ filled.fill_row.new.row _ _ (room filled) at_loop.loop-here.inv.5 next.ensures.states (row_here filled) next.ensures.numbered written.ensures,
+      λ z. absurd (omega (arith, written.ensures.place, line_some number filled.fill_row.new.row)),
     )
 
 shape_of-out : tie.Need-shape_of-out invariant-loop-here decreases-loop-here

@@ -1,4 +1,4 @@
-use mathlib.Core.Bool.{true≢false}
+use mathlib.Core.Bool.{true≢false, not}
 use mathlib.Core.Path.{◌≡◌, refl, sym, ap, ◌∙◌}
 use lib.IntN.{neg_ℤ, neg_ℤ-neg_ℤ}
 use native.Mathlib.Omega.{arith}
@@ -17,7 +17,7 @@ row_stays-requires : tie.Need-row_stays-requires
 row_stays-requires c κs = search rules
 
 returns-then-not-row_stays : tie.Need-returns-then-not-row_stays
-returns-then-not-row_stays c = record { paired = λ h. absurd (true≢false (sym h ∙ sym (tested c.before) ∙ not-true _ c.if-not-row_stays.true)); alone = λ h. refl }
+returns-then-not-row_stays c = record { paired = λ h. absurd (true≢false (sym h ∙ sym (tested c.before) ∙ not-true _ (ap not c.if-not-row_stays.true))); alone = λ h. refl }
 
 next_staying-requires : tie.Need-next_staying-requires
 next_staying-requires c κs =
@@ -30,7 +30,7 @@ returns c =
     let s = c.before.before.before in
     record {
       paired = λ h. rw (back32 s.args.back s.ranges.back.sfits, s.requires.2) at c.next_staying.ensures;
-      alone = λ h. absurd (true≢false (sym (sym (tested c.before.before) ∙ not-false _ c.before.if-not-row_stays.false) ∙ h));
+      alone = λ h. absurd (true≢false (sym (sym (tested c.before.before) ∙ not-false _ (ap not c.before.if-not-row_stays.false)) ∙ h));
     }
 
 pub find_pair_spec : {M : Type 1} → statement M

@@ -1,6 +1,6 @@
 use Prim.Native.Nat.{◌-◌, ◌*◌, ◌<◌, ◌≤◌}
 use native.Mathlib.Nat.{sub-zero, mul-le-mul}
-use mathlib.Core.Bool.{false, ◌||◌}
+use mathlib.Core.Bool.{false, ◌||◌, not}
 use mathlib.Core.List.{[]}
 use mathlib.Core.Path.{◌≡◌, refl, sym, ap, ◌∙◌}
 use lib.Dec.{leb}
@@ -121,7 +121,7 @@ abbrev row_start : tie.After-shift_row → tie.Start
 row_start c = at-start c.before.before.before.before.before
 
 -- the front of the shifted row is the shifted state
-shifted_front : (c : tie.After-shift_row) → take (length (complex_of (row_start c).args.c).edges) c.shift_row.new.0 ≡ shifted_state (complex_of (row_start c).args.c) (row_start c).args.lambda (row_start c).args.triangle (row_start c).args.state
+shifted_front : (c : tie.After-shift_row) → take (length (complex_of (row_start c).args.c).edges) c.shift_row.new.row ≡ shifted_state (complex_of (row_start c).args.c) (row_start c).args.lambda (row_start c).args.triangle (row_start c).args.state
 unfolding moved_state
 shifted_front c =
     let here = c.before.before.before.before.before in
@@ -141,7 +141,7 @@ band_told c =
     let start = row_start made in
     let three = made.before.before.before.triangle_sides-sides in
     let below = sides_below (complex_of start.args.c) start.args.triangle three.result three.ensures (basis (judged here)).walks.accepted (there here).0 in
-    three_told (complex_of start.args.c) start.args.triangle three.result three.ensures start.args.lambda made.shift_row.new.0 _ (length (complex_of start.args.c).edges) below.0 below.1 below.2 (shifted_front made)
+    three_told (complex_of start.args.c) start.args.triangle three.result three.ensures start.args.lambda made.shift_row.new.row _ (length (complex_of start.args.c).edges) below.0 below.1 below.2 (shifted_front made)
     ∙ sym c.three_within.ensures
 
 returns-then-not-three_within : tie.Need-returns-then-not-three_within
@@ -149,7 +149,7 @@ unfolding triangle_call number_answer
 returns-then-not-three_within c =
     let enough = c.before.before.before.before.before.before.before in
     let found = enough.before in
-    shift_demanded _ _ _ _ _ _ _ (refuses _ (past_basis (judged found).before.prepare_basis-basis.ensures (judged found).if-number-ne0.false (past (numbers found) (past (room enough) (here (rw (band_told c.before ∙ not-true _ c.if-not-three_within.true)))))) refl)
+    shift_demanded _ _ _ _ _ _ _ (refuses _ (past_basis (judged found).before.prepare_basis-basis.ensures (judged found).if-number-ne0.false (past (numbers found) (past (room enough) (here (rw (band_told c.before ∙ not-true _ (ap not c.if-not-three_within.true))))))) refl)
 
 slice_bounds-list_and_find-count : tie.Need-slice_bounds-list_and_find-count
 slice_bounds-list_and_find-count c = search rules
@@ -161,12 +161,12 @@ slice_bounds-list_and_find-end : tie.Need-slice_bounds-list_and_find-end
 slice_bounds-list_and_find-end c =
     let made = c.before.before.before.before in
     let few = edges_few (judged made.before.before.before.before.before) in
-    let long : length made.shift_row.new.0 ≡ 63 = rw made.shift_row.ensures (moved_row_long _ _ (shiftable made.before.before) (pos 1)) in
+    let long : length made.shift_row.new.row ≡ 63 = rw made.shift_row.ensures (moved_row_long _ _ (shiftable made.before.before) (pos 1)) in
     search rules
 
 -- the part that is sought
-part : (c : tie.After-shift_row) → take ((row_start c).args.c.n_edges - 0) c.shift_row.new.0 ≡ shifted_state (complex_of (row_start c).args.c) (row_start c).args.lambda (row_start c).args.triangle (row_start c).args.state
-part c = ap (λ n. take n c.shift_row.new.0) (sub-zero (row_start c).args.c.n_edges ∙ sym (edges_long (row_start c).args.c)) ∙ shifted_front c
+part : (c : tie.After-shift_row) → take ((row_start c).args.c.n_edges - 0) c.shift_row.new.row ≡ shifted_state (complex_of (row_start c).args.c) (row_start c).args.lambda (row_start c).args.triangle (row_start c).args.state
+part c = ap (λ n. take n c.shift_row.new.row) (sub-zero (row_start c).args.c.n_edges ∙ sym (edges_long (row_start c).args.c)) ∙ shifted_front c
 
 list_and_find-requires : tie.Need-list_and_find-requires
 list_and_find-requires c κs =
@@ -178,7 +178,7 @@ list_and_find-requires c κs =
     let b = basis (judged here) in
     let listed = shifted_listed (complex_of start.args.c) b.walks.accepted start.args.lambda start.args.triangle start.args.state (there here).0 (there here).1 in
     rw (part made)
-    (record { complex = complex_of start.args.c; basis = b; sized = listed.0; listed = listed.1 (band_told shown.before ∙ not-false _ shown.if-not-three_within.false); long = room enough })
+    (record { complex = complex_of start.args.c; basis = b; sized = listed.0; listed = listed.1 (band_told shown.before ∙ not-false _ (ap not shown.if-not-three_within.false)); long = room enough })
 
 shape_of-states : tie.Need-shape_of-states
 shape_of-states c = search rules
@@ -191,7 +191,7 @@ returns c =
     let enough = made.before.before.before.before in
     let found = enough.before in
     let b = basis (judged found) in
-    let band = band_told shown.before ∙ not-false _ shown.if-not-three_within.false in
+    let band = band_told shown.before ∙ not-false _ (ap not shown.if-not-three_within.false) in
     let listed = shifted_listed _ b.walks.accepted _ _ _ (there found).0 (there found).1 in
     let placed = rw (part made) at (c.before.list_and_find.ensures _ b) in
     shift_demanded _ _ _ _ _ _ _ (ends _ (past_basis (judged found).before.prepare_basis-basis.ensures (judged found).if-number-ne0.false (past (numbers found) (past (room enough) (past (rw band) none))))

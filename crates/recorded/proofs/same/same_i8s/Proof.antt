@@ -1,5 +1,6 @@
+use mathlib.Core.Bool.{not}
 use Prim.Native.Nat.{◌-◌}
-use mathlib.Core.Path.{sym, ◌∙◌}
+use mathlib.Core.Path.{sym, ◌∙◌, ap}
 use borrow.Author.Tests.{not-true, not-false}
 use borrow.Author.Rules.{rules}
 use lib.IntN.{pos}
@@ -22,10 +23,10 @@ whole-requires : tie.Need-whole-requires invariant-loop-i decreases-loop-i
 whole-requires c κs = search rules
 
 returns-then-not-whole : tie.Need-returns-then-not-whole invariant-loop-i decreases-loop-i
-returns-then-not-whole c = hold_not _ _ _ _ _ (sym c.before.whole.ensures ∙ not-true _ c.if-not-whole.true)
+returns-then-not-whole c = hold_not _ _ _ _ _ (sym c.before.whole.ensures ∙ not-true _ (ap not c.if-not-whole.true))
 
 loop-i-init : tie.Need-loop-i-init invariant-loop-i decreases-loop-i
-loop-i-init c = hold_none _ _ _ _ _ (sym c.before.whole.ensures ∙ not-false _ c.if-not-whole.false)
+loop-i-init c = hold_none _ _ _ _ _ (sym c.before.whole.ensures ∙ not-false _ (ap not c.if-not-whole.false))
 
 bounds-list-i : tie.Need-bounds-list-i invariant-loop-i decreases-loop-i
 bounds-list-i c = search rules

@@ -32,14 +32,14 @@ room_1 s = room_first (counted s) (compared s) _ _ (room_2 s)
 abbrev start : tie.After-write_named-counted → tie.Start
 start c = c.before.before.before.before
 
-put_1 : (c : tie.After-write_named-counted) → Put (counted (start c)) (start c).args.out.now 0 c.write_named-counted.new.0 c.write_named-counted.result
+put_1 : (c : tie.After-write_named-counted) → Put (counted (start c)) (start c).args.out.now 0 c.write_named-counted.new.out c.write_named-counted.result
 unfolding named ascii
 put_1 c = c.write_named-counted.ensures
 
 abbrev one : tie.After-write_named-compared → tie.After-write_named-counted
 one c = c.before.before.before.before.before
 
-put_2 : (c : tie.After-write_named-compared) → Put (counted (start (one c)) ++ compared (start (one c))) (start (one c)).args.out.now 0 c.write_named-compared.new.0 c.write_named-compared.result
+put_2 : (c : tie.After-write_named-compared) → Put (counted (start (one c)) ++ compared (start (one c))) (start (one c)).args.out.now 0 c.write_named-compared.new.out c.write_named-compared.result
 unfolding named ascii
 put_2 c =
     let s = start (one c) in
@@ -80,7 +80,7 @@ unfolding cases_line ascii
 returns c =
     let written = c.before.before.before.before.before.before.before in
     let s = start (one written) in
-    let all : Put (cases_line s.args.cases s.args.differ) s.args.out.now 0 c.before.before.write_text.new.0 c.before.before.write_text.result =
+    let all : Put (cases_line s.args.cases s.args.differ) s.args.out.now 0 c.before.before.write_text.new.out c.before.before.write_text.result =
     both (counted s ++ compared s) (ascii " differ\n") _ _ _ _ _ _ (room_2 s) (put_2 written) c.before.before.write_text.ensures in
     (all, ends_inside _ _ _ _ _ (room_3 s) all)
 

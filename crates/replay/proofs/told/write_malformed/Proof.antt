@@ -25,7 +25,7 @@ room_1 s = room_first (placed s) (ascii "\n") _ _ (room_2 s)
 abbrev start : tie.After-write_named-next → tie.Start
 start c = c.before.before.before.before
 
-put_1 : (c : tie.After-write_named-next) → Put (placed (start c)) (start c).args.out.now 0 c.write_named-next.new.0 c.write_named-next.result
+put_1 : (c : tie.After-write_named-next) → Put (placed (start c)) (start c).args.out.now 0 c.write_named-next.new.out c.write_named-next.result
 unfolding named ascii
 put_1 c = c.write_named-next.ensures
 
@@ -52,7 +52,7 @@ unfolding malformed_line ascii
 returns c =
     let written = c.before.before.before.before.before.before in
     let s = start written in
-    let all : Put (malformed_line s.args.at) s.args.out.now 0 c.before.before.write_byte.new.0 c.before.before.write_byte.result =
+    let all : Put (malformed_line s.args.at) s.args.out.now 0 c.before.before.write_byte.new.out c.before.before.write_byte.result =
     both (placed s) (ascii "\n") _ _ _ _ _ _ (room_1 s) (put_1 written) c.before.before.write_byte.ensures in
     (all, ends_inside _ _ _ _ _ (room_2 s) all)
 

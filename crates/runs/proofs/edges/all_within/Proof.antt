@@ -1,3 +1,4 @@
+use mathlib.Core.Bool.{not}
 use Prim.Native.Nat.{ℕ, ◌≤◌, ◌<◌, ◌-◌}
 use mathlib.Core.Path.{◌≡◌, sym, ap, ◌∙◌}
 use native.Mathlib.Omega.{arith}
@@ -52,7 +53,7 @@ within-requires c κs = c.before.before.before.before.before.before.requires.1
 returns-then-not-within : tie.Need-returns-then-not-within invariant-loop-q decreases-loop-q
 returns-then-not-within c =
     let at_loop = c.before.before.before.before.before.before.before in
-    judged_out _ _ _ _ at_loop.loop-q.q (omega arith) (test c.before ∙ not-true _ c.if-not-within.true)
+    judged_out _ _ _ _ at_loop.loop-q.q (omega arith) (test c.before ∙ not-true _ (ap not c.if-not-within.true))
 
 overflow_step-q : tie.Need-overflow_step-q invariant-loop-q decreases-loop-q
 overflow_step-q c = search rules
@@ -63,7 +64,7 @@ loop-q-smaller c = search rules
 loop-q-preserved : tie.Need-loop-q-preserved invariant-loop-q decreases-loop-q
 loop-q-preserved c =
     let at_loop = c.before.before.before.before.before.before.before in
-    (omega arith, below_more _ _ at_loop.loop-q.invariant.1 (leb-true _ _ (test c.before ∙ not-false _ c.if-not-within.false)))
+    (omega arith, below_more _ _ at_loop.loop-q.invariant.1 (leb-true _ _ (test c.before ∙ not-false _ (ap not c.if-not-within.false))))
 
 returns : tie.Need-returns invariant-loop-q decreases-loop-q
 returns c =

@@ -14,15 +14,15 @@ abbrev start : tie.After-collect_row-found → tie.Start
 start c = c.before.before.before.before.before.before.before.before.before.before
 
 -- the entries that are found: there is room for them, and how many there are
-long : (c : tie.After-collect_row-found) → length c.collect_row-found.new.0 ≡ length c.collect_row-found.new.1.0
+long : (c : tie.After-collect_row-found) → length c.collect_row-found.new.row_columns ≡ length c.collect_row-found.new.row_values
 long c = c.collect_row-found.auto.0 ∙ (start c).requires.2 ∙ sym c.collect_row-found.auto.1.0
 
-room : (c : tie.After-collect_row-found) → c.collect_row-found.result ≤ length c.collect_row-found.new.0
+room : (c : tie.After-collect_row-found) → c.collect_row-found.result ≤ length c.collect_row-found.new.row_columns
 room c = omega (arith, c.collect_row-found.ensures.1, (start c).requires.1, c.collect_row-found.auto.0)
 
 count : (c : tie.After-collect_row-found) → c.collect_row-found.result ≡ length (diagonal_first (start c).args.i (start c).args.diagonal (take (start c).args.n (pairs (start c).args.flips.now (start c).args.terms.now)))
 count c =
-    sym (length-take-le _ (pairs c.collect_row-found.new.0 c.collect_row-found.new.1.0) (rw (pairs_length c.collect_row-found.new.0 c.collect_row-found.new.1.0 (long c)) (room c)))
+    sym (length-take-le _ (pairs c.collect_row-found.new.row_columns c.collect_row-found.new.row_values) (rw (pairs_length c.collect_row-found.new.row_columns c.collect_row-found.new.row_values (long c)) (room c)))
     ∙ ap length c.collect_row-found.ensures.0
 
 collect_row-found-requires : tie.Need-collect_row-found-requires

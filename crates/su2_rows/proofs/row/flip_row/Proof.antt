@@ -17,7 +17,7 @@ start c = c.before.before.before.before
 abbrev entries : tie.Start → List (ℕ × Float)
 entries c = take c.args.n (pairs c.args.flips.now c.args.terms.now)
 
-are_flipped : (c : tie.After-flip_columns) → take (start c).args.n (pairs c.flip_columns.new.0 (start c).args.terms.now) ≡ flipped_entries (start c).args.by (entries (start c))
+are_flipped : (c : tie.After-flip_columns) → take (start c).args.n (pairs c.flip_columns.new.flips (start c).args.terms.now) ≡ flipped_entries (start c).args.by (entries (start c))
 are_flipped c = flipped_are _ _ _ _ _ (start c).requires.0 c.flip_columns.auto.0 (start c).requires.1 c.flip_columns.ensures
 
 flip_columns-requires : tie.Need-flip_columns-requires

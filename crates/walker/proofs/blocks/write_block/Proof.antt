@@ -75,7 +75,7 @@ loop-d-preserved c =
     let more = one_more at_loop (omega arith) in
     let long : length (flatten (block_rows s z from d)) ≡ (d - from) * length s = rows_long s z from d in
     let here : at_loop.loop-d.place ≡ start.args.at + length (flatten (block_rows s z from d)) = omega arith in
-    let made : c.before.write_row.new.0 ≡ put (put start.args.states.now start.args.at (flatten (block_rows s z from d))) (start.args.at + length (flatten (block_rows s z from d))) (with_cycle s (pos d) z) = rw (at_loop.loop-d.invariant.5, here) at c.before.write_row.ensures in (
+    let made : c.before.write_row.new.states ≡ put (put start.args.states.now start.args.at (flatten (block_rows s z from d))) (start.args.at + length (flatten (block_rows s z from d))) (with_cycle s (pos d) z) = rw (at_loop.loop-d.invariant.5, here) at c.before.write_row.ensures in (
       refl,
       omega arith,
       omega arith,

@@ -84,7 +84,7 @@ loop-j-preserved c =
     let cycles = start.args.cycles.now in
     let inside : j < 63 = omega (arith, fit.free_few) in
     let e : 63 * j + m - 63 * j ≡ m = omega arith in
-    let made : c.before.add.new.0 ≡ with_cycle at_loop.loop-j.config (neg_ℤ (pos start.args.lambda)) (row m cycles j) = rw (e, at_loop.loop-j.invariant.2) at c.before.add.ensures in (
+    let made : c.before.add.new.config ≡ with_cycle at_loop.loop-j.config (neg_ℤ (pos start.args.lambda)) (row m cycles j) = rw (e, at_loop.loop-j.invariant.2) at c.before.add.ensures in (
       omega arith,
       refl,
       at_loop.loop-j.invariant.2,

@@ -126,7 +126,7 @@ returns-then-x-top c =
     let at_loop = c.before.before.before.before.before.before.before.before.before.before in
     let s = start at_loop in
     let m = length s.args.config.now in
-    let made : c.before.add.new.0 ≡ with_cycle at_loop.loop-j.config (pos 1) (row m s.args.cycles.now at_loop.loop-j.j) = rw (part at_loop.loop-j.j m) at c.before.add.ensures in
+    let made : c.before.add.new.config ≡ with_cycle at_loop.loop-j.config (pos 1) (row m s.args.cycles.now at_loop.loop-j.j) = rw (part at_loop.loop-j.j m) at c.before.add.ensures in
     made
     ∙ sym (step_here s.args.free.now (row m s.args.cycles.now) s.args.lambda s.args.n_free at_loop.loop-j.j at_loop.loop-j.config (omega arith)
     (test c.before.before.before.before.before true c.before.before.before.before.if-x-top.true))
@@ -172,7 +172,7 @@ loop-j-preserved c =
     let L = s.args.lambda in
     let z = row m s.args.cycles.now in
     let inside : j < 63 = omega (arith, fit.free_few) in
-    let made : c.before.add-in-loop-j.new.0 ≡ with_cycle at_loop.loop-j.config (neg_ℤ (pos (2 * L))) (z j) = rw (part j m, at_loop.loop-j.invariant.2) at c.before.add-in-loop-j.ensures in (
+    let made : c.before.add-in-loop-j.new.config ≡ with_cycle at_loop.loop-j.config (neg_ℤ (pos (2 * L))) (z j) = rw (part j m, at_loop.loop-j.invariant.2) at c.before.add-in-loop-j.ensures in (
       refl,
       at_loop.loop-j.invariant.1,
       at_loop.loop-j.invariant.2,

@@ -6,7 +6,7 @@ use Rattle.walker.proofs.Fitting.{begin_ready, cycles_may, tables_walk}
 use Rattle.walker.proofs.tables.prepare.Statement.{statement}
 use Rattle.walker.proofs.tables.prepare.Tie as tie
 
-spanned : (c : tie.After-search-tree) → Spanned c.before.before.before.args.t1 c.search-tree.result
+spanned : (c : tie.After-search-tree) → Spanned c.before.before.before.args.c c.search-tree.result
 spanned c = searched_spanned _ _ c.before.before.before.requires.0 c.search-tree.ensures
 
 search-tree-requires : tie.Need-search-tree-requires
@@ -27,9 +27,9 @@ Made = tie.After-fundamental_cycles-cycles
 abbrev start : Made → tie.Start
 start c = c.before.before.before.before.before.before.before
 
-fit : (c : Made) → CyclesFit (start c).args.t1.n_edges c.before.before.before.free_edges-free.result.count (start c).args.lambda c.fundamental_cycles-cycles.result
+fit : (c : Made) → CyclesFit (start c).args.c.n_edges c.before.before.before.free_edges-free.result.count (start c).args.lambda c.fundamental_cycles-cycles.result
 fit c =
-    cycles_may (start c).args.t1 (start c).requires.0 (start c).args.lambda (start c).requires.1 c.before.before.before.free_edges-free.result c.before.before.before.free_edges-free.ensures c.fundamental_cycles-cycles.result c.fundamental_cycles-cycles.ensures
+    cycles_may (start c).args.c (start c).requires.0 (start c).args.lambda (start c).requires.1 c.before.before.before.free_edges-free.result c.before.before.before.free_edges-free.ensures c.fundamental_cycles-cycles.result c.fundamental_cycles-cycles.ensures
 
 slice_bounds-begin-count : tie.Need-slice_bounds-begin-count
 slice_bounds-begin-count c = search rules
@@ -46,7 +46,7 @@ slice_bounds-begin-end c = search rules
 begin-requires : tie.Need-begin-requires
 begin-requires c κs =
     let made = c.before.before.before in
-    begin_ready (start made).args.t1.n_edges made.before.before.before.free_edges-free.result.count (start made).args.lambda made.fundamental_cycles-cycles.result (fit made)
+    begin_ready (start made).args.c.n_edges made.before.before.before.free_edges-free.result.count (start made).args.lambda made.fundamental_cycles-cycles.result (fit made)
 
 returns : tie.Need-returns
 returns c =
@@ -54,7 +54,7 @@ returns c =
     let s = start made in
     let free = made.before.before.before.free_edges-free in
     let cycles = made.fundamental_cycles-cycles in
-    tables_walk s.args.t1 s.pre.0 s.args.lambda s.pre.1 free.result free.ensures cycles.result cycles.ensures c.before.begin.new.0 c.before.begin.auto.0 c.before.begin.ensures
+    tables_walk s.args.c s.pre.0 s.args.lambda s.pre.1 free.result free.ensures cycles.result cycles.ensures c.before.begin.new.config c.before.begin.auto.0 c.before.begin.ensures
 
 pub prepare_spec : {M : Type 1} → statement M
 prepare_spec =
