@@ -21,16 +21,16 @@ use Rattle.complex.proofs.search.connected.Reads as connected-reads
 
 -- the tests that were passed at each place
 abbrev to-1 : tie.Else-not-edges_rise → tie.Else-not-counts_right
-to-1 c = c.before.before.before.before
+to-1 c = c.before.before.before
 
 abbrev to-2 : tie.Else-not-index_edges → tie.Else-not-edges_rise
-to-2 c = c.before.before.before.before.before
+to-2 c = c.before.before.before.before
 
 abbrev to-3 : tie.Else-not-triangles_fit → tie.Else-not-index_edges
-to-3 c = c.before.before.before.before.before
+to-3 c = c.before.before.before
 
 abbrev to-4 : tie.Else-not-triangles_once → tie.Else-not-triangles_fit
-to-4 c = c.before.before.before.before.before
+to-4 c = c.before.before.before
 
 abbrev judged-1 : tie.Else-not-counts_right → SimplicialComplex
 judged-1 c = c.before.before.args.c
@@ -61,41 +61,41 @@ returns-then-not-counts_right c = wrong_counts _ _ (sym c.before.counts_right.en
 
 -- src/judge.rt:149:9
 edges_rise-requires : tie.Need-edges_rise-requires
-edges_rise-requires c κs = (counts _ _ _ (passed_1 c.before.before)).edges
+edges_rise-requires c κs = (counts _ _ _ (passed_1 c.before)).edges
 
 -- src/judge.rt:150:9
 returns-then-not-edges_rise : tie.Need-returns-then-not-edges_rise
-returns-then-not-edges_rise c = falling_edge _ _ (passed_1 c.before.before.before.before) (sym c.before.edges_rise.ensures ∙ not-true _ (ap not c.if-not-edges_rise.true))
+returns-then-not-edges_rise c = falling_edge _ _ (passed_1 c.before.before.before) (sym c.before.edges_rise.ensures ∙ not-true _ (ap not c.if-not-edges_rise.true))
 
 -- src/judge.rt:152:8
 index_edges-requires : tie.Need-index_edges-requires
 index_edges-requires c κs =
-    let e = c.before.before.before in
+    let e = c.before.before in
     let right = passed_1 (to-1 e) in
     ((counts _ _ _ right).edges, (to-1 e).before.before.requires, small_ends (judged-1 (to-1 e)) right (passed_2 e))
 
 -- src/judge.rt:153:9
 returns-then-not-index_edges : tie.Need-returns-then-not-index_edges
 returns-then-not-index_edges c =
-    let e = c.before.before.before.before.before in
+    let e = c.before.before.before.before in
     repeated_edge _ _ (passed_1 (to-1 e)) (passed_2 e) (sym c.before.index_edges.ensures.once ∙ not-true _ (ap not c.if-not-index_edges.true))
 
 -- src/judge.rt:155:9
 triangles_fit-requires : tie.Need-triangles_fit-requires
 triangles_fit-requires c κs =
-    let k = counts _ _ _ (passed_1 (to-1 (to-2 c.before.before.before))) in
+    let k = counts _ _ _ (passed_1 (to-1 (to-2 c.before))) in
     (k.triangles, k.vertices)
 
 -- src/judge.rt:156:9
 returns-then-not-triangles_fit : tie.Need-returns-then-not-triangles_fit
 returns-then-not-triangles_fit c =
-    let e = c.before.before.before.before.before in
+    let e = c.before.before.before in
     wrong_triangle _ _ (passed_1 (to-1 (to-2 e))) (passed_3 e) (sym (c.before.triangles_fit.ensures _ (index_3 e)) ∙ not-true _ (ap not c.if-not-triangles_fit.true))
 
 -- src/judge.rt:158:8
 triangles_once-requires : tie.Need-triangles_once-requires
 triangles_once-requires c κs =
-    let f = c.before.before.before in
+    let f = c.before in
     let e = to-3 f in
     let right = passed_1 (to-1 (to-2 e)) in
     ((counts _ _ _ right).triangles, all_keyed (judged-1 (to-1 (to-2 e))) _ right (passed_3 e) (passed_4 f) (index_3 e))
@@ -103,19 +103,19 @@ triangles_once-requires c κs =
 -- src/judge.rt:159:9
 returns-then-not-triangles_once : tie.Need-returns-then-not-triangles_once
 returns-then-not-triangles_once c =
-    let f = c.before.before.before.before.before in
+    let f = c.before.before.before in
     let e = to-3 f in
     repeated_triangle (judged-1 (to-1 (to-2 e))) _ (passed_1 (to-1 (to-2 e))) (passed_3 e) (passed_4 f) (index_3 e) (sym (not-true _ (ap not c.if-not-triangles_once.true)) ∙ c.before.triangles_once.ensures)
 
 -- src/judge.rt:161:8
 connected-requires : tie.Need-connected-requires
 connected-requires c κs =
-    let d = to-2 (to-3 (to-4 c.before.before)) in
+    let d = to-2 (to-3 (to-4 c.before)) in
     searchable (judged-1 (to-1 d)) (passed_1 (to-1 d)) (passed_2 d)
 
-last_at : (c : tie.After-connected) → Judged (judged-1 (to-1 (to-2 (to-3 (to-4 c.before.before.before))))) (to-3 (to-4 c.before.before.before)).before.index_edges.new.table (cond c.connected.result 0 9)
+last_at : (c : tie.After-connected) → Judged (judged-1 (to-1 (to-2 (to-3 (to-4 c.before.before))))) (to-3 (to-4 c.before.before)).before.index_edges.new.table (cond c.connected.result 0 9)
 last_at c =
-    let g = c.before.before.before in
+    let g = c.before.before in
     let f = to-4 g in
     let e = to-3 f in
     last_test (judged-1 (to-1 (to-2 e))) _ (passed_1 (to-1 (to-2 e))) (passed_3 e) (passed_4 f) (index_3 e) (sym (not-false _ (ap not g.if-not-triangles_once.false)) ∙ g.before.triangles_once.ensures) _ c.connected.ensures

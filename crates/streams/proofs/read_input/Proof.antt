@@ -46,8 +46,8 @@ after-m-requires c κs = search rules
 
 loop-m-smaller : tie.Need-loop-m-smaller invariant-loop-m decreases-loop-m
 loop-m-smaller c =
-    let at_loop = c.before.before.before.before.before.before.before.before.before.before.before in
-    let test = c.before.before.before.before.before.before.before.before.loop-m-test.true in
+    let at_loop = c.before.before.before.before.before.before.before.before.before.before in
+    let test = c.before.before.before.before.before.before.before.loop-m-test.true in
     less_left _ _ _ at_loop.loop-m.m c.after-m.result (and_parts _ _ test).0 (omega (arith, c.before.smaller.ensures)) c.after-m.ensures
 
 loop-m-preserved : tie.Need-loop-m-preserved invariant-loop-m decreases-loop-m
