@@ -173,10 +173,10 @@ module _ {M : Type 1} {𝓤 : Ura M} (𝓛 : Logic 𝓤) (mem : Memory → SProp
   abbrev ToNew : Item 𝓤
   ToNew = ‵ (owns (ShrSlice (named 0) κ₀ u32 ∷ ShrSlice (named 1) κ₁ u32 ∷ ShrSlice (named 2) κ₂ f64 ∷ []) (s, (c, (v, tt))) (sv ∷ [], (cv ∷ [], (vv ∷ [], tt))))
 
-  asked_new : ent 𝓤 (⋆ 𝓛 (Tokens₃ ∷ ToNew ∷ [])) ((New 𝓛 mem run).pre to_new)
+  asked_new : ent 𝓤 (⋆ 𝓛 (Tokens₃ ∷ ToNew ∷ [])) ((New 𝓛 mem run).requires to_new)
   asked_new = qed 𝓛 (Tokens₃ ∷ ToNew ∷ []) ∵ join ! $ frame ! $ done !
 
-  goes_new : ent 𝓤 (on_entry 𝓛 held.signature κs qs a vals) (sep 𝓤 ((New 𝓛 mem run).pre to_new) (mean 𝓛 Kept₁))
+  goes_new : ent 𝓤 (on_entry 𝓛 held.signature κs qs a vals) (sep 𝓤 ((New 𝓛 mem run).requires to_new) (mean 𝓛 Kept₁))
   goes_new =
       qed 𝓛 (Tokens ∷ ‵ (owns (ShrSlice (named 0) κ₀ u32 ∷ ShrSlice (named 1) κ₁ u32 ∷ ShrSlice (named 2) κ₂ f64 ∷ ShrSlice (named 3) κ₃ f64 ∷ MutSlice (named 4) κ₄ f64 ∷ []) a vals) ∷ []) ∵
       move ! (1 ∷ []) $ fsplit ! $ use1 𝓛 (‵ OS ⊛ ‵ OS) ((shr_slice_copy 𝓛 (named 0) κ₀ u32).twice s (sv ∷ [])) $ split ! $
@@ -190,7 +190,7 @@ module _ {M : Type 1} {𝓤 : Ura M} (𝓛 : Logic 𝓤) (mem : Memory → SProp
       -- [the values' token; the other tokens; the columns' token; the starts' token; the three; ..]
       nothing ! $ move ! (1 ∷ 0 ∷ []) $ join ! $ move ! (2 ∷ 0 ∷ []) $ join ! $ move ! (2 ∷ 0 ∷ []) $ join ! $
       -- [the lists' tokens; the other tokens; the three; x; x; y; values; columns; starts]
-      move ! (0 ∷ 2 ∷ []) $ use2 𝓛 (raw ((New 𝓛 mem run).pre to_new)) asked_new $ frame ! $ frame ! $ frame ! $ frame ! $ frame ! $ frame ! $ frame ! $ done !
+      move ! (0 ∷ 2 ∷ []) $ use2 𝓛 (raw ((New 𝓛 mem run).requires to_new)) asked_new $ frame ! $ frame ! $ frame ! $ frame ! $ frame ! $ frame ! $ frame ! $ done !
 
   abbrev Made : RowLists → Type 0
   Made r = (r.starts ≡ s) × (r.columns ≡ c) × (r.values ≡ v)
@@ -205,10 +205,10 @@ module _ {M : Type 1} {𝓤 : Ura M} (𝓛 : Logic 𝓤) (mem : Memory → SProp
   abbrev ToMat : Val → Item 𝓤
   ToMat u = ‵ (owns (Row 2 κs ∷ ShrSlice (named 3) κ₃ f64 ∷ MutSlice (named 4) κ₄ f64 ∷ []) (h₀, (x, (y, tt))) (u ∷ [], (xv ∷ [], (yv ∷ [], tt))))
 
-  asked_mat : (u : Val) → ent 𝓤 (⋆ 𝓛 (Tokens ∷ ToMat u ∷ [])) ((Mat 𝓛 mem run).pre (to_mat u))
+  asked_mat : (u : Val) → ent 𝓤 (⋆ 𝓛 (Tokens ∷ ToMat u ∷ [])) ((Mat 𝓛 mem run).requires (to_mat u))
   asked_mat u = qed 𝓛 (Tokens ∷ ToMat u ∷ []) ∵ join ! $ frame ! $ done !
 
-  goes_mat : (u : Val) → ent 𝓤 (⋆ 𝓛 ((‵ ((Row 2 κs).own h₀ (u ∷ [])) ⊛ Tokens₃) ∷ Kept₁ ∷ [])) (sep 𝓤 ((Mat 𝓛 mem run).pre (to_mat u)) (mean 𝓛 Kept₂))
+  goes_mat : (u : Val) → ent 𝓤 (⋆ 𝓛 ((‵ ((Row 2 κs).own h₀ (u ∷ [])) ⊛ Tokens₃) ∷ Kept₁ ∷ [])) (sep 𝓤 ((Mat 𝓛 mem run).requires (to_mat u)) (mean 𝓛 Kept₂))
   goes_mat u =
       qed 𝓛 ((‵ ((Row 2 κs).own h₀ (u ∷ [])) ⊛ Tokens₃) ∷ Kept₁ ∷ []) ∵ split ! $
       move ! (2 ∷ []) $ split ! $ move ! (1 ∷ []) $ split ! $ move ! (1 ∷ []) $ split ! $ move ! (1 ∷ []) $ split ! $
@@ -218,7 +218,7 @@ module _ {M : Type 1} {𝓤 : Ura M} (𝓛 : Logic 𝓤) (mem : Memory → SProp
       move ! (4 ∷ []) $ split ! $ move ! (1 ∷ []) $ split ! $ move ! (1 ∷ []) $ split ! $ move ! (1 ∷ []) $ drop ! $
       -- [the values' token; the columns' token; the starts' token; the three; the lists; x; the other tokens]
       move ! (0 ∷ 6 ∷ []) $ join ! $ move ! (1 ∷ 0 ∷ []) $ join ! $ move ! (1 ∷ 0 ∷ []) $ join ! $
-      use2 𝓛 (raw ((Mat 𝓛 mem run).pre (to_mat u))) (asked_mat u) $ frame ! $ frame ! $ done !
+      use2 𝓛 (raw ((Mat 𝓛 mem run).requires (to_mat u))) (asked_mat u) $ frame ! $ frame ! $ done !
 
   exits : (r : Product) (u : Val) (zs : List Float) → Told r zs → length zs ≡ length ys
       → ent 𝓤 (⋆ 𝓛 (Tokens ∷ ‵ (finally f64 γ zs) ∷ ‵ ((S.the_row).own_val r (u ∷ [])) ∷ Kept₂ ∷ [])) (Post u)
@@ -240,7 +240,7 @@ module _ {M : Type 1} {𝓤 : Ura M} (𝓛 : Logic 𝓤) (mem : Memory → SProp
         pass1 ! (init ! 6 refl (tt, (tt, (record { fits = room.0 }, tt)))) $ pass0 ! $
         -- [_8; …; _7; …; _6; …; _5; …; _4; …; _3; …; _2; …; _1; …; room for _0; …; what is had at entry]
         -- `new`
-        move ! (18 ∷ []) $ use1 𝓛 (raw ((New 𝓛 mem run).pre to_new) ⊛ Kept₁) goes_new $ split ! $
+        move ! (18 ∷ []) $ use1 𝓛 (raw ((New 𝓛 mem run).requires to_new) ⊛ Kept₁) goes_new $ split ! $
         calls_at ! fm (New 𝓛 mem run) known_new to_new (and_then ! (load ! (from ! (stop !)) (look ! 16 refl)) (and_then ! (load ! (from ! (stop !)) (look ! 14 refl)) (and_then ! (load ! (from ! (stop !)) (look ! 12 refl)) (no_more !)))) (λ u₀.
         use1 𝓛 (later (some (λ (r : RowLists). (Tokens₃ ⊛ ‵ ((Row 2 κs).own r (u₀ ∷ []))) ⊛ raw (ensured 𝓛 new.ended (new.clauses 𝓛 mem run) κs₃ (s, (c, (v, tt))) tt r)))) (id⊢ 𝓤 _) $ await ! tt $ pick ! (λ r₀.
         split ! $ move ! (1 ∷ []) $ use1 𝓛 (raw (fact 𝓤 (Made r₀))) (new_said r₀) $ heard ! (Made r₀) (λ e₀.
@@ -250,7 +250,7 @@ module _ {M : Type 1} {𝓤 : Ura M} (𝓛 : Logic 𝓤) (mem : Memory → SProp
         assigns ! (addr ! (from ! (fld ! refl (hop ! (look_in ! 9 (sub ! 0 refl (whole !))) (stop !))))) (from ! (stop !)) (init ! 5 refl (tt, tt)) $
         assigns ! (agg ! (and_then ! (load ! (from ! (stop !)) (look ! 5 refl)) (and_then ! (load ! (from ! (fld ! refl (stop !))) (look_in ! 9 (sub ! 1 refl (whole !)))) (no_more !)))) (from ! (stop !)) (init ! 3 refl (tt, (tt, (record { fits = room.0 }, tt)))) $
         -- `matvec`
-        join ! $ use2 𝓛 (raw ((Mat 𝓛 mem run).pre (to_mat u₀)) ⊛ Kept₂) (goes_mat u₀) $ split ! $
+        join ! $ use2 𝓛 (raw ((Mat 𝓛 mem run).requires (to_mat u₀)) ⊛ Kept₂) (goes_mat u₀) $ split ! $
         calls_at ! fm (Mat 𝓛 mem run) known_mat (to_mat u₀) (and_then ! (load ! (from ! (stop !)) (look ! 6 refl)) (and_then ! (load ! (from ! (stop !)) (look ! 10 refl)) (and_then ! (load ! (from ! (stop !)) (look ! 2 refl)) (no_more !)))) (λ u.
         use1 𝓛 (later (some (λ (r : Product). (Tokens ⊛ ‵ ((S.the_row).own_val r (u ∷ []))) ⊛ raw (ensured 𝓛 matvec.ended (matvec.clauses 𝓛 mem run) κs (h₀, (x, (y, tt))) tt r)))) (id⊢ 𝓤 _) $ await ! tt $ pick ! (λ r.
         split ! $ move ! (1 ∷ []) $ use1 𝓛 (some (λ (zs : Unit {0} × (Unit {0} × (List Float × Unit {0}))). ‵ (lasts matvec.ended κs (h₀, (x, (y, tt))) zs) ⊛ raw (fact 𝓤 (Told r zs.1.1.0)))) (id⊢ 𝓤 _) $ pick ! (λ zs.

@@ -124,7 +124,7 @@ row_countable c =
     let at_loop = loop_of c in
     let number = at_loop.loop-here.here.number in
     let there : number < length (listed at_loop) = omega (arith, (here_is at_loop (more c)).0, ap length (whole_is at_loop)) in
-    same_countable _ _ _ _ _ (row_here c ∙ ap (λ l. get_or l number []) (whole_is at_loop)) ((start at_loop).pre.1.each number there)
+    same_countable _ _ _ _ _ (row_here c ∙ ap (λ l. get_or l number []) (whole_is at_loop)) ((start at_loop).requires.1.each number there)
 
 count_row-total-requires : tie.Need-count_row-total-requires invariant-loop-here decreases-loop-here
 count_row-total-requires c κs = row_countable c.before.before
@@ -134,7 +134,7 @@ overflow_add-total c =
     let filled = c.before.before.before in
     let at_loop = loop_of filled in
     let below = (here_is at_loop (more filled)).0 in
-    let few = (start at_loop).pre.1.few in
+    let few = (start at_loop).requires.1.few in
     let bound : at_loop.loop-here.total + c.count_row-total.result ≤ 600000000 = omega (arith, below, few, ap length (whole_is at_loop), at_loop.loop-here.inv.5, c.count_row-total.ensures.1) in
     search rules
 

@@ -99,16 +99,16 @@ module _ {M : Type 1} {𝓤 : Ura M} (𝓛 : Logic 𝓤) (mem : Memory → SProp
   abbrev to : (Judge 𝓛 mem run).Ghost
   to = ((κs, qs, tt, args, passed), tt)
 
-  asked : ent 𝓤 (on_entry 𝓛 callee.signature κs qs args passed) ((Judge 𝓛 mem run).pre to)
+  asked : ent 𝓤 (on_entry 𝓛 callee.signature κs qs args passed) ((Judge 𝓛 mem run).requires to)
   asked = qed 𝓛 (Tokens ∷ ‵ (owns (ShrSlice (named 0) κ₀ u32 ∷ ShrSlice (named 1) κ₁ u32 ∷ ShrSlice (named 2) κ₂ f64 ∷ []) args passed) ∷ []) ∵ join ! $ frame ! $ done !
 
   -- what the record owns gives what the callee asks, and is kept
-  apart : ent 𝓤 (on_entry 𝓛 judge.signature κs qs (d, tt) (mach ∷ [], tt)) (sep 𝓤 ((Judge 𝓛 mem run).pre to) (sem 𝓛 (Own 0 κs d)))
+  apart : ent 𝓤 (on_entry 𝓛 judge.signature κs qs (d, tt) (mach ∷ [], tt)) (sep 𝓤 ((Judge 𝓛 mem run).requires to) (sem 𝓛 (Own 0 κs d)))
   apart =
       qed 𝓛 (Tokens ∷ ‵ (owns (Row 0 κs ∷ []) (d, tt) (mach ∷ [], tt)) ∷ []) ∵
       move ! (1 ∷ []) $ fsplit ! $ move ! (1 ∷ []) $ drop ! $ use1 𝓛 (‵ (Own 0 κs d) ⊛ ‵ (Slices 0 κs d)) (opened 0 κs d 𝓛) $ split ! $
       -- [what the record owns; what its slices own; the tokens]
-      move ! (2 ∷ 1 ∷ []) $ use2 𝓛 (raw ((Judge 𝓛 mem run).pre to)) asked $ frame ! $ done !
+      move ! (2 ∷ 1 ∷ []) $ use2 𝓛 (raw ((Judge 𝓛 mem run).requires to)) asked $ frame ! $ done !
 
   -- of what the callee ensures, the clause alone: it has no `&mut`
   said : (r : Product) → ent 𝓤 (ensured 𝓛 callee.ended (callee.clauses 𝓛 mem run) κs args tt r) (fact 𝓤 (Told r))
@@ -129,7 +129,7 @@ module _ {M : Type 1} {𝓤 : Ura M} (𝓛 : Logic 𝓤) (mem : Memory → SProp
         assigns ! (of_opd ! (load ! (from ! (fld ! refl (stop !))) (look_in ! 6 (sub ! 0 refl (whole !))))) (from ! (stop !)) (init ! 4 refl (tt, wt.1.0)) $
         assigns ! (of_opd ! (load ! (from ! (fld ! refl (stop !))) (look_in ! 6 (sub ! 1 refl (whole !))))) (from ! (stop !)) (init ! 2 refl (tt, wt.1.1.0)) $
         assigns ! (of_opd ! (load ! (from ! (fld ! refl (stop !))) (look_in ! 6 (sub ! 2 refl (whole !))))) (from ! (stop !)) (init ! 0 refl (tt, wt.1.1.1.0)) $
-        move ! (10 ∷ []) $ use1 𝓛 (raw ((Judge 𝓛 mem run).pre to) ⊛ ‵ (Own 0 κs d)) apart $ split ! $
+        move ! (10 ∷ []) $ use1 𝓛 (raw ((Judge 𝓛 mem run).requires to) ⊛ ‵ (Own 0 κs d)) apart $ split ! $
         -- [what the callee asks; what the record owns; _4; …]
         calls_at ! fm (Judge 𝓛 mem run) known to (and_then ! (load ! (from ! (stop !)) (look ! 6 refl)) (and_then ! (load ! (from ! (stop !)) (look ! 4 refl)) (and_then ! (load ! (from ! (stop !)) (look ! 2 refl)) (no_more !)))) (λ u.
         use1 𝓛 (later (some (λ (r : Product). (Tokens ⊛ ‵ ((S.the_row).own_val r (u ∷ []))) ⊛ raw (ensured 𝓛 callee.ended (callee.clauses 𝓛 mem run) κs args tt r)))) (id⊢ 𝓤 _) $ await ! tt $ pick ! (λ r.

@@ -122,11 +122,11 @@ module _ {M : Type 1} {𝓤 : Ura M} (𝓛 : Logic 𝓤) (mem : Memory → SProp
   abbrev to : (Multiply 𝓛 mem run).Ghost
   to = ((κs, qs, tt, args, passed), tt)
 
-  asked : ent 𝓤 (on_entry 𝓛 callee.signature κs qs args passed) ((Multiply 𝓛 mem run).pre to)
+  asked : ent 𝓤 (on_entry 𝓛 callee.signature κs qs args passed) ((Multiply 𝓛 mem run).requires to)
   asked = qed 𝓛 (Tokens ∷ ‵ (owns (ShrSlice (named 0) κ₀ u32 ∷ ShrSlice (named 1) κ₁ u32 ∷ ShrSlice (named 2) κ₂ f64 ∷ ShrSlice (named 3) κ₃ f64 ∷ MutSlice (named 4) κ₄ f64 ∷ []) args passed) ∷ []) ∵ join ! $ frame ! $ done !
 
   -- what the parameters own gives what the callee asks, and what is kept
-  apart : ent 𝓤 (on_entry 𝓛 matvec.signature κs qs a vals) (sep 𝓤 ((Multiply 𝓛 mem run).pre to) (sep 𝓤 (sem 𝓛 (Own 2 κs d)) (sem 𝓛 OwnX)))
+  apart : ent 𝓤 (on_entry 𝓛 matvec.signature κs qs a vals) (sep 𝓤 ((Multiply 𝓛 mem run).requires to) (sep 𝓤 (sem 𝓛 (Own 2 κs d)) (sem 𝓛 OwnX)))
   apart =
       qed 𝓛 (Tokens ∷ ‵ (owns (Row 2 κs ∷ ShrSlice (named 3) κ₃ f64 ∷ MutSlice (named 4) κ₄ f64 ∷ []) a vals) ∷ []) ∵
       move ! (1 ∷ []) $ fsplit ! $ use1 𝓛 (‵ (Own 2 κs d) ⊛ ‵ (Slices 2 κs d)) (opened 2 κs d 𝓛) $ split ! $
@@ -137,7 +137,7 @@ module _ {M : Type 1} {𝓤 : Ura M} (𝓛 : Logic 𝓤) (mem : Memory → SProp
       -- [the vector; the vector; the result; values; true; columns; starts; the record; the tokens]
       move ! (0 ∷ 2 ∷ []) $ fjoin ! $ move ! (2 ∷ 0 ∷ []) $ fjoin ! $ move ! (3 ∷ 0 ∷ []) $ fjoin ! $ move ! (3 ∷ 0 ∷ []) $ fjoin ! $
       -- [all five; the vector; true; the record; the tokens]
-      move ! (4 ∷ 0 ∷ []) $ use2 𝓛 (raw ((Multiply 𝓛 mem run).pre to)) asked $ frame ! $ move ! (1 ∷ []) $ drop ! $ move ! (1 ∷ 0 ∷ []) $ frame ! $ done !
+      move ! (4 ∷ 0 ∷ []) $ use2 𝓛 (raw ((Multiply 𝓛 mem run).requires to)) asked $ frame ! $ move ! (1 ∷ []) $ drop ! $ move ! (1 ∷ 0 ∷ []) $ frame ! $ done !
 
   exits : (r : Product) (u : Val) (zs : List Float) → Told r zs → length zs ≡ length ys
       → ent 𝓤 (⋆ 𝓛 (Tokens ∷ ‵ (finally f64 γ zs) ∷ ‵ ((S.the_row).own_val r (u ∷ [])) ∷ (‵ (Own 2 κs d) ⊛ ‵ OwnX) ∷ [])) (Post u)
@@ -159,7 +159,7 @@ module _ {M : Type 1} {𝓤 : Ura M} (𝓛 : Logic 𝓤) (mem : Memory → SProp
         assigns ! (of_opd ! (load ! (from ! (fld ! refl (stop !))) (look_in ! 14 (sub ! 2 refl (whole !))))) (from ! (stop !)) (init ! 4 refl (tt, wt.1.1.1.0)) $
         assigns ! (addr ! (from ! (fld ! refl (hop ! (look_in ! 10 (sub ! 0 refl (whole !))) (stop !))))) (from ! (stop !)) (init ! 2 refl (tt, tt)) $
         assigns ! (agg ! (and_then ! (load ! (from ! (stop !)) (look ! 2 refl)) (and_then ! (load ! (from ! (fld ! refl (stop !))) (look_in ! 10 (sub ! 1 refl (whole !)))) (no_more !)))) (from ! (stop !)) (init ! 0 refl (tt, (tt, (record { fits = room.0 }, tt)))) $
-        move ! (18 ∷ []) $ use1 𝓛 (raw ((Multiply 𝓛 mem run).pre to) ⊛ (‵ (Own 2 κs d) ⊛ ‵ OwnX)) apart $ split ! $
+        move ! (18 ∷ []) $ use1 𝓛 (raw ((Multiply 𝓛 mem run).requires to) ⊛ (‵ (Own 2 κs d) ⊛ ‵ OwnX)) apart $ split ! $
         -- [what the callee asks; what is kept; _8; …]
         calls_at ! fm (Multiply 𝓛 mem run) known to (and_then ! (load ! (from ! (stop !)) (look ! 10 refl)) (and_then ! (load ! (from ! (stop !)) (look ! 8 refl)) (and_then ! (load ! (from ! (stop !)) (look ! 6 refl)) (and_then ! (load ! (from ! (stop !)) (look ! 14 refl)) (and_then ! (load ! (from ! (stop !)) (look ! 2 refl)) (no_more !)))))) (λ u.
         use1 𝓛 (later (some (λ (r : Product). (Tokens ⊛ ‵ ((S.the_row).own_val r (u ∷ []))) ⊛ raw (ensured 𝓛 callee.ended (callee.clauses 𝓛 mem run) κs args tt r)))) (id⊢ 𝓤 _) $ await ! tt $ pick ! (λ r.

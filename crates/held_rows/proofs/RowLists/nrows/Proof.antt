@@ -99,11 +99,11 @@ module _ {M : Type 1} {𝓤 : Ura M} (𝓛 : Logic 𝓤) (mem : Memory → SProp
   abbrev to : (Count 𝓛 mem run).Ghost
   to = (((κ₀, tt), (q₀, tt), tt, args, passed), tt)
 
-  asked : ent 𝓤 (on_entry 𝓛 callee.signature (κ₀, tt) (q₀, tt) args passed) ((Count 𝓛 mem run).pre to)
+  asked : ent 𝓤 (on_entry 𝓛 callee.signature (κ₀, tt) (q₀, tt) args passed) ((Count 𝓛 mem run).requires to)
   asked = qed 𝓛 ((‵ (flft κ₀ q₀) ⊛ ‵ ftrue) ∷ ‵ (owns (ShrSlice (named 0) κ₀ u32 ∷ []) args passed) ∷ []) ∵ join ! $ frame ! $ done !
 
   -- what the record owns gives what the callee asks, and is kept
-  apart : ent 𝓤 (on_entry 𝓛 nrows.signature κs qs (d, tt) (mach ∷ [], tt)) (sep 𝓤 ((Count 𝓛 mem run).pre to) (mean 𝓛 Kept))
+  apart : ent 𝓤 (on_entry 𝓛 nrows.signature κs qs (d, tt) (mach ∷ [], tt)) (sep 𝓤 ((Count 𝓛 mem run).requires to) (mean 𝓛 Kept))
   apart =
       qed 𝓛 (Tokens ∷ ‵ (owns (Row 0 κs ∷ []) (d, tt) (mach ∷ [], tt)) ∷ []) ∵
       move ! (1 ∷ []) $ fsplit ! $ move ! (1 ∷ []) $ drop ! $ use1 𝓛 (‵ (Own 0 κs d) ⊛ ‵ (Slices 0 κs d)) (opened 0 κs d 𝓛) $ split ! $
@@ -112,7 +112,7 @@ module _ {M : Type 1} {𝓤 : Ura M} (𝓛 : Logic 𝓤) (mem : Memory → SProp
       -- [what the starts own; what the record owns; the tokens]
       move ! (2 ∷ []) $ split ! $ nothing ! $ move ! (1 ∷ 0 ∷ []) $ join ! $
       -- [the first token; the others; what the starts own; what the record owns]
-      move ! (0 ∷ 2 ∷ []) $ use2 𝓛 (raw ((Count 𝓛 mem run).pre to)) asked $ frame ! $ frame ! $ done !
+      move ! (0 ∷ 2 ∷ []) $ use2 𝓛 (raw ((Count 𝓛 mem run).requires to)) asked $ frame ! $ frame ! $ done !
 
   -- of what the callee ensures, the clause alone: it has no `&mut`
   said : (r : ℕ) → ent 𝓤 (ensured 𝓛 callee.ended (callee.clauses 𝓛 mem run) (κ₀, tt) args tt r) (fact 𝓤 (Told r))
@@ -133,7 +133,7 @@ module _ {M : Type 1} {𝓤 : Ura M} (𝓛 : Logic 𝓤) (mem : Memory → SProp
         alloc1 ! (λ l₀. alloc1 ! (λ l₁. alloc1 ! (λ l₂. alloc0 ! $ params1 ! $ pass1 ! (init ! 2 refl wt) $ pass0 ! $
         -- [_2; …; _1; …; room for _0; …; what is had at entry]
         assigns ! (of_opd ! (load ! (from ! (fld ! refl (stop !))) (look_in ! 2 (sub ! 0 refl (whole !))))) (from ! (stop !)) (init ! 0 refl (tt, wt.1.0)) $
-        move ! (6 ∷ []) $ use1 𝓛 (raw ((Count 𝓛 mem run).pre to) ⊛ Kept) apart $ split ! $
+        move ! (6 ∷ []) $ use1 𝓛 (raw ((Count 𝓛 mem run).requires to) ⊛ Kept) apart $ split ! $
         -- [what the callee asks; what is kept; _2; …]
         calls_at ! fm (Count 𝓛 mem run) known to (and_then ! (load ! (from ! (stop !)) (look ! 2 refl)) (no_more !)) (λ u.
         use1 𝓛 (later (some (λ (r : ℕ). ((‵ (flft κ₀ q₀) ⊛ ‵ ftrue) ⊛ ‵ (usize.own_val r (u ∷ []))) ⊛ raw (ensured 𝓛 callee.ended (callee.clauses 𝓛 mem run) (κ₀, tt) args tt r)))) (id⊢ 𝓤 _) $ await ! tt $ pick ! (λ r.

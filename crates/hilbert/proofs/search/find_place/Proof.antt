@@ -35,8 +35,8 @@ inside c = omega arith
 row_room : (c : tie.In-loop-low invariant-loop-low decreases-loop-low) → (row_start c.before + length (start c.before).args.config.now ≤ length (start c.before).args.states.now) × (row_start c.before ≤ 2 ^ 20 * 63)
 row_room c =
     let s = start c.before in (
-      row_inside s.args.states.now s.args.n s.args.config.now s.args.free.now s.args.n_free s.pre (middle c.before) (inside c),
-      row_small s.args.states.now s.args.n s.args.config.now s.args.free.now s.args.n_free s.pre (middle c.before) (inside c),
+      row_inside s.args.states.now s.args.n s.args.config.now s.args.free.now s.args.n_free s.requires (middle c.before) (inside c),
+      row_small s.args.states.now s.args.n s.args.config.now s.args.free.now s.args.n_free s.requires (middle c.before) (inside c),
     )
 
 loop-low-init : tie.Need-loop-low-init invariant-loop-low decreases-loop-low
@@ -71,7 +71,7 @@ row_before-requires c κs =
     let at_loop = c.before.before in
     let s = start at_loop in
     rw (row_part s.args.states.now (length s.args.config.now) (middle at_loop))
-    (row_long s.args.states.now s.args.n s.args.config.now s.args.free.now s.args.n_free s.pre (middle at_loop) (inside c.before), s.pre.edges_few, s.pre.free_few, s.pre.free_fit)
+    (row_long s.args.states.now s.args.n s.args.config.now s.args.free.now s.args.n_free s.requires (middle at_loop) (inside c.before), s.requires.edges_few, s.requires.free_few, s.requires.free_fit)
 
 abbrev Tested : Type 0
 Tested = tie.After-row_before invariant-loop-low decreases-loop-low

@@ -55,7 +55,7 @@ loop-differ-preserved c =
     (⊎_elim
     (λ w. w.1 ∙ rw agrees at (one_more same.case_same.result now.differ w.0.taken))
     (λ w. w.1 ∙ rw agrees at (none_more same.case_same.result now.differ w.0.left))
-    c.before.if-not-case_same.branch)
+    c.before.if-not-case_same.branch-raw)
 
 -- no case is left
 all_walked : (c : tie.After-loop-differ invariant-loop-differ decreases-loop-differ) → replayed c.before.before.before.before.args.list.now ≡ cond (ends c.before.before.before.before.args.list.now c.before.before.loop-differ.at) (Cases c.before.before.loop-differ.cases c.before.before.loop-differ.differ) (Malformed c.before.before.loop-differ.at)

@@ -56,7 +56,7 @@ module _ (c : Chosen) (some : c.before.larger-low.result < c.smaller-high.result
       + (start.args.span.to - c.smaller-high.result) * length start.args.config.now ≡ (start.args.span.to - start.args.span.from) * length start.args.config.now
   parts =
       let s = start.args in
-      first_room s.config.now s.first.now s.second.now start.pre.0 start.pre.1 s.states-1.now s.at s.last start.pre.4 s.span.from s.span.to c.before.larger-low.result c.smaller-high.result over among some under ends start.pre.2 start.pre.3
+      first_room s.config.now s.first.now s.second.now start.requires.0 start.requires.1 s.states-1.now s.at s.last start.requires.4 s.span.from s.span.to c.before.larger-low.result c.smaller-high.result over among some under ends start.requires.2 start.requires.3
 
   low_high : (c.smaller-high.result - start.args.span.from) * length start.args.config.now
       ≡ (c.before.larger-low.result - start.args.span.from) * length start.args.config.now + (c.smaller-high.result - c.before.larger-low.result) * length start.args.config.now

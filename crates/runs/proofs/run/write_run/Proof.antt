@@ -65,7 +65,7 @@ module _ (c : tie.After-span_over-block invariant-loop-i decreases-loop-i) where
   spans : SpanOfBlock now_of.args.lambda now_of.args.width (with_cycle now_of.args.config.now (pos loop_of.loop-i.i) now_of.args.second.now) now_of.args.first.now c.span_over-block.result
   spans =
       let s = now_of.args in
-      block_spans s.lambda s.width s.config.now s.first.now s.second.now s.span.to now_of.pre.1 s.moved.now s.n_moved now_of.pre.3 s.span now_of.pre.2 loop_of.loop-i.i loop_of.loop-i.inv.1 high
+      block_spans s.lambda s.width s.config.now s.first.now s.second.now s.span.to now_of.requires.1 s.moved.now s.n_moved now_of.requires.3 s.span now_of.requires.2 loop_of.loop-i.i loop_of.loop-i.inv.1 high
       c.span_over-block.result (rw (added_none loop_of.loop-i.row s.second.now, loop_of.loop-i.inv.4) at c.span_over-block.ensures)
 
   abbrev states_to : ℕ → List (List ℤ)
@@ -79,7 +79,7 @@ module _ (c : tie.After-span_over-block invariant-loop-i decreases-loop-i) where
   all_room : now_of.args.at + length (states_to (loop_of.loop-i.i + 1)) * length now_of.args.config.now ≤ length now_of.args.states.now
   all_room =
       let s = now_of.args in
-      let enough = now_of.pre.7 in
+      let enough = now_of.requires.7 in
       let among = count_among s.lambda s.width s.config.now s.first.now s.second.now s.span.from loop_of.loop-i.i loop_of.loop-i.inv.1 c.span_over-block.result spans s.span.to high in
       omega (arith, mul-le-mul_right (length s.config.now) among)
 
@@ -128,9 +128,9 @@ span_over-block-requires c κs =
     let at_loop = c.before.before in
     let st = start at_loop in
     let s = st.args in
-    let fit = st.pre.1 in
+    let fit = st.requires.1 in
     let here : at_loop.loop-i.i < s.span.to = omega arith in (
-      rw at_loop.loop-i.invariant.3 (edges_listed s.first.now s.second.now 2 (length s.config.now) fit.edges_few s.moved.now s.n_moved st.pre.3),
+      rw at_loop.loop-i.invariant.3 (edges_listed s.first.now s.second.now 2 (length s.config.now) fit.edges_few s.moved.now s.n_moved st.requires.3),
       fit.first_long ∙ sym at_loop.loop-i.invariant.3,
       row_second at_loop here 0 (omega arith),
       (λ e. rw (added_none at_loop.loop-i.row s.second.now) (row_small at_loop here e)),
@@ -149,8 +149,8 @@ write_beside-requires c κs =
     let sp = c.before.before in
     let at_loop = loop_of sp in
     let st = start at_loop in
-    let few : sp.span_over-block.result.to ≤ 1048576 = omega (arith, (spans sp).bound, st.pre.1.wide) in
-    (row_first at_loop (high sp), row_second at_loop (high sp) 0 (omega arith), few, rw at_loop.loop-i.inv.3 (block_room sp), rw at_loop.loop-i.inv.6 at_loop.loop-i.inv.8, st.pre.4, st.pre.5, rw at_loop.loop-i.inv.3 st.pre.6)
+    let few : sp.span_over-block.result.to ≤ 1048576 = omega (arith, (spans sp).bound, st.requires.1.wide) in
+    (row_first at_loop (high sp), row_second at_loop (high sp) 0 (omega arith), few, rw at_loop.loop-i.inv.3 (block_room sp), rw at_loop.loop-i.inv.6 at_loop.loop-i.inv.8, st.requires.4, st.requires.5, rw at_loop.loop-i.inv.3 st.requires.6)
 
 size-count-requires : tie.Need-size-count-requires invariant-loop-i decreases-loop-i
 size-count-requires c κs = tt
@@ -164,14 +164,14 @@ overflow_add-count c =
       arith,
       c.size-count.ensures,
       more sp,
-      count_fits s.lambda s.width s.config.now s.first.now s.second.now s.span.from (loop_of sp).loop-i.i (loop_of sp).loop-i.invariant.1 sp.span_over-block.result (spans sp) s.span.to st.pre.1 (high sp),
+      count_fits s.lambda s.width s.config.now s.first.now s.second.now s.span.from (loop_of sp).loop-i.i (loop_of sp).loop-i.invariant.1 sp.span_over-block.result (spans sp) s.span.to st.requires.1 (high sp),
     )
 
 add-requires : tie.Need-add-requires invariant-loop-i decreases-loop-i
 add-requires c κs = let sp = c.before.before.before.before.before.before in row_second (loop_of sp) (high sp) 1 (omega arith)
 
 overflow_add-i : tie.Need-overflow_add-i invariant-loop-i decreases-loop-i
-overflow_add-i c = let few = (start c.before.before.before.before.before.before.before.before.before.before.before).pre.1.few in search rules
+overflow_add-i c = let few = (start c.before.before.before.before.before.before.before.before.before.before.before).requires.1.few in search rules
 
 loop-i-smaller : tie.Need-loop-i-smaller invariant-loop-i decreases-loop-i
 loop-i-smaller c = search rules
@@ -210,7 +210,7 @@ shape_of-states : tie.Need-shape_of-states invariant-loop-i decreases-loop-i
 shape_of-states c = c.before.loop-i.invariant.5
 
 shape_of-row : tie.Need-shape_of-row invariant-loop-i decreases-loop-i
-shape_of-row c = c.before.loop-i.invariant.3 ∙ sym (start c.before).pre.0
+shape_of-row c = c.before.loop-i.invariant.3 ∙ sym (start c.before).requires.0
 
 returns : tie.Need-returns invariant-loop-i decreases-loop-i
 returns c =

@@ -223,8 +223,8 @@ overflow_mul-count c =
     let count = at_loop.loop-left.count in
     let st = start at_loop in
     let s = st.args in
-    let few : count ≤ 2 ^ 40 = omega (arith, among c.before, states_counted s.free.now s.cycles.now s.lambda s.n_free s.config-1.now s.blocks st.pre.1) in
-    let edges = st.pre.1.cycles_fit.edges_few in
+    let few : count ≤ 2 ^ 40 = omega (arith, among c.before, states_counted s.free.now s.cycles.now s.lambda s.n_free s.config-1.now s.blocks st.requires.1) in
+    let edges = st.requires.1.cycles_fit.edges_few in
     let product = mul-le-mul_right (length s.config-1.now) few in
     search rules
 
@@ -252,7 +252,7 @@ write_run-count-requires c κs =
 overflow_add-count : tie.Need-overflow_add-count invariant-loop-left decreases-loop-left
 overflow_add-count c =
     let s = asked c.before.before.before.before.before.before.before.before in
-    omega (arith, c.before.before.write_run-count.ensures.count, among c.before.before.before.before.before.before.before.before, states_counted s.args.free.now s.args.cycles.now s.args.lambda s.args.n_free s.args.config.now s.args.blocks s.pre.1)
+    omega (arith, c.before.before.write_run-count.ensures.count, among c.before.before.before.before.before.before.before.before, states_counted s.args.free.now s.args.cycles.now s.args.lambda s.args.n_free s.args.config.now s.args.blocks s.requires.1)
 
 step-requires : tie.Need-step-requires invariant-loop-left decreases-loop-left
 step-requires c κs =
@@ -327,7 +327,7 @@ shape_of-states : tie.Need-shape_of-states invariant-loop-left decreases-loop-le
 shape_of-states c = c.before.loop-left.invariant.11
 
 shape_of-space : tie.Need-shape_of-space invariant-loop-left decreases-loop-left
-shape_of-space c = c.before.loop-left.invariant.12 ∙ c.before.loop-left.invariant.3 ∙ sym (start c.before).pre.0
+shape_of-space c = c.before.loop-left.invariant.12 ∙ c.before.loop-left.invariant.3 ∙ sym (start c.before).requires.0
 
 shape_of-config : tie.Need-shape_of-config invariant-loop-left decreases-loop-left
 shape_of-config c = c.before.loop-left.invariant.3

@@ -84,7 +84,7 @@ loop-j-init c =
     )
 
 bounds-free-j : tie.Need-bounds-free-j invariant-loop-j decreases-loop-j
-bounds-free-j c = omega (arith, (start c.before.before).pre.0.free_few)
+bounds-free-j c = omega (arith, (start c.before.before).requires.0.free_few)
 
 byte-requires : tie.Need-byte-requires invariant-loop-j decreases-loop-j
 byte-requires c κs = tt
@@ -168,7 +168,7 @@ loop-j-preserved c =
     let s = start at_loop in
     let m = length s.args.config.now in
     let j = at_loop.loop-j.j in
-    let fit = s.pre.0 in
+    let fit = s.requires.0 in
     let L = s.args.lambda in
     let z = row m s.args.cycles.now in
     let inside : j < 63 = omega (arith, fit.free_few) in

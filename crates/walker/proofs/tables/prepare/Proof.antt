@@ -54,7 +54,7 @@ returns c =
     let s = start made in
     let free = made.before.before.before.free_edges-free in
     let cycles = made.fundamental_cycles-cycles in
-    tables_walk s.args.c s.pre.0 s.args.lambda s.pre.1 free.result free.ensures cycles.result cycles.ensures c.before.begin.new.config c.before.begin.auto.0 c.before.begin.ensures
+    tables_walk s.args.c s.requires.0 s.args.lambda s.requires.1 free.result free.ensures cycles.result cycles.ensures c.before.begin.new.config c.before.begin.auto.0 c.before.begin.ensures
 
 pub prepare_spec : {M : Type 1} → statement M
 prepare_spec =
