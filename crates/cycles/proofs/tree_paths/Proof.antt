@@ -35,8 +35,8 @@ byte-requires-in-loop-i c κs = tt
 
 extend-requires : tie.Need-extend-requires invariant-loop-i decreases-loop-i
 extend-requires c κs =
-    let at_loop = c.before.before.before.before.before.before.before.before in
-    let start = at_loop.before in
+    let at_loop = c.before.before.before.before.before.before.before in
+    let start = at_loop in
     let more : at_loop.loop-i.i < start.args.tree.found = omega arith in
     let r = extend_ready start.args.c start.args.tree start.requires at_loop.loop-i.i more in
     rw (c.byte-in-loop-i.ensures, c.before.before.byte.ensures) (r.0, r.1, r.2, r.3, r.4, at_loop.loop-i.invariant.2.long)
@@ -49,8 +49,8 @@ loop-i-smaller c = search rules
 
 loop-i-preserved : tie.Need-loop-i-preserved invariant-loop-i decreases-loop-i
 loop-i-preserved c =
-    let at_loop = c.before.before.before.before.before.before.before.before.before in
-    let start = at_loop.before in
+    let at_loop = c.before.before.before.before.before.before.before.before in
+    let start = at_loop in
     let more : at_loop.loop-i.i < start.args.tree.found = omega arith in (
       omega arith,
       refl,

@@ -66,11 +66,10 @@ returns : tie.Need-returns
 returns c =
     let third = c.before.before in
     let second = c.before.before.before.before.before.before.before.before.before in
-    let first = c.before.before.before.before.before.before.before.before.before.before.before.before.before.before in
     let a = at-triangles c.before.before.before in
     let el = edges_long second in
     let tl = triangles_long third.before in
-    copied a.args.s el tl a.requires.edges a.requires.triangles _ _ _ _ _ first.before.header-first.ensures first.copy.ensures second.copy.ensures third.copy-3.ensures
+    copied a.args.s el tl a.requires.edges a.requires.triangles _ _ _ _ _ c.header-first.ensures c.copy.ensures c.copy-2.ensures c.copy-3.ensures
 
 pub write_bytes_spec : {M : Type 1} → statement M
 write_bytes_spec =
