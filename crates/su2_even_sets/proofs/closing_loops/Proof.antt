@@ -77,7 +77,7 @@ loop-e-preserved c =
     let es = simplices 2 r.edges r.n_edges in
     let one : get_or es e [] ≡ at_a.edge_start-a.result ∷ at_b.edge_end-b.result ∷ [] =
     simplex_at 2 r.edges r.n_edges e (omega arith) ∙ rw (at_a.edge_start-a.ensures, at_b.edge_end-b.ensures) in
-    let within = grown_within r.n_vertices es (searchable turn).ends e (rw (simplices_length 2 r.edges-1 r.n_edges) turn.before.loop-e.invariant.0) in (
+    let within = grown_within r.n_vertices es (searchable turn).ends e (rw (simplices_length 2 r.edges r.n_edges) turn.before.loop-e.invariant.0) in (
       omega arith,
       omega (arith, c.grow-count.ensures.few, turn.before.loop-e.invariant.1),
       rw (add-one e, one) (c.grow-count.ensures.keeps (grown es e) turn.before.loop-e.invariant.2 within),
