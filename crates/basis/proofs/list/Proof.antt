@@ -8,10 +8,10 @@ use borrow.Author.Rules.{rules}
 use Rattle.basis.proofs.list.Statement.{statement}
 use Rattle.basis.proofs.list.Tie as tie
 
-inside : (c : tie.In-Bytes) → c.before.n-1.given.0.0 ≤ length c.before.before.before.before.read_input.new.list
+inside : (c : tie.In-Bytes) → c.in-Bytes.n ≤ length c.before.before.before.before.read_input.new.list
 inside c =
     let read = c.before.before.before.before.read_input in
-    omega (arith, read.auto.1.0, read_inside _ _ read.result c.before.n-1.given.1 read.ensures)
+    omega (arith, read.auto.1.0, read_inside _ _ read.result c.in-Bytes.is read.ensures)
 
 slice_bounds-read_input-end : tie.Need-slice_bounds-read_input-end
 slice_bounds-read_input-end c = search rules

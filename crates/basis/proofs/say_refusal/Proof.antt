@@ -10,11 +10,11 @@ use Rattle.basis.proofs.say_refusal.Statement.{statement}
 use Rattle.basis.proofs.say_refusal.Tie as tie
 
 -- the sentence stands in the list
-inside : (c : tie.After-say-in-Number) → c.before.before.before.n-1.given.0.0 ≤ length c.before.before.before.before.before.before.refusal_text.new.text
+inside : (c : tie.After-say-in-Number) → c.in-Number.n ≤ length c.before.before.before.before.before.before.refusal_text.new.text
 unfolding number_answer
 inside c =
     let told = c.before.before.before.before.before.before.refusal_text in
-    omega (arith, told.auto.1.0, bytes_few _ _ _ _ (rw c.before.before.before.n-1.given.1 at told.ensures))
+    omega (arith, told.auto.1.0, bytes_few _ _ _ _ (rw c.in-Number.is at told.ensures))
 
 slice_bounds-say-end-in-Number-2 : tie.Need-slice_bounds-say-end-in-Number-2
 slice_bounds-say-end-in-Number-2 c = search rules

@@ -18,19 +18,19 @@ enum_told-in-Failed c = search rules
 
 returns-in-Answered : tie.Need-returns-in-Answered
 unfolding status_digit
-returns-in-Answered c = sym (ap status_digit c.enum_told-1.given.1)
+returns-in-Answered c = sym (ap status_digit c.in-Answered.is)
 
 returns-in-Refused : tie.Need-returns-in-Refused
 unfolding status_digit
-returns-in-Refused c = sym (ap status_digit c.enum_told-in-Refused-1.given.1)
+returns-in-Refused c = sym (ap status_digit c.in-Refused.is)
 
 returns-in-WrongUsage : tie.Need-returns-in-WrongUsage
 unfolding status_digit
-returns-in-WrongUsage c = sym (ap status_digit c.enum_told-in-WrongUsage-1.given.1)
+returns-in-WrongUsage c = sym (ap status_digit c.in-WrongUsage.is)
 
 returns-in-Failed : tie.Need-returns-in-Failed
 unfolding status_digit
-returns-in-Failed c = sym (ap status_digit c.enum_told-in-Failed-1.given.1)
+returns-in-Failed c = sym (ap status_digit c.in-Failed.is)
 
 pub status_digit_spec : {M : Type 1} → statement M
 status_digit_spec =

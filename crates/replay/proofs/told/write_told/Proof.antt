@@ -26,7 +26,7 @@ returns-in-Cases : tie.Need-returns-in-Cases
 unfolding replayed_text
 returns-in-Cases c =
     let known = c.before.before.before.before.before in
-    rw (sym known.before.before.replay-told.ensures ∙ known.told-1.given.1) c.before.before.write_cases.ensures
+    rw (sym known.before.before.replay-told.ensures ∙ known.in-Cases.is) c.before.before.write_cases.ensures
 
 shape_of-out-in-Malformed : tie.Need-shape_of-out-in-Malformed
 shape_of-out-in-Malformed c = search rules
@@ -35,7 +35,7 @@ returns-in-Malformed : tie.Need-returns-in-Malformed
 unfolding replayed_text
 returns-in-Malformed c =
     let known = c.before.before.before.before.before in
-    rw (sym known.before.before.replay-told.ensures ∙ known.told-in-Malformed-1.given.1) c.before.before.write_malformed.ensures
+    rw (sym known.before.before.replay-told.ensures ∙ known.in-Malformed.is) c.before.before.write_malformed.ensures
 
 pub write_told_spec : {M : Type 1} → statement M
 write_told_spec =
