@@ -49,8 +49,8 @@ slice_bounds-write_row-count c = search rules
 slice_bounds-write_row-start : tie.Need-slice_bounds-write_row-start invariant-loop-i decreases-loop-i
 slice_bounds-write_row-start c = search rules
 
-slice_bounds-write_row-end : tie.Need-slice_bounds-write_row-end invariant-loop-i decreases-loop-i
-slice_bounds-write_row-end c = search rules
+slice_bounds-write_row-end-in-loop-i : tie.Need-slice_bounds-write_row-end-in-loop-i invariant-loop-i decreases-loop-i
+slice_bounds-write_row-end-in-loop-i c = search rules
 
 write_row-requires : tie.Need-write_row-requires invariant-loop-i decreases-loop-i
 write_row-requires c κs =
@@ -98,9 +98,6 @@ returns c =
     let all : at_loop.loop-i.i ≡ s.args.rows = omega arith in
     beside_is s.args.cycle.now (replicate 256 (pos 0)) at_loop.loop-i.beside s.args.rows at_loop.loop-i.invariant.3
     (at_loop.loop-i.invariant.4 ∙ ap (λ k. put (replicate 256 (pos 0)) 0 (repeated s.args.cycle.now k)) all)
-
-slice_bounds-write_row-end-in-loop-i : tie.Need-slice_bounds-write_row-end-in-loop-i invariant-loop-i decreases-loop-i
-slice_bounds-write_row-end-in-loop-i c = search rules
 
 pub rows_beside_spec : {M : Type 1} → statement M
 rows_beside_spec =

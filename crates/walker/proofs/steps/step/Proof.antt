@@ -156,8 +156,8 @@ add-requires-in-loop-j c κs =
     let few : nat_abs (to_z w32 (of_z w32 at_loop.before.negative-back.result)) ≤ 2000 = rw at_loop.loop-j.invariant.2 (back_small (start at_loop).args.lambda (start at_loop).requires.0.truncation) in
     rw (part at_loop.loop-j.j (length (start at_loop).args.config.now)) (addable at_loop (omega arith) _ (omega arith))
 
-overflow_add-j : tie.Need-overflow_add-j invariant-loop-j decreases-loop-j
-overflow_add-j c = search rules
+overflow_add-j-in-loop-j-2 : tie.Need-overflow_add-j-in-loop-j-2 invariant-loop-j decreases-loop-j
+overflow_add-j-in-loop-j-2 c = search rules
 
 loop-j-smaller : tie.Need-loop-j-smaller invariant-loop-j decreases-loop-j
 loop-j-smaller c = search rules
@@ -204,9 +204,6 @@ slice_bounds-add-start-in-loop-j c = search rules
 
 slice_bounds-add-end-in-loop-j : tie.Need-slice_bounds-add-end-in-loop-j invariant-loop-j decreases-loop-j
 slice_bounds-add-end-in-loop-j c = search rules
-
-overflow_add-j-in-loop-j-2 : tie.Need-overflow_add-j-in-loop-j-2 invariant-loop-j decreases-loop-j
-overflow_add-j-in-loop-j-2 c = search rules
 
 pub step_spec : {M : Type 1} → statement M
 step_spec =
