@@ -154,7 +154,8 @@ span_at loops (suc n) k h = go (span_at loops n) (dec_lt k (2 ^ n))
         let i = k - 2 ^ n in
         let e : k ≡ 2 ^ n + i = omega arith in
         let l : i < 2 ^ n = omega (arith, pow-suc 2 n) in
-        rw e (span_upper loops n i l ∙ ap (λ (x : ℕ). bit_xor x (get_or loops n 0)) (ih i l) ∙ sym (combined_upper loops n i l))
+        let P : ℕ → Type 0 = λ x. get_or (loop_sums loops (suc n)) x 0 ≡ sum_of_loops loops x (suc n) in
+        subst P (sym e) (span_upper loops n i l ∙ ap (λ (x : ℕ). bit_xor x (get_or loops n 0)) (ih i l) ∙ sym (combined_upper loops n i l))
 
 -- ---- the bits at the closing edges
 pub bits_below : (closing : List ℕ) (x n : ℕ) → closing_bits closing x n < 2 ^ n

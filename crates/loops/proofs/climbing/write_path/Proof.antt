@@ -164,7 +164,7 @@ direction-requires-else-parents-y : tie.Need-direction-requires-else-parents-y i
 direction-requires-else-parents-y c κs = rw c.byte-else-parents-y-2.ensures (down_edge (down-from c.before.before.before))
 
 abbrev down-directed : tie.After-direction-else-parents-y invariant-loop-x decreases-loop-x → tie.After-across-y invariant-loop-x decreases-loop-x
-down-directed c = c.before.before.before.before
+down-directed c = c.before.before.before
 
 bounds-directions-back : tie.Need-bounds-directions-back invariant-loop-x decreases-loop-x
 bounds-directions-back c = let r = room (down_turn (down-from (down-directed c))) in omega (arith, r.some, r.directions)

@@ -88,7 +88,7 @@ loop-j-preserved c =
       omega arith,
       refl,
       at_loop.loop-j.invariant.2,
-      c.before.add.auto.0 ∙ at_loop.loop-j.invariant.3,
+      c.before.add.auto.config ∙ at_loop.loop-j.invariant.3,
       made ∙ ap (λ s. with_cycle s (neg_ℤ (pos start.args.lambda)) (row m cycles j)) at_loop.loop-j.invariant.4 ∙ sym (combined_next (row m cycles) (λ i. neg_ℤ (pos start.args.lambda)) start.args.config.now j),
       λ i.
           rw made

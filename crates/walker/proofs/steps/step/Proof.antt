@@ -144,11 +144,7 @@ overflow_add-j-in-loop-j c = search rules
 slice_bounds-add-count-in-loop-j : tie.Need-slice_bounds-add-count-in-loop-j invariant-loop-j decreases-loop-j
 slice_bounds-add-count-in-loop-j c = search rules
 
-part-add-start-2 : tie.Need-slice-bounds-add-start-2 invariant-loop-j decreases-loop-j
-part-add-start-2 c = search rules
 
-part-add-end-2 : tie.Need-slice-bounds-add-end-2 invariant-loop-j decreases-loop-j
-part-add-end-2 c = search rules
 
 add-requires-in-loop-j : tie.Need-add-requires-in-loop-j invariant-loop-j decreases-loop-j
 add-requires-in-loop-j c κs =
@@ -176,7 +172,7 @@ loop-j-preserved c =
       refl,
       at_loop.loop-j.invariant.1,
       at_loop.loop-j.invariant.2,
-      c.before.add-in-loop-j.auto.0 ∙ at_loop.loop-j.invariant.3,
+      c.before.add-in-loop-j.auto.config ∙ at_loop.loop-j.invariant.3,
       ap (stepped s.args.free.now z L (s.args.n_free - (j + 1)) (j + 1)) made
           ∙ sym (step_on s.args.free.now z L s.args.n_free j at_loop.loop-j.config (omega arith) (test c.before.before.before.before.before false c.before.before.before.before.if-x-top.false))
           ∙ at_loop.loop-j.invariant.4,
