@@ -43,7 +43,7 @@ first_state-requires c κs =
     let step = c.before.before.before.before.before.step in
     let z = row (length s.config.now) s.cycles.now 0 in
     let states = block_passed s.free.now s.cycles.now s.lambda s.n_free s.config.now s.c.left start.requires.0.walkable start.requires.1 step.new.config step.ensures s.c.d s.c.to in
-    (walkable_next s.free.now s.cycles.now s.lambda s.n_free s.config.now s.c.left start.requires.0.walkable start.requires.1 step.new.c step.ensures, numbers_on s.c.number (s.c.to - s.c.d) _ (block_rows s.config.now z s.c.d s.c.to) _ (rows_length s.config.now z s.c.d s.c.to) states start.requires.0.numbers)
+    (walkable_next s.free.now s.cycles.now s.lambda s.n_free s.config.now s.c.left start.requires.0.walkable start.requires.1 step.new.config step.ensures, numbers_on s.c.number (s.c.to - s.c.d) _ (block_rows s.config.now z s.c.d s.c.to) _ (rows_length s.config.now z s.c.d s.c.to) states start.requires.0.numbers)
 
 shape_of-config : tie.Need-shape_of-config
 shape_of-config c = search rules

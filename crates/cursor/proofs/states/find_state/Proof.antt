@@ -124,7 +124,7 @@ add-requires c κs =
     let made = c.before.before in
     let at_loop = loop_of made in
     let s = (start at_loop).args in
-    let r = row_ready s.free.now s.cycles.now s.lambda s.n_free at_loop.loop-c.config at_loop.loop-c.c.left at_loop.loop-c.inv.1.walkable (more at_loop) in
+    let r = row_ready s.free.now s.cycles.now s.lambda s.n_free at_loop.loop-c.config at_loop.loop-c.c.left at_loop.loop-c.invariant.1.walkable (more at_loop) in
     let h = low at_loop in
     let f = few at_loop in
     rw (times made) (record { sized = r.sized; values = r.values; times = omega arith; signs = r.signs })
@@ -140,11 +140,11 @@ returns c =
     let at_loop = loop_of made in
     let s = (start at_loop).args in
     let first = at_loop.before.before.first_state-c in
-    let standing = at_loop.loop-c.inv.1 in
+    let standing = at_loop.loop-c.invariant.1 in
     let here = at_loop.loop-c.c in
     (rw (times made) at c.before.add.ensures)
     ∙ row_is s.free.now s.cycles.now s.lambda s.n_free at_loop.loop-c.config here.left standing.walkable (more at_loop) (here.d + (s.place - here.number))
-    ∙ sym (found s.free.now s.cycles.now s.lambda s.n_free _ at_loop.loop-c.config here at_loop.loop-c.inv.2 standing (more at_loop) s.place at_loop.loop-c.inv.3 (omega arith))
+    ∙ sym (found s.free.now s.cycles.now s.lambda s.n_free _ at_loop.loop-c.config here at_loop.loop-c.invariant.2 standing (more at_loop) s.place at_loop.loop-c.invariant.3 (omega arith))
     ∙ ap (λ l. get_or l s.place []) first.ensures.states
 
 pub find_state_spec : {M : Type 1} → statement M

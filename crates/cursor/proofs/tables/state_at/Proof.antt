@@ -30,7 +30,7 @@ returns c =
     let w = s.args.w in
     let found = c.before.find_state in
     let long = found.auto.config ∙ ap length (begin_part w) ∙ s.requires.0.sized in
-    (anew_long found.new.config w.first w.n_edges long s.requires.0.edges s.requires.0.space-1, take_at found.new.config _ w.n_edges long ∙ (rw (begin_part w, s.requires.0.sized) at found.ensures))
+    (anew_long found.new.config w.first w.n_edges long s.requires.0.edges s.requires.0.space, take_at found.new.config _ w.n_edges long ∙ (rw (begin_part w, s.requires.0.sized) at found.ensures))
 
 pub state_at_spec : {M : Type 1} → statement M
 state_at_spec =

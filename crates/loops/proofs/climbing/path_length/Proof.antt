@@ -73,7 +73,7 @@ loop-x-smaller-then-parents-y c = let q = (climbed c).shorter in omega arith
 
 loop-x-preserved-then-parents-y : tie.Need-loop-x-preserved-then-parents-y invariant-loop-x decreases-loop-x
 loop-x-preserved-then-parents-y c =
-    let inv = (at_loop (up_turn (up_from c))).loop-x.inv in
+    let inv = (at_loop (up_turn (up_from c))).loop-x.invariant in
     let q = (climbed c).shorter in
     ((climbed c).below, inv.1, omega (arith, inv.2))
 
@@ -109,7 +109,7 @@ loop-x-smaller c = let q = (reached c).shorter in omega arith
 
 loop-x-preserved : tie.Need-loop-x-preserved invariant-loop-x decreases-loop-x
 loop-x-preserved c =
-    let inv = (at_loop (down_turn (down-from c))).loop-x.inv in
+    let inv = (at_loop (down_turn (down-from c))).loop-x.invariant in
     let q = (reached c).shorter in
     (inv.0, (reached c).below, omega (arith, inv.2))
 

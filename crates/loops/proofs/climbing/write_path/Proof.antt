@@ -120,7 +120,7 @@ way_up c = back8 c.direction.result c.direction.type_inv ∙ (rw c.before.byte.e
 
 loop-x-preserved-then-parents-y : tie.Need-loop-x-preserved-then-parents-y invariant-loop-x decreases-loop-x
 loop-x-preserved-then-parents-y c =
-    let inv = (at_loop (up_turn (up_from c))).loop-x.inv in
+    let inv = (at_loop (up_turn (up_from c))).loop-x.invariant in
     let q = (climbed c).shorter in (
       (climbed c).below,
       inv.1,
@@ -187,13 +187,13 @@ way_down c = back8 c.direction-else-parents-y.result c.direction-else-parents-y.
 last_place : (c : tie.After-across-y invariant-loop-x decreases-loop-x)
     → let turn = down_turn (down-from c) in
     (at_loop turn).loop-x.back - 1 ≡ (at_loop turn).loop-x.front + length (path (complex_of (start turn).args.c) (at_loop turn).loop-x.x c.across-y.result)
-last_place c = let q = (reached c).shorter in omega (arith, (at_loop (down_turn (down-from c))).loop-x.inv.2)
+last_place c = let q = (reached c).shorter in omega (arith, (at_loop (down_turn (down-from c))).loop-x.invariant.2)
 
 loop-x-preserved : tie.Need-loop-x-preserved invariant-loop-x decreases-loop-x
 loop-x-preserved c =
     let d = reached (down-directed c) in
     let k = last_place (down-directed c) in
-    let inv = (at_loop (down_turn (down-from (down-directed c)))).loop-x.inv in (
+    let inv = (at_loop (down_turn (down-from (down-directed c)))).loop-x.invariant in (
       inv.0,
       d.below,
       k,

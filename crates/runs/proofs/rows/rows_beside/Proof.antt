@@ -54,7 +54,7 @@ slice_bounds-write_row-end-in-loop-i c = search rules
 
 write_row-requires : tie.Need-write_row-requires invariant-loop-i decreases-loop-i
 write_row-requires c κs =
-    let at_loop = c.before.before.before.before in
+    let at_loop = c.before.before.before in
     let s = at_loop in
     let z = s.args.cycle.now in
     let more = room at_loop (omega arith) in
@@ -64,7 +64,7 @@ write_row-requires c κs =
     (zeros_addable z s.requires.0, omega arith, fits)
 
 overflow_add-place : tie.Need-overflow_add-place invariant-loop-i decreases-loop-i
-overflow_add-place c = let more = room c.before.before.before.before.before.before (omega arith) in search rules
+overflow_add-place c = let more = room c.before.before.before.before.before (omega arith) in search rules
 
 overflow_add-i : tie.Need-overflow_add-i invariant-loop-i decreases-loop-i
 overflow_add-i c = search rules
