@@ -1,5 +1,4 @@
 -- Each arm: the text is the table's sentence. No other number has one.
-
 use mathlib.Core.Path.{refl}
 use Rattle.mathematics.specs.Lists.{listed}
 use Rattle.answers.specs.Answer.{number_answer}
