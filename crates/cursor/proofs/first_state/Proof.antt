@@ -110,7 +110,7 @@ returns : tie.Need-returns invariant-loop-left decreases-loop-left
 returns c = let at_loop = c.before in
     let s = (start at_loop).args in
     let none : at_loop.loop-left.left ≡ 0 = omega arith in
-    let states = behind s.free.now s.cycles.now s.lambda s.n_free at_loop.loop-left.config s.config-1.now at_loop.loop-left.left s.blocks none at_loop.loop-left.invariant.4 in
+    let states = behind s.free.now s.cycles.now s.lambda s.n_free at_loop.loop-left.config s.config.now at_loop.loop-left.left s.blocks none at_loop.loop-left.invariant.4 in
     record {
       standing =
           record {

@@ -94,7 +94,7 @@ returns-then-to-from c =
     let s = c.before.args in
     let none : s.span.to - s.span.from ≡ 0 = omega arith in
     let empty = between_none (λ i. block s.lambda s.width (with_cycle s.config.now (pos i) s.second.now) s.first.now) s.span.from s.span.to none in
-    record { count = sym (ap length empty); list = rw empty (sym (put_none s.states-1.now s.at)) }
+    record { count = sym (ap length empty); list = rw empty (sym (put_none s.states.now s.at)) }
 
 fill_row-requires : tie.Need-fill_row-requires invariant-loop-i decreases-loop-i
 fill_row-requires c κs =
@@ -115,12 +115,12 @@ loop-i-init c =
       refl,
       omega arith,
       omega arith,
-      fill.auto.0 ∙ start.requires.0,
+      fill.auto.row ∙ start.requires.0,
       fill.ensures,
       refl,
       sym (ap length empty),
-      rw empty (sym (put_none s.states-1.now s.at)),
-      rw (empty, first_place) (none_behind s.states-1.now s.at _ s.first.now (omega arith)),
+      rw empty (sym (put_none s.states.now s.at)),
+      rw (empty, first_place) (none_behind s.states.now s.at _ s.first.now (omega arith)),
     )
 
 span_over-block-requires : tie.Need-span_over-block-requires invariant-loop-i decreases-loop-i

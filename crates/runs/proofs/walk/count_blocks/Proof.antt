@@ -82,12 +82,12 @@ loop-left-init c =
       c.before.before.before.before.before.before.before.before.before.width-n.ensures,
       c.before.before.before.before.before.before.before.before.run_width-wide.ensures,
       refl,
-      first_part free cycles s.lambda s.n_free s.config-1.now s.blocks fit,
-      second_part free cycles s.lambda s.n_free s.config-1.now s.blocks fit,
+      first_part free cycles s.lambda s.n_free s.config.now s.blocks fit,
+      second_part free cycles s.lambda s.n_free s.config.now s.blocks fit,
       fit,
       start.requires.1,
-      edges_here free cycles s.lambda s.n_free s.config-1.now s.blocks fit c.before.before.before.before.before.edges_of-still.ensures,
-      edges_here free cycles s.lambda s.n_free s.config-1.now s.blocks fit c.before.before.before.edges_of-side.ensures,
+      edges_here free cycles s.lambda s.n_free s.config.now s.blocks fit c.before.before.before.before.before.edges_of-still.ensures,
+      edges_here free cycles s.lambda s.n_free s.config.now s.blocks fit c.before.before.before.edges_of-side.ensures,
       edges_here free cycles s.lambda s.n_free s.config-1.now s.blocks fit c.before.edges_of-moved.ensures,
       omega arith,
     )
@@ -126,7 +126,7 @@ count_run-count-requires c κs =
 
 -- the states of the run are among all
 counted : (c : tie.After-count_run-count invariant-loop-left decreases-loop-left)
-    → c.before.before.before.before.before.before.before.before.before.loop-left.count + c.count_run-count.result ≤ length (walked_states (start c.before.before.before.before.before.before.before.before.before).args.free.now (row (length (start c.before.before.before.before.before.before.before.before.before).args.config.now) (start c.before.before.before.before.before.before.before.before.before).args.cycles.now) (start c.before.before.before.before.before.before.before.before.before).args.lambda (start c.before.before.before.before.before.before.before.before.before).args.n_free (start c.before.before.before.before.before.before.before.before.before).args.config.now (start c.before.before.before.before.before.before.before.before.before).args.blocks)
+    → c.before.before.before.before.before.before.before.loop-left.count + c.count_run-count.result ≤ length (walked_states (start c.before.before.before.before.before.before.before.before.before).args.free.now (row (length (start c.before.before.before.before.before.before.before.before.before).args.config.now) (start c.before.before.before.before.before.before.before.before.before).args.cycles.now) (start c.before.before.before.before.before.before.before.before.before).args.lambda (start c.before.before.before.before.before.before.before.before.before).args.n_free (start c.before.before.before.before.before.before.before.before.before).args.config.now (start c.before.before.before.before.before.before.before.before.before).args.blocks)
 counted c =
     let at_loop = c.before.before.before.before.before.before.before.before.before in
     let s = (start at_loop).args in

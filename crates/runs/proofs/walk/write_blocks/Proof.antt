@@ -84,8 +84,8 @@ rows_beside-beside-requires c κs =
     let start = c.before.before.before.before.before in
     let s = start.args in
     let fit = start.requires.1.cycles_fit in
-    let m = length s.config-1.now in
-    let is = second_part s.free.now s.cycles.now s.lambda s.n_free s.config-1.now s.blocks start.requires.1 in
+    let m = length s.config.now in
+    let is = second_part s.free.now s.cycles.now s.lambda s.n_free s.config.now s.blocks start.requires.1 in
     let long = cycle_long m s.n_free s.lambda s.cycles.now fit 1 (omega arith) in
     let chosen = c.rows_at_once-rows.ensures in
     rw is (cycle_signs m s.n_free s.lambda s.cycles.now fit 1 (omega arith), rw long chosen.0, rw long fit.edges_few, chosen.1)
@@ -95,8 +95,8 @@ rows_beside-one-requires c κs =
     let start = c.before.before.before.before.before.before in
     let s = start.args in
     let fit = start.requires.1.cycles_fit in
-    let m = length s.config-1.now in
-    let is = first_part s.free.now s.cycles.now s.lambda s.n_free s.config-1.now s.blocks start.requires.1 in
+    let m = length s.config.now in
+    let is = first_part s.free.now s.cycles.now s.lambda s.n_free s.config.now s.blocks start.requires.1 in
     let long = cycle_long m s.n_free s.lambda s.cycles.now fit 0 (omega arith) in
     let few = fit.edges_few in
     rw is (cycle_signs m s.n_free s.lambda s.cycles.now fit 0 (omega arith), rw long (omega arith), rw long few, omega arith)
@@ -109,27 +109,27 @@ slice_bounds-ahead-start c = search rules
 
 slice_bounds-ahead-end : tie.Need-slice_bounds-ahead-end invariant-loop-left decreases-loop-left
 slice_bounds-ahead-end c =
-    let few = c.before.before.before.before.before.before.before.before.requires.1.cycles_fit.edges_few in
-    let long = c.before.rows_beside-one.ensures.long in
+    let few = c.before.before.before.before.before.before.before.requires.1.cycles_fit.edges_few in
+    let long = c.rows_beside-one.ensures.long in
     search rules
 
 edges_of-still-requires : tie.Need-edges_of-still-requires invariant-loop-left decreases-loop-left
-edges_of-still-requires c κs = let s = c.before.before.before.before.before.before.before.before.before in parts_ask s.args.free.now s.args.cycles.now s.args.lambda s.args.n_free s.args.config.now s.args.blocks s.requires.1
+edges_of-still-requires c κs = let s = c.before.before.before.before.before.before.before.before in parts_ask s.args.free.now s.args.cycles.now s.args.lambda s.args.n_free s.args.config.now s.args.blocks s.requires.1
 
 edges_of-side-requires : tie.Need-edges_of-side-requires invariant-loop-left decreases-loop-left
-edges_of-side-requires c κs = let s = c.before.before.before.before.before.before.before.before.before.before.before in parts_ask s.args.free.now s.args.cycles.now s.args.lambda s.args.n_free s.args.config.now s.args.blocks s.requires.1
+edges_of-side-requires c κs = let s = c.before.before.before.before.before.before.before.before.before.before in parts_ask s.args.free.now s.args.cycles.now s.args.lambda s.args.n_free s.args.config.now s.args.blocks s.requires.1
 
 edges_of-moved-requires : tie.Need-edges_of-moved-requires invariant-loop-left decreases-loop-left
-edges_of-moved-requires c κs = let s = c.before.before.before.before.before.before.before.before.before.before.before.before.before in parts_ask s.args.free.now s.args.cycles.now s.args.lambda s.args.n_free s.args.config.now s.args.blocks s.requires.1
+edges_of-moved-requires c κs = let s = c.before.before.before.before.before.before.before.before.before.before.before.before in parts_ask s.args.free.now s.args.cycles.now s.args.lambda s.args.n_free s.args.config.now s.args.blocks s.requires.1
 
 loop-left-init : tie.Need-loop-left-init invariant-loop-left decreases-loop-left
 loop-left-init c =
-    let start = c.before.before.before.before.before.before.before.before.before.before.before.before.before.before.before in
+    let start = c.before.before.before.before.before.before.before.before.before.before.before.before.before.before in
     let s = start.args in
     let fit = start.requires.1 in
     let free = s.free.now in
     let cycles = s.cycles.now in
-    let chosen = c.before.before.before.before.before.before.before.before.before.before.rows_at_once-rows.ensures in
+    let chosen = c.before.before.before.before.before.before.before.before.before.rows_at_once-rows.ensures in
     let none = written_none (walked_states free (row (length s.config-1.now) cycles) s.lambda s.n_free s.config-1.now s.blocks) 0 (length s.config-1.now) s.states-1.now refl in (
       omega arith,
       c.before.before.before.before.before.before.before.before.before.before.before.before.before.before.width-n.ensures,
@@ -160,7 +160,7 @@ abbrev Loop : Type 0
 Loop = tie.At-loop-left invariant-loop-left decreases-loop-left
 
 abbrev start : Loop → tie.Start invariant-loop-left decreases-loop-left
-start c = c.before.before.before.before.before.before.before.before.before.before.before.before.before.before.before.before
+start c = c.before.before.before.before.before.before.before.before.before.before.before.before.before.before.before
 
 -- the run
 run_is : (c : tie.After-smaller-run invariant-loop-left decreases-loop-left) → c.smaller-run.result ≡ min c.before.before.loop-left.left (width (start c.before.before).args.lambda ((start c.before.before).args.n_free - 1))
@@ -170,7 +170,7 @@ run_is c = c.smaller-run.ensures ∙ ap (min c.before.before.loop-left.left) c.b
 abbrev all : Loop → List (List ℤ)
 all c =
     let s = (start c).args in
-    walked_states s.free.now (row (length s.config-1.now) s.cycles.now) s.lambda s.n_free s.config-1.now s.blocks
+    walked_states s.free.now (row (length s.config.now) s.cycles.now) s.lambda s.n_free s.config.now s.blocks
 
 all_room : (c : Loop) → length (all c) * length c.loop-left.config ≤ length c.loop-left.states
 all_room c = rw (c.loop-left.invariant.3, c.loop-left.invariant.11) (start c).requires.3
@@ -219,7 +219,7 @@ run_span-span-requires c κs =
 
 overflow_mul-count : tie.Need-overflow_mul-count invariant-loop-left decreases-loop-left
 overflow_mul-count c =
-    let at_loop = c.before.before.before.before.before.before.before in
+    let at_loop = c.before.before.before.before.before.before in
     let count = at_loop.loop-left.count in
     let st = start at_loop in
     let s = st.args in
@@ -349,7 +349,7 @@ returns c =
     ) in
     record {
       count = end;
-      list = at_loop.loop-left.invariant.19 ∙ ap (λ l. put s.states-1.now 0 (flatten l)) (take_all at_loop.loop-left.count (all at_loop) (omega (arith, end)));
+      list = at_loop.loop-left.invariant.19 ∙ ap (λ l. put s.states.now 0 (flatten l)) (take_all at_loop.loop-left.count (all at_loop) (omega (arith, end)));
     }
 
 pub write_blocks_spec : {M : Type 1} → statement M
