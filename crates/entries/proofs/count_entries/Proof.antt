@@ -31,7 +31,7 @@ all_sides-all-requires c κs = (accepted _).1 (basis c).walks.accepted
 
 count_rows-entries-requires : tie.Need-count_rows-entries-requires
 count_rows-entries-requires c κs =
-    let of = basis c.before.before in
+    let of = basis c.before.before.before in
     (of.fit, all_countable _ of.walks.accepted _ of.truncation _ c.before.all_sides-all.ensures _ of.listed _ (sym (triangles_long c.before.before.before.before.args.c)) of.few)
 
 returns : tie.Need-returns
@@ -39,7 +39,7 @@ unfolding entries_call number_answer
 returns c =
     let made = c.before.before in
     let judged = made.before in
-    let of = basis judged in
+    let of = basis judged.before in
     let right = of.walks.accepted in
     ends (entries_call _ _) (past_basis judged.before.prepare_basis-basis.ensures judged.if-number-ne0.false none)
     (c.count_rows-entries.ensures ∙ counted_entries _ right _ of.truncation _ made.all_sides-all.ensures _ of.listed _ (sym (triangles_long judged.before.before.args.c)))

@@ -104,7 +104,7 @@ judged_so_far : (c : tie.Else-not-all_bounded) {k : ℕ} → Tells ((15, short (
 judged_so_far c t =
     let fits = c.before.before in
     let long = measured c in
-    past_basis (judged long).before.prepare_basis-basis.ensures (judged long).if-number-ne0.left (past (lengths long.before ∙ long.if-amplitudes-n.left) (past (rw (steps fits.before ∙ not-false _ (ap not fits.if-not-path_right.false))) (past (rw (sym c.before.all_bounded.ensures ∙ not-false _ (ap not c.if-not-all_bounded.false))) t)))
+    past_basis (judged long).before.prepare_basis-basis.ensures (judged long).if-number-ne0.false (past (lengths long.before ∙ long.if-amplitudes-n.false) (past (rw (steps fits.before ∙ not-false _ (ap not fits.if-not-path_right.false))) (past (rw (sym c.before.all_bounded.ensures ∙ not-false _ (ap not c.if-not-all_bounded.false))) t)))
 
 overflow_mul-n : tie.Need-overflow_mul-n
 overflow_mul-n c = let h = few c in search rules
@@ -121,9 +121,9 @@ write_states-requires c κs =
 
 wilson_sum-requires : tie.Need-wilson_sum-requires
 wilson_sum-requires c κs =
-    let listed = c.before.before.before in
-    let right = listed.before.before.before.before in
-    let long = measured right in
+    let listed = c.before in
+    let right = listed.before.before.before in
+    let long = measured right.before.before in
     let b = basis (judged long) in
     let fits = right.before.before in (
       record {
@@ -131,7 +131,7 @@ wilson_sum-requires c κs =
         basis = basis_listed _ _ _ _ b _ _ _ listed.write_states.ensures _ refl;
         one_each = (as_many long).0 ∙ long.before.count_states-n.ensures ∙ sym listed.write_states.ensures.count;
       },
-      rw b.walks.edges (path_fits _ _ _ (as_many long).1 (steps fits.before ∙ not-false _ (ap not fits.if-not-path_right.false))),
+      rw b.walks.edges (path_fits _ _ _ (as_many long).1 (steps fits.before.before.before ∙ not-false _ (ap not fits.if-not-path_right.false))),
     )
 
 shape_of-states : tie.Need-shape_of-states
@@ -141,10 +141,10 @@ returns : tie.Need-returns
 unfolding wilson_call expectation_answer
 returns c =
     let listed = c.before.before.before.before in
-    let enough = listed.before.before.before in
-    let right = enough.before in
-    let b = basis (judged (measured right)) in
-    ends _ (judged_so_far right (past (shortage right ∙ le-ltb _ _ enough.if-states-n.false) none))
+    let enough = listed.before.before in
+    let right = enough in
+    let b = basis (judged (measured right.before)) in
+    ends _ (judged_so_far right.before (past (shortage right.before ∙ le-ltb _ _ enough.if-states-n.false) none))
     (c.wilson_sum.ensures _ (basis_listed _ _ _ _ b _ _ _ listed.write_states.ensures _ refl))
     (basis_written _ _ _ _ b _ _ _ listed.write_states.ensures).1 tt
 

@@ -216,21 +216,21 @@ slice_bounds-advance-start c = search rules
 
 slice_bounds-advance-end : tie.Need-slice_bounds-advance-end invariant-loop-k decreases-loop-k invariant-states decreases-states
 slice_bounds-advance-end c =
-    let few = edges_few _ _ _ _ (start (outer c.before.before)).requires.0.basis in
-    let long = c.before.before.loop-k.invariant.3.long in
+    let few = edges_few _ _ _ _ (start (outer c.before)).requires.0.basis in
+    let long = c.before.loop-k.invariant.3.long in
     search rules
 
 advance-from-requires : tie.Need-advance-from-requires invariant-loop-k decreases-loop-k invariant-states decreases-states
 advance-from-requires c κs =
-    let over = c.before.before in
+    let over = c.before in
     let begun = start (outer over.before) in
     (rw (sub-zero begun.args.s.edges) (list_rows _ _ _ _ begun.requires.0.basis (config over) (config_long over)), (outer over.before).states.invariant.1)
 
 -- the place of what was reached
-found : (c : tie.After-advance-from invariant-loop-k decreases-loop-k invariant-states decreases-states) (complex : Complex) → Basis c.before.before.before complex → c.advance-from.result ≡ place complex (start (outer c.before.before.before.before)).args.s.lambda (config c.before.before.before)
+found : (c : tie.After-advance-from invariant-loop-k decreases-loop-k invariant-states decreases-states) (complex : Complex) → Basis c.before.before complex → c.advance-from.result ≡ place complex (start (outer c.before.before.before)).args.s.lambda (config c.before.before)
 found c complex basis =
-    let over = c.before.before.before in
-    let at_states = outer over.before in
+    let over = c.before.before in
+    let at_states = outer over in
     let begun = start at_states in
     let there = arrived over complex basis in
     (rw (sub-zero begun.args.s.edges) at c.advance-from.ensures) _ (place_ranked complex _ _ _ basis (config over) (config_long over))
@@ -244,16 +244,16 @@ slice_bounds-add_reached-start c = search rules
 
 slice_bounds-add_reached-end : tie.Need-slice_bounds-add_reached-end invariant-loop-k decreases-loop-k invariant-states decreases-states
 slice_bounds-add_reached-end c =
-    let few = edges_few _ _ _ _ (start (outer c.before.before.before.before.before)).requires.0.basis in
-    let long = c.before.before.before.before.before.loop-k.invariant.3.long in
+    let few = edges_few _ _ _ _ (start (outer c.before.before.before)).requires.0.basis in
+    let long = c.before.before.before.loop-k.invariant.3.long in
     search rules
 
 add_reached-total-requires : tie.Need-add_reached-total-requires invariant-loop-k decreases-loop-k invariant-states decreases-states
 add_reached-total-requires c κs =
-    let over = c.before.before.before.before.before in
-    let begun = start (outer over.before) in
+    let over = c.before.before.before.before in
+    let begun = start (outer over) in
     let basis = begun.requires.0.basis in
-    let same : over.before.loop-k.i ≡ (outer over.before).states.i = over.before.loop-k.invariant.0 in
+    let same : over.loop-k.i ≡ (outer over).states.i = over.loop-k.invariant.0 in
     rw (sub-zero begun.args.s.edges, config_long over) (basis.few, edges_few _ _ _ _ basis, list_long _ _ _ _ basis, begun.requires.0.one_each, omega arith)
 
 overflow_step-i-in-states : tie.Need-overflow_step-i-in-states invariant-loop-k decreases-loop-k invariant-states decreases-states
@@ -265,9 +265,9 @@ states-smaller c = search rules
 states-preserved : tie.Need-states-preserved invariant-loop-k decreases-loop-k invariant-states decreases-states
 states-preserved c =
     let sought_out = c.before.before.before in
-    let over = sought_out.before.before.before in
-    let at_loop = over.before in
-    let at_states = outer at_loop in
+    let over = sought_out.before in
+    let at_loop = over in
+    let at_states = outer at_loop.before in
     let begun = start at_states in
     let same : at_loop.loop-k.i ≡ at_states.states.i = at_loop.loop-k.invariant.0 in
     let own = begun.requires.0.basis in

@@ -131,7 +131,7 @@ unfolding csr_call number_answer
 returns-then-states-n c =
     let seen = c.before.before in
     let passed = judged seen in
-    refuses _ (past_basis passed.before.before.before.before.prepare_basis-basis.ensures passed.before.before.before.if-number-ne0.left (past_weights _ _ _ _ (right passed) (here (no_room seen ∙ c.if-states-n.true)))) refl
+    refuses _ (past_basis passed.before.before.before.before.prepare_basis-basis.ensures passed.before.before.before.if-number-ne0.false (past_weights _ _ _ _ (right passed) (here (no_room seen ∙ c.if-states-n.true)))) refl
 
 -- the lists are long enough
 room : (c : tie.Else-states-n) → (states_number c.before.before * (judged c.before.before).before.before.before.before.prepare_basis-basis.result.walker.n_edges ≤ length (start (judged c.before.before)).args.states.now) × (states_number c.before.before + 1 ≤ length (start (judged c.before.before)).args.starts.now) × (c.before.before.count_rows-entries.result ≤ length (start (judged c.before.before)).args.columns.now) × (c.before.before.count_rows-entries.result ≤ length (start (judged c.before.before)).args.values.now)
@@ -187,7 +187,7 @@ returns c =
     let seen = enough.before.before in
     let passed = judged seen in
     let written = c.before.before.before.before.before.before.write_lists.ensures in
-    ends _ (past_basis passed.before.before.before.before.prepare_basis-basis.ensures passed.before.before.before.if-number-ne0.left (past_weights _ _ _ _ (right passed) (past (no_room seen ∙ enough.if-states-n.false) none)))
+    ends _ (past_basis passed.before.before.before.before.prepare_basis-basis.ensures passed.before.before.before.if-number-ne0.false (past_weights _ _ _ _ (right passed) (past (no_room seen ∙ enough.if-states-n.false) none)))
     (told seen) (lists_are (basis_written _ _ _ _ (basis passed) _ _ _ listed.write_states.ensures).1 (number listed ∙ counted seen) written) (record { few = (basis passed).few; once = no_column_twice _ (basis passed).walks.accepted _ })
 
 pub build_csr_spec : {M : Type 1} → statement M

@@ -16,13 +16,13 @@ slice_bounds-space-end c = search rules
 count_walked-requires : tie.Need-count_walked-requires
 unfolding states_of
 count_walked-requires c κs =
-    let s = c.before.before.before.before.before.before.before in
+    let s = c.before.before.before.before.before.before in
     rw (begin_part s.args.w, s.requires.0.sized) (s.requires.0.walkable, s.requires.1)
 
 returns : tie.Need-returns
 unfolding states_of
 returns c =
-    let s = c.before.before.before.before.before.before.before.before.before in
+    let s = c.before.before.before.before.before.before.before.before in
     rw (begin_part s.args.w, s.requires.0.sized) at c.before.count_walked.ensures
 
 pub count_rows_spec : {M : Type 1} → statement M

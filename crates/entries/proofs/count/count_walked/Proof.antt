@@ -43,7 +43,7 @@ whole c =
 abbrev listed : Loop → List (List ℤ)
 listed c =
     let s = (start c).args in
-    walked_states s.free.now (row (length s.config-1.now) s.cycles.now) s.lambda s.n_free s.config-1.now s.blocks
+    walked_states s.free.now (row (length s.config.now) s.cycles.now) s.lambda s.n_free s.config.now s.blocks
 
 whole_is : (c : Loop) → whole c ≡ listed c
 whole_is c = c.before.before.first_state-here.ensures.states
@@ -67,7 +67,7 @@ first_state-here-requires : tie.Need-first_state-here-requires invariant-loop-he
 first_state-here-requires c κs =
     let s = c.before.before in
     let a = s.args in
-    (s.requires.0, few_states a.free.now a.cycles.now a.lambda a.n_free a.config-1.now a.blocks s.requires.0)
+    (s.requires.0, few_states a.free.now a.cycles.now a.lambda a.n_free a.config.now a.blocks s.requires.0)
 
 loop-here-init : tie.Need-loop-here-init invariant-loop-here decreases-loop-here
 loop-here-init c =
@@ -75,10 +75,10 @@ loop-here-init c =
     let a = s.args in
     let first = c.before.first_state-here in
     let few = s.requires.0.cycles_fit.edges_few in
-    let inside : length a.config-1.now - 0 ≤ 63 = omega arith in
+    let inside : length a.config.now - 0 ≤ 63 = omega arith in
     let all = states_from a.free.now a.cycles.now a.lambda a.n_free first.new.config first.result in (
       refl,
-      length-take-le _ _ inside ∙ sub-zero (length a.config-1.now) ∙ sym first.auto.config,
+      length-take-le _ _ inside ∙ sub-zero (length a.config.now) ∙ sym first.auto.config,
       first.ensures.standing,
       at_first a.free.now a.cycles.now a.lambda a.n_free _ first.new.config first.result refl first.ensures.numbered,
       over_none _ ∙ ap (λ k. over_states (row_entries a.lambda a.all.now a.n) (take k all)) (sym first.ensures.numbered),
@@ -96,7 +96,7 @@ slice_bounds-fill_row-end c = search rules
 
 fill_row-requires : tie.Need-fill_row-requires invariant-loop-here decreases-loop-here
 fill_row-requires c κs =
-    let at_loop = c.before.before.before.before.before in
+    let at_loop = c.before.before.before.before in
     let s = (start at_loop).args in
     let standing = at_loop.loop-here.invariant.2 in
     let few = standing.few in
@@ -108,7 +108,7 @@ abbrev Row : Type 0
 Row = tie.After-fill_row invariant-loop-here decreases-loop-here
 
 abbrev loop_of : Row → Loop
-loop_of c = c.before.before.before.before.before.before
+loop_of c = c.before.before.before.before.before
 
 more : (c : Row) → 0 < (loop_of c).loop-here.here.left
 more c = omega arith
@@ -127,11 +127,11 @@ row_countable c =
     same_countable _ _ _ _ _ (row_here c ∙ ap (λ l. get_or l number []) (whole_is at_loop)) ((start at_loop).requires.1.each number there)
 
 count_row-total-requires : tie.Need-count_row-total-requires invariant-loop-here decreases-loop-here
-count_row-total-requires c κs = row_countable c.before.before
+count_row-total-requires c κs = row_countable c.before
 
 overflow_add-total : tie.Need-overflow_add-total invariant-loop-here decreases-loop-here
 overflow_add-total c =
-    let filled = c.before.before.before in
+    let filled = c.before.before in
     let at_loop = loop_of filled in
     let below = (here_is at_loop (more filled)).0 in
     let few = (start at_loop).requires.1.few in
@@ -148,7 +148,7 @@ loop-here-preserved : tie.Need-loop-here-preserved invariant-loop-here decreases
 loop-here-preserved c =
     let next = c.before.next_state-here in
     let counted = c.before.before.before.count_row-total in
-    let filled = c.before.before.before.before.before.before in
+    let filled = c.before.before.before.before.before in
     let at_loop = loop_of filled in
     let a = (start at_loop).args in
     let f = row_entries a.lambda a.all.now a.n in

@@ -87,7 +87,7 @@ returns-then-states-n : tie.Need-returns-then-states-n
 unfolding u1_dense_call number_answer
 returns-then-states-n c =
     let judged = passed c.before in
-    refuses _ (past_basis judged.before.before.before.before.prepare_basis-basis.ensures judged.before.before.before.if-number-ne0.left (past_weights _ _ _ _ (right judged) (here (no_room c.before ∙ c.if-states-n.true)))) refl
+    refuses _ (past_basis judged.before.before.before.before.prepare_basis-basis.ensures judged.before.before.before.if-number-ne0.false (past_weights _ _ _ _ (right judged) (here (no_room c.before ∙ c.if-states-n.true)))) refl
 
 -- both lists are long enough
 room : (c : tie.Else-states-n) → (c.before.before.count_states-n.result * (passed c.before).before.before.before.before.prepare_basis-basis.result.walker.n_edges ≤ length (start (passed c.before)).args.states.now) × (c.before.before.count_states-n.result * c.before.before.count_states-n.result ≤ length (start (passed c.before)).args.res.now)
@@ -104,13 +104,13 @@ number c = c.write_states.ensures.count ∙ sym c.before.before.before.before.co
 
 write_dense-requires : tie.Need-write_dense-requires
 write_dense-requires c κs =
-    let listed = c.before.before.before in
+    let listed = c.before in
     let enough = listed.before.before in
-    let here = passed enough.before in (
+    let here = passed enough.before.before in (
       _,
       basis_listed _ _ _ _ (basis here) _ _ _ listed.write_states.ensures _ refl,
       weights_fit _ _ _ _ (right here),
-      rw (number listed) (room enough).1,
+      rw (number listed.before) (room enough.before).1,
     )
 
 shape_of-states : tie.Need-shape_of-states
@@ -123,10 +123,10 @@ returns : tie.Need-returns
 unfolding u1_dense_call number_answer
 returns c =
     let listed = c.before.before.before.before.before.before in
-    let enough = listed.before.before in
+    let enough = listed.before in
     let judged = passed enough.before in
-    let many = counted enough.before in
-    ends _ (past_basis judged.before.before.before.before.prepare_basis-basis.ensures judged.before.before.before.if-number-ne0.left (past_weights _ _ _ _ (right judged) (past (no_room enough.before ∙ enough.if-states-n.false) none)))
+    let many = counted enough in
+    ends _ (past_basis judged.before.before.before.before.prepare_basis-basis.ensures judged.before.before.before.if-number-ne0.false (past_weights _ _ _ _ (right judged) (past (no_room enough ∙ enough.if-states-n.false) none)))
     many (both (basis_written _ _ _ _ (basis judged) _ _ _ listed.write_states.ensures).1 c.before.before.write_dense.ensures) (basis judged).few
 
 pub build_hamiltonian_spec : {M : Type 1} → statement M

@@ -86,7 +86,7 @@ unfolding u1_product_call number_answer
 returns-then-states-n c =
     let fit = c.before.before in
     let counting = listing fit in
-    refuses _ (past_basis counting.before.before.before.prepare_basis-basis.ensures counting.before.before.if-number-ne0.left (past_vector _ _ _ _ _ _ (right fit) (here (no_room fit ∙ c.if-states-n.true)))) refl
+    refuses _ (past_basis counting.before.before.before.prepare_basis-basis.ensures counting.before.before.if-number-ne0.false (past_vector _ _ _ _ _ _ (right fit) (here (no_room fit ∙ c.if-states-n.true)))) refl
 
 -- both lists are long enough
 room : (c : tie.Else-states-n) → ((listing c.before.before).count_states-n.result * (listing c.before.before).before.before.before.prepare_basis-basis.result.walker.n_edges ≤ length (start (listing c.before.before)).args.states.now) × ((listing c.before.before).count_states-n.result ≤ length (start (listing c.before.before)).args.res.now)
@@ -112,14 +112,14 @@ slice_bounds-cycle-start c = search rules
 
 slice_bounds-cycle-end : tie.Need-slice_bounds-cycle-end
 slice_bounds-cycle-end c =
-    let b = basis (listing c.before.before.before.before.before.before.before) in
+    let b = basis (listing c.before.before.before.before.before.before) in
     let long = b.walks.table.long in
     let few = b.fit.edges in
     search rules
 
 write_product-requires : tie.Need-write_product-requires
 write_product-requires c κs =
-    let listed = c.before.before.before.before.before.before in
+    let listed = c.before.before.before.before in
     let enough = listed.before.before in
     let fit = enough.before.before in
     let many : listed.write_states.result ≡ length (states (complex_of (start (listing fit)).args.c) (start (listing fit)).args.lambda) = number listed ∙ counted (listing fit) in
@@ -142,10 +142,10 @@ returns : tie.Need-returns
 unfolding u1_product_call number_answer
 returns c =
     let listed = c.before.before.before.before.before.before.before.before.before in
-    let enough = listed.before.before in
-    let fit = enough.before.before in
-    let counting = listing fit in
-    ends _ (past_basis counting.before.before.before.prepare_basis-basis.ensures counting.before.before.if-number-ne0.left (past_vector _ _ _ _ _ _ (right fit) (past (no_room fit ∙ enough.if-states-n.false) none)))
+    let enough = listed in
+    let fit = enough in
+    let counting = listing fit.before.before in
+    ends _ (past_basis counting.before.before.before.prepare_basis-basis.ensures counting.before.before.if-number-ne0.false (past_vector _ _ _ _ _ _ (right fit.before.before) (past (no_room fit ∙ enough.if-states-n.false) none)))
     (counted counting) (both (basis_written _ _ _ _ (basis counting) _ _ _ listed.write_states.ensures).1 c.before.before.write_product.ensures) (basis counting).few
 
 pub hamiltonian_matvec_spec : {M : Type 1} → statement M

@@ -20,7 +20,7 @@ top_is c = back32 c.usize_to_i32.result c.usize_to_i32.type_inv ∙ c.usize_to_i
 turned_is : (c : tie.After-turned) → to_z w32 (of_z w32 c.turned.result) ≡ (start c).args.x *ℤ (start c).args.sign
 turned_is c =
     let s = start c in
-    back32 c.turned.result c.turned.type_inv ∙ c.turned.ensures ∙ ap₂ ◌*ℤ◌ (back32 s.args.x s.fits.x.sfits) (back8 s.args.sign s.fits.sign.sfits)
+    back32 c.turned.result c.turned.type_inv ∙ c.turned.ensures ∙ ap₂ ◌*ℤ◌ (back32 s.args.x s.ranges.x.sfits) (back8 s.args.sign s.ranges.sign.sfits)
 
 turned_small : (c : tie.After-turned) → nat_abs ((start c).args.x *ℤ (start c).args.sign) ≤ (start c).args.lambda
 turned_small c = let s = start c in omega (arith, size_sign s.args.x s.args.sign s.requires.2, s.requires.0)

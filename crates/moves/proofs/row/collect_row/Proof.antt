@@ -38,7 +38,7 @@ taken_is c = c.goes-taken.ensures
 pointers_right : (c : Loop) → Pointers (start c).args.n c.loop-k.pointers
 pointers_right c =
     let a = (start c).args in
-    pointers_same c.loop-k.invariant.5 (pointed_pointers (tables_of c) a.lambda (number_in a.words.now) a.n a.state.now a.number a.pointers-1.now c.loop-k.k (start c).requires.2)
+    pointers_same c.loop-k.invariant.5 (pointed_pointers (tables_of c) a.lambda (number_in a.words.now) a.n a.state.now a.number a.pointers.now c.loop-k.k (start c).requires.2)
 
 is_kept-kept-requires : tie.Need-is_kept-kept-requires invariant-loop-k decreases-loop-k
 is_kept-kept-requires c κs = search rules
