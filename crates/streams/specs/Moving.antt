@@ -1,4 +1,4 @@
--- How far bytes were moved by a descriptor.
+-- How far bytes were moved by a stream.
 use Prim.{Unit}
 use Rattle.std.specs.Prelude.{ℕ, ◌+◌, ◌<◌, ◌≤◌, Bool, true, false, ◌≡◌}
 use Rattle.streams.specs.declared.Moving.{Moving}
@@ -16,4 +16,4 @@ pub record Moved (moved : ℕ) (failed : Bool) (old new : Moving) : Type 0 where
 -- what was read stands in the list
 abbrev pub InputFits : ℕ → Input → Type 0
 InputFits room (Bytes n) = n ≤ room
-InputFits room Unread = Unit {0}
+InputFits room (Unread why) = Unit {0}
