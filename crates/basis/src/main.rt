@@ -1,10 +1,12 @@
 // `basis list`: reads a sheet from standard input and prints its states, or the number of its refusal.
 #![tactic(auto)]
 
-ghost use Rattle.std.specs.Prelude.{◌≡◌, true, ◌+◌, ◌≤◌, length};
-ghost use Rattle.pages.specs.Pages.{PageReady};
-ghost use Rattle.basis.specs.Status.{status_digit, Told};
+ghost use Rattle.std.specs.Prelude.{◌≡◌, true, ℕ, ◌+◌, ◌≤◌, List, OnOk, length};
+ghost use Rattle.std.specs.Io.KnownBytes.{Appends};
 ghost use Rattle.std.specs.Process.{exit_status};
+ghost use Rattle.pages.specs.Pages.{PageReady, Piece};
+ghost use Rattle.pages.specs.Text.{basis_refusal, basis_text};
+ghost use Rattle.basis.specs.Status.{status_digit, status_of, Told};
 
 use answers::Answer;
 use numbers::sizes::INPUT_ROOM;
@@ -88,6 +90,7 @@ fn unwritten(written: Output) -> Error {
 // What stands in the list goes out, and then all that is to come, piece by piece. Or why not all of it could be written: nothing follows a piece that could not.
 fn print<W: Write>(output: &mut W, out: &mut [u8], first: Filled) -> Result<()>
     requires { (400 ≤ length out.old) × (first.len ≤ length out.old) × (first.more ≡ true → PageReady first.page) }
+    ensures { OnOk result ((text : List ℕ) → Piece text 0 out.old first → Appends (W.contents output.old) (W.contents output.new) text) }
 {
     let mut piece = first;
     loop {
@@ -103,14 +106,15 @@ fn print<W: Write>(output: &mut W, out: &mut [u8], first: Filled) -> Result<()>
     }
 }
 
-// The answer to the bytes of a sheet.
-fn answer(rt: &HostRuntime, bytes: &[u8]) -> Status
-    ensures { Told bytes.now result }
+// The answer to the bytes of a sheet. Where it is not told that it failed, all of the text went out.
+fn answer<W: Write>(rt: &HostRuntime, output: &mut W, bytes: &[u8]) -> Status
+    ensures told { Told bytes.now result }
+    ensures given { result ≡ status_of (basis_refusal bytes.now) → Appends (W.contents output.old) (W.contents output.new) (basis_text bytes.now) }
 {
     let mut out = buffer();
     let begun = fill_begin(&mut out, bytes);
     let refusal = begun.refusal;
-    if let Err(why) = print(&mut rt.stdout(), &mut out, begun.filled) {
+    if let Err(why) = print(output, &mut out, begun.filled) {
         fail(
             rt,
             "basis: the answer could not be written to standard output",
@@ -129,7 +133,7 @@ fn list(rt: &HostRuntime) -> Status {
     // one byte more than the longest sheet has
     let mut input = [0u8; INPUT_ROOM];
     match read_input(&mut rt.stdin(), &mut input) {
-        Input::Bytes(n) => answer(rt, &input[..n]),
+        Input::Bytes(n) => answer(rt, &mut rt.stdout(), &input[..n]),
         Input::Unread(why) => {
             fail(
                 rt,

@@ -1,8 +1,10 @@
-// Reading and writing by a stream, to the end or to the first failure. Which bytes a call of the system moves no contract can say.
+// Reading and writing by a stream, to the end or to the first failure. Which bytes a call of the system moves no contract can say; of a reader and a
+// writer whose bytes are known the contracts say which.
 #![tactic(auto)]
 
-ghost use Rattle.std.specs.Prelude.{◌≡◌, ◌+◌, ◌^◌, ◌<◌, ◌≤◌, length};
-ghost use Rattle.streams.specs.Moving.{Moved, InputFits};
+ghost use Rattle.std.specs.Prelude.{◌≡◌, true, ◌+◌, ◌^◌, ◌<◌, ◌≤◌, IsSome, length, take};
+ghost use Rattle.std.specs.Io.KnownBytes.{Appends};
+ghost use Rattle.streams.specs.Moving.{Moved, InputFits, InputTaken};
 
 use std::io::{Error, ErrorKind, Read, Write};
 
@@ -19,7 +21,8 @@ pub struct Moving {
 }
 
 fn start() -> Moving
-    ensures { result.n ≡ 0 }
+    ensures n { result.n ≡ 0 }
+    ensures going { result.going ≡ true }
 {
     Moving {
         n: 0,
@@ -69,7 +72,8 @@ pub enum Input {
 
 // Reads until the list is full or the input ends.
 pub fn read_input<R: Read>(input: &mut R, list: &mut [u8]) -> Input
-    ensures { InputFits (length list.old) result }
+    ensures fits { InputFits (length list.old) result }
+    ensures taken { InputTaken (R.remaining input.old) (R.remaining input.new) list.new result }
 {
     let mut m = start();
     while m.going & (m.n < list.len()) {
@@ -96,7 +100,9 @@ pub struct Output {
 
 // Writes all bytes, or stops at the first write that takes nothing or fails.
 pub fn write_output<W: Write>(output: &mut W, bytes: &[u8]) -> Output
-    ensures { result.n ≤ length bytes.now }
+    ensures fits { result.n ≤ length bytes.now }
+    ensures why { IsSome result.why → result.n < length bytes.now }
+    ensures given { Appends (W.contents output.old) (W.contents output.new) (take result.n bytes.now) }
 {
     let mut m = start();
     while m.going & (m.n < bytes.len()) {
