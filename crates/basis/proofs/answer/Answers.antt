@@ -2,7 +2,7 @@
 use Rattle.std.proofs.Common.{ℕ, zero, suc, ◌≡◌, refl, sym, ap, inl, inr, arith}
 use Rattle.pages.specs.Text.{basis_refusal}
 use Rattle.basis.specs.declared.Status.{Status}
-use Rattle.basis.specs.declared.Status.TheVariants.{Answered, Refused}
+use Rattle.basis.specs.declared.Status.TheVariants.{Answered, Refused, Failed}
 use Rattle.basis.specs.Status.{status_of}
 use Rattle.basis.proofs.answer.Goals as goal
 
@@ -15,8 +15,17 @@ unfolding status_of
 refused zero h = absurd (h refl)
 refused (suc n) h = refl
 
-pub returns-then-refusal-eq0 : goal.returns-then-refusal-eq0
-returns-then-refusal-eq0 c = inr (answered (basis_refusal c.args.bytes.now) (omega arith))
+-- an answer is not told as a failure
+not_failed : (n : ℕ) → Failed ≡ status_of n → ⊥
+unfolding status_of
+not_failed zero h = cc
+not_failed (suc n) h = cc
 
-pub returns : goal.returns
-returns c = inr (refused (basis_refusal c.args.bytes.now) (λ h. omega arith))
+pub returns-in-Err-clause-given : goal.returns-in-Err-clause-given
+returns-in-Err-clause-given g c = λ h. absurd (not_failed (basis_refusal c.args.bytes.now) h)
+
+pub returns-then-refusal-eq0-clause-told : goal.returns-then-refusal-eq0-clause-told
+returns-then-refusal-eq0-clause-told g c = inr (answered (basis_refusal c.args.bytes.now) (omega arith))
+
+pub returns-clause-told : goal.returns-clause-told
+returns-clause-told g c = inr (refused (basis_refusal c.args.bytes.now) (λ h. omega arith))

@@ -11,7 +11,7 @@ invariant-loop-piece g l =
       inside : l.piece.len ≤ length l.out;
       ready : l.piece.more ≡ true → PageReady l.piece.page;
       given : (text : List ℕ) → Piece text 0 l.initial.out l.initial.piece → (place : ℕ) × (Piece text place l.out l.piece)
-      × (Appends (g.W.Write.contents l.initial.output) (g.W.Write.contents l.output) (take place text));
+          × (Appends (g.W.Write.contents l.initial.output) (g.W.Write.contents l.output) (take place text));
     }
 
 abbrev pub decreases-loop-piece : goal.decreases-loop-piece
