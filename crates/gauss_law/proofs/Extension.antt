@@ -76,5 +76,5 @@ module _ (c : Complex) (q x : ℕ → ℤ) (tree : Solvable c.edges c.vertices (
 
       chosen : (e : ℕ) → Member e (free_edges c) → get_or (solve q c.edges tree.order start) e (pos 0) ≡ x e
       chosen e m =
-          solve_off q c.edges start e ((tree.off e).1 (each_member (free_not_tree c) m))
+          solve_off q c.edges e start ((tree.off e).1 (each_member (free_not_tree c) m))
           ∙ map_below_at x (length c.edges) e (pos 0) (each_member (free_below c) m)

@@ -130,16 +130,16 @@ module _ (q : ℕ → ℤ) (es : List Simplex) where
           go (yes e) = inl (rw e a)
           go (no n) = inr (get_or-set_other s p.1 i _ (pos 0) n)
 
-  solve_untouched : {order : List Step} (s : List ℤ) (v : ℕ) → Untouched es v order → gauss es (solve q es order s) v ≡ gauss es s v
+  solve_untouched : (v : ℕ) {order : List Step} (s : List ℤ) → Untouched es v order → gauss es (solve q es order s) v ≡ gauss es s v
   unfolding solve
-  solve_untouched s v none = refl
-  solve_untouched s v (also {x = p} m u) = solve_untouched (solve_step q es p s) v u ∙ step_misses p s v m
+  solve_untouched v s none = refl
+  solve_untouched v s (also {x = p} m u) = solve_untouched v (solve_step q es p s) u ∙ step_misses p s v m
 
   -- values off the order are kept
-  pub solve_off : {order : List Step} (s : List ℤ) (i : ℕ) → Off i order → get_or (solve q es order s) i (pos 0) ≡ get_or s i (pos 0)
+  pub solve_off : (i : ℕ) {order : List Step} (s : List ℤ) → Off i order → get_or (solve q es order s) i (pos 0) ≡ get_or s i (pos 0)
   unfolding solve solve_step
-  solve_off s i none = refl
-  solve_off s i (also {x = p} n o) = solve_off (solve_step q es p s) i o ∙ get_or-set_other s p.1 i _ (pos 0) n
+  solve_off i s none = refl
+  solve_off i s (also {x = p} n o) = solve_off i (solve_step q es p s) o ∙ get_or-set_other s p.1 i _ (pos 0) n
 
   -- the law is met at each vertex of the order
   pub solve_law : {order : List Step} → SolvingOrder es order → (s : List ℤ) → length s ≡ length es
@@ -147,4 +147,4 @@ module _ (q : ℕ → ℤ) (es : List Simplex) where
   unfolding solve
   solve_law done s l = none
   solve_law (next {p} {order} h m u o) s l =
-      also (solve_untouched (solve_step q es p s) p.0 u ∙ step_law p s h l m) (solve_law o (solve_step q es p s) (step_length p s ∙ l))
+      also (solve_untouched p.0 (solve_step q es p s) u ∙ step_law p s h l m) (solve_law o (solve_step q es p s) (step_length p s ∙ l))

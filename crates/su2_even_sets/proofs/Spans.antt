@@ -2,7 +2,7 @@
 use Prim.Native.Nat.{ℕ, zero, suc, ◌+◌, ◌-◌, ◌*◌, ◌/◌, ◌%◌, ◌^◌, ◌<◌}
 use mathlib.Core.List.{List, ◌++◌, map}
 use mathlib.Core.Bool.{Bool, true, false, cond}
-use mathlib.Core.Path.{◌≡◌, refl, sym, ap, ◌∙◌}
+use mathlib.Core.Path.{◌≡◌, refl, sym, ap, ◌∙◌, subst}
 use native.Mathlib.Nat.{pow-suc, add_comm}
 use native.Mathlib.Decide.{ℕ_discrete, dec_lt}
 use native.Mathlib.Numerals.{add-one}
@@ -138,8 +138,9 @@ module _ (loops : List ℕ) (n : ℕ) where
   pub combined_upper : (k : ℕ) → k < 2 ^ n → sum_of_loops loops (2 ^ n + k) (suc n) ≡ bit_xor (sum_of_loops loops k n) (get_or loops n 0)
   unfolding sum_of_loops
   combined_upper k h =
-      let e : 2 ^ n + k ≡ 1 * 2 ^ n + k = omega arith in
-      rw (e, bit_high n k 1 h, combined_same loops n (1 * 2 ^ n + k) k (bit_low n k 1))
+      let e : 1 * 2 ^ n + k ≡ 2 ^ n + k = omega arith in
+      let P : ℕ → Type 0 = λ x. sum_of_loops loops x (suc n) ≡ bit_xor (sum_of_loops loops k n) (get_or loops n 0) in
+      subst P e (rw (bit_high n k 1 h, combined_same loops n (1 * 2 ^ n + k) k (bit_low n k 1)))
 
 -- sum number k stands at place k
 pub span_at : (loops : List ℕ) (n k : ℕ) → k < 2 ^ n → get_or (loop_sums loops n) k 0 ≡ sum_of_loops loops k n
@@ -153,7 +154,8 @@ span_at loops (suc n) k h = go (span_at loops n) (dec_lt k (2 ^ n))
         let i = k - 2 ^ n in
         let e : k ≡ 2 ^ n + i = omega arith in
         let l : i < 2 ^ n = omega (arith, pow-suc 2 n) in
-        rw e (span_upper loops n i l ∙ ap (λ (x : ℕ). bit_xor x (get_or loops n 0)) (ih i l) ∙ sym (combined_upper loops n i l))
+        let P : ℕ → Type 0 = λ x. get_or (loop_sums loops (suc n)) x 0 ≡ sum_of_loops loops x (suc n) in
+        subst P (sym e) (span_upper loops n i l ∙ ap (λ (x : ℕ). bit_xor x (get_or loops n 0)) (ih i l) ∙ sym (combined_upper loops n i l))
 
 -- ---- the bits at the closing edges
 pub bits_below : (closing : List ℕ) (x n : ℕ) → closing_bits closing x n < 2 ^ n

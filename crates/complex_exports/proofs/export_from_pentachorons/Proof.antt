@@ -19,7 +19,7 @@ value-requires : tie.Need-value-requires
 unfolding pentachora_answer
 value-requires c κs =
     let told = c.before.before.before.before.before.before.before.from_pentachorons-answer.ensures in
-    few_edges _ _ _ _ (rw (ap pentachora_answer c.before.answer-1.given.1) at told)
+    few_edges _ _ _ _ (rw (ap pentachora_answer c.in-Counts.is) at told)
 
 enum_known-answer-in-Refused-1 : tie.Need-enum_known-answer-in-Refused-1
 enum_known-answer-in-Refused-1 c = search rules
@@ -37,7 +37,7 @@ returns-in-Counts : tie.Need-returns-in-Counts
 unfolding pentachora_answer signed
 returns-in-Counts c =
     let told = c.before.before.before.before.before.before.before.before.from_pentachorons-answer.ensures in
-    exports (second_ends (pentachora_call _ _ _ _) _ (rw (ap pentachora_answer c.before.before.answer-1.given.1) at told)) (back64 _ c.value.type_inv ∙ c.value.ensures)
+    exports (second_ends (pentachora_call _ _ _ _) _ (rw (ap pentachora_answer c.in-Counts.is) at told)) (back64 _ c.value.type_inv ∙ c.value.ensures)
 
 shape_of-edges-in-Refused : tie.Need-shape_of-edges-in-Refused
 shape_of-edges-in-Refused c = search rules
@@ -49,7 +49,7 @@ returns-in-Refused : tie.Need-returns-in-Refused
 unfolding pentachora_answer signed
 returns-in-Refused c =
     let told = c.before.before.before.before.before.before.before.before.from_pentachorons-answer.ensures in
-    exports (second_refuses (pentachora_call _ _ _ _) _ (rw (ap pentachora_answer c.before.before.answer-in-Refused-1.given.1) at told)) (back64 _ c.refused.type_inv ∙ c.refused.ensures)
+    exports (second_refuses (pentachora_call _ _ _ _) _ (rw (ap pentachora_answer c.in-Refused.is) at told)) (back64 _ c.refused.type_inv ∙ c.refused.ensures)
 
 pub export_from_pentachorons_spec : {M : Type 1} → statement M
 export_from_pentachorons_spec =

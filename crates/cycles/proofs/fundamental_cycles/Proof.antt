@@ -18,15 +18,15 @@ loop-j-init : tie.Need-loop-j-init invariant-loop-j decreases-loop-j
 loop-j-init c = (omega arith, refl, no_cycles c.args.c c.requires.0 c.args.paths.now c.requires.1 c.args.free c.requires.2)
 
 bounds-free-j : tie.Need-bounds-free-j invariant-loop-j decreases-loop-j
-bounds-free-j c = omega (arith, c.before.before.before.before.before.requires.2.few)
+bounds-free-j c = omega (arith, c.before.before.before.before.requires.2.few)
 
 byte-requires : tie.Need-byte-requires invariant-loop-j decreases-loop-j
 byte-requires c κs = tt
 
 close_cycle-requires : tie.Need-close_cycle-requires invariant-loop-j decreases-loop-j
 close_cycle-requires c κs =
-    let at_loop = c.before.before.before.before.before.before in
-    let start = at_loop.before in
+    let at_loop = c.before.before.before.before.before in
+    let start = at_loop in
     let few = start.requires.2.few in
     let more : at_loop.loop-j.j < start.args.free.count = omega arith in
     rw c.byte.ensures (
@@ -44,8 +44,8 @@ loop-j-smaller c = search rules
 
 loop-j-preserved : tie.Need-loop-j-preserved invariant-loop-j decreases-loop-j
 loop-j-preserved c =
-    let at_loop = c.before.before.before.before.before.before.before in
-    let start = at_loop.before in
+    let at_loop = c.before.before.before.before.before.before in
+    let start = at_loop in
     let more : at_loop.loop-j.j < start.args.free.count = omega arith in (
       omega arith,
       refl,

@@ -35,22 +35,22 @@ byte-requires-in-loop-i c κs = tt
 
 extend-requires : tie.Need-extend-requires invariant-loop-i decreases-loop-i
 extend-requires c κs =
-    let at_loop = c.before.before.before.before.before.before.before.before in
-    let start = at_loop.before in
+    let at_loop = c.before.before.before.before.before.before.before in
+    let start = at_loop in
     let more : at_loop.loop-i.i < start.args.tree.found = omega arith in
     let r = extend_ready start.args.c start.args.tree start.requires at_loop.loop-i.i more in
     rw (c.byte-in-loop-i.ensures, c.before.before.byte.ensures) (r.0, r.1, r.2, r.3, r.4, at_loop.loop-i.invariant.2.long)
 
-overflow_add-i : tie.Need-overflow_add-i invariant-loop-i decreases-loop-i
-overflow_add-i c = search rules
+overflow_step-i : tie.Need-overflow_step-i invariant-loop-i decreases-loop-i
+overflow_step-i c = search rules
 
 loop-i-smaller : tie.Need-loop-i-smaller invariant-loop-i decreases-loop-i
 loop-i-smaller c = search rules
 
 loop-i-preserved : tie.Need-loop-i-preserved invariant-loop-i decreases-loop-i
 loop-i-preserved c =
-    let at_loop = c.before.before.before.before.before.before.before.before.before in
-    let start = at_loop.before in
+    let at_loop = c.before.before.before.before.before.before.before.before in
+    let start = at_loop in
     let more : at_loop.loop-i.i < start.args.tree.found = omega arith in (
       omega arith,
       refl,
@@ -63,9 +63,6 @@ returns c =
     let start = c.before.before in
     let past : c.before.loop-i.i ≡ start.args.tree.found = omega arith in
     rw (past, spanned_found start.args.c start.args.tree start.requires) at c.before.loop-i.invariant.2
-
-overflow_step-i : tie.Need-overflow_step-i invariant-loop-i decreases-loop-i
-overflow_step-i c = search rules
 
 pub tree_paths_spec : {M : Type 1} → statement M
 tree_paths_spec =

@@ -27,11 +27,11 @@ decreases-loop-e state square result₀ e₀ e-end result e = length state - e
 loop-e-init : tie.Need-loop-e-init invariant-loop-e decreases-loop-e
 loop-e-init c = (omega arith, refl, refl, λ f old b. replaced_none f _ _ old _ b)
 
-mul-result : tie.Need-overflow-mul-result invariant-loop-e decreases-loop-e
-mul-result c = search rules
+offset_bounds-res-e : tie.Need-offset_bounds-res-e invariant-loop-e decreases-loop-e
+offset_bounds-res-e c = search rules
 
-slice-read-result : tie.Need-slice-read-result invariant-loop-e decreases-loop-e
-slice-read-result c = search rules
+bounds-res-e : tie.Need-bounds-res-e invariant-loop-e decreases-loop-e
+bounds-res-e c = search rules
 
 offset_bounds-state-e : tie.Need-offset_bounds-state-e invariant-loop-e decreases-loop-e
 offset_bounds-state-e c = search rules
@@ -42,11 +42,11 @@ bounds-state-e c = search rules
 field_term-requires : tie.Need-field_term-requires invariant-loop-e decreases-loop-e
 field_term-requires c κs = tt
 
-mul-result-2 : tie.Need-overflow-mul-result-2 invariant-loop-e decreases-loop-e
-mul-result-2 c = search rules
+offset_bounds-res-e-in-loop-e : tie.Need-offset_bounds-res-e-in-loop-e invariant-loop-e decreases-loop-e
+offset_bounds-res-e-in-loop-e c = search rules
 
-slice-write-result : tie.Need-slice-write-result invariant-loop-e decreases-loop-e
-slice-write-result c = search rules
+bounds-res-e-in-loop-e : tie.Need-bounds-res-e-in-loop-e invariant-loop-e decreases-loop-e
+bounds-res-e-in-loop-e c = search rules
 
 overflow_step-e : tie.Need-overflow_step-e invariant-loop-e decreases-loop-e
 overflow_step-e c = search rules
@@ -74,18 +74,6 @@ shape_of-res c = search rules
 
 returns : tie.Need-returns invariant-loop-e decreases-loop-e
 returns c f old b = replaced_all f _ _ old _ _ (c.before.loop-e.invariant.3 f old b) (omega arith)
-
-offset_bounds-res-e : tie.Need-offset_bounds-res-e invariant-loop-e decreases-loop-e
-offset_bounds-res-e c = search rules
-
-bounds-res-e : tie.Need-bounds-res-e invariant-loop-e decreases-loop-e
-bounds-res-e c = search rules
-
-offset_bounds-res-e-in-loop-e : tie.Need-offset_bounds-res-e-in-loop-e invariant-loop-e decreases-loop-e
-offset_bounds-res-e-in-loop-e c = search rules
-
-bounds-res-e-in-loop-e : tie.Need-bounds-res-e-in-loop-e invariant-loop-e decreases-loop-e
-bounds-res-e-in-loop-e c = search rules
 
 pub add_state_spec : {M : Type 1} → statement M
 add_state_spec =

@@ -17,11 +17,11 @@ decreases-loop-e result₀ m e₀ result e = m - e
 loop-e-init : tie.Need-loop-e-init invariant-loop-e decreases-loop-e
 loop-e-init c = (omega arith, refl, cleared_none _)
 
-mul-result : tie.Need-overflow-mul-result invariant-loop-e decreases-loop-e
-mul-result c = search rules
+offset_bounds-res-e : tie.Need-offset_bounds-res-e invariant-loop-e decreases-loop-e
+offset_bounds-res-e c = search rules
 
-slice-write-result : tie.Need-slice-write-result invariant-loop-e decreases-loop-e
-slice-write-result c = search rules
+bounds-res-e : tie.Need-bounds-res-e invariant-loop-e decreases-loop-e
+bounds-res-e c = search rules
 
 overflow_step-e : tie.Need-overflow_step-e invariant-loop-e decreases-loop-e
 overflow_step-e c = search rules
@@ -42,12 +42,6 @@ returns c =
     let past : c.before.loop-e.e ≡ c.before.before.args.m = omega arith in
     let cleared = rw past at c.before.loop-e.invariant.2 in
     record { long = cleared.long; entries = cleared.zeros; beyond = cleared.beyond }
-
-offset_bounds-res-e : tie.Need-offset_bounds-res-e invariant-loop-e decreases-loop-e
-offset_bounds-res-e c = search rules
-
-bounds-res-e : tie.Need-bounds-res-e invariant-loop-e decreases-loop-e
-bounds-res-e c = search rules
 
 pub clear_spec : {M : Type 1} → statement M
 clear_spec =

@@ -42,8 +42,8 @@ room c =
     let i = c.before.loop-i.i in
     let s = start c.before in
     let inside : i < s.args.n = omega arith in
-    let few : i ≤ 2 ^ 20 = omega (arith, s.pre.0) in
-    (omega (arith, s.pre.2, mul-le-mul_right s.args.m inside), mul-le-mul few s.pre.1)
+    let few : i ≤ 2 ^ 20 = omega (arith, s.requires.0) in
+    (omega (arith, s.requires.2, mul-le-mul_right s.args.m inside), mul-le-mul few s.requires.1)
 
 overflow_mul-at : tie.Need-overflow_mul-at invariant-loop-i decreases-loop-i
 overflow_mul-at c = let h = room c in search rules
@@ -76,7 +76,7 @@ add_state-requires : tie.Need-add_state-requires invariant-loop-i decreases-loop
 add_state-requires c κs =
     let at_loop = c.before.before.before.before in
     let s = start at_loop in
-    rw (row_part s.args.list.now s.args.m at_loop.loop-i.i, row_long c.before.before.before, at_loop.loop-i.invariant.1, at_loop.before.before.before.clear.auto.0) s.pre.4
+    rw (row_part s.args.list.now s.args.m at_loop.loop-i.i, row_long c.before.before.before, at_loop.loop-i.invariant.1, at_loop.before.before.before.clear.auto.0) s.requires.4
 
 overflow_step-i : tie.Need-overflow_step-i invariant-loop-i decreases-loop-i
 overflow_step-i c = search rules

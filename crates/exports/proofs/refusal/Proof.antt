@@ -12,11 +12,11 @@ enum_known-answer c = search rules
 
 returns-in-Accepted : tie.Need-returns-in-Accepted
 unfolding reading_number
-returns-in-Accepted c = sym (ap reading_number c.enum_told-1.given.1)
+returns-in-Accepted c = sym (ap reading_number c.in-Accepted.is)
 
 returns-in-Refused : tie.Need-returns-in-Refused
 unfolding reading_number
-returns-in-Refused c = sym (ap reading_number c.before.answer-1.given.1)
+returns-in-Refused c = sym (ap reading_number c.in-Refused.is)
 
 pub refusal_spec : {M : Type 1} → statement M
 refusal_spec = tie.close (tie.spec enum_told-1 enum_known-answer returns-in-Accepted returns-in-Refused)

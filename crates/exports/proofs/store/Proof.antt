@@ -19,12 +19,12 @@ refused-requires c κs = search rules
 
 returns-in-Params : tie.Need-returns-in-Params
 unfolding coupling_answer signed
-returns-in-Params c g own h = exports (stored_ends (coupling_call g own) three_floats _ (rw (ap coupling_answer c.before.before.answer-1.given.1) at h) refl) refl
+returns-in-Params c g own h = exports (stored_ends (coupling_call g own) three_floats _ (rw (ap coupling_answer c.in-Params.is) at h) refl) refl
 
 returns-in-Refused : tie.Need-returns-in-Refused
 unfolding coupling_answer signed
 returns-in-Refused c g own h =
-    exports (stored_refuses (coupling_call g own) three_floats _ (rw (ap coupling_answer c.before.before.answer-in-Refused-1.given.1) at h)) (back64 _ c.refused.type_inv ∙ c.refused.ensures)
+    exports (stored_refuses (coupling_call g own) three_floats _ (rw (ap coupling_answer c.in-Refused.is) at h)) (back64 _ c.refused.type_inv ∙ c.refused.ensures)
 
 pub store_spec : {M : Type 1} → statement M
 store_spec =

@@ -17,11 +17,11 @@ refused-requires c κs = search rules
 
 returns-in-Value : tie.Need-returns-in-Value
 unfolding expectation_answer
-returns-in-Value c = lent_value _ (ap expectation_answer c.before.answer-1.given.1)
+returns-in-Value c = lent_value _ (ap expectation_answer c.in-Value.is)
 
 returns-in-Refused : tie.Need-returns-in-Refused
 unfolding expectation_answer
-returns-in-Refused c = lent_kept _ (ap expectation_answer c.before.before.answer-in-Refused-1.given.1) (back64 _ c.refused.type_inv ∙ c.refused.ensures)
+returns-in-Refused c = lent_kept _ (ap expectation_answer c.in-Refused.is) (back64 _ c.refused.type_inv ∙ c.refused.ensures)
 
 pub store_expectation_spec : {M : Type 1} → statement M
 store_expectation_spec =

@@ -13,11 +13,11 @@ enum_known-answer-in-Refused-1 c = search rules
 
 returns-in-Number : tie.Need-returns-in-Number
 unfolding outcome_told number_answer
-returns-in-Number c = sym (ap (λ w. outcome_told (number_answer w)) c.before.answer-1.given.1)
+returns-in-Number c = sym (ap (λ w. outcome_told (number_answer w)) c.in-Number.is)
 
 returns-in-Refused : tie.Need-returns-in-Refused
 unfolding outcome_told number_answer
-returns-in-Refused c = sym (ap (λ w. outcome_told (number_answer w)) c.before.answer-in-Refused-1.given.1)
+returns-in-Refused c = sym (ap (λ w. outcome_told (number_answer w)) c.in-Refused.is)
 
 pub told_number_spec : {M : Type 1} → statement M
 told_number_spec = tie.close (tie.spec enum_known-answer enum_known-answer-in-Refused-1 returns-in-Number returns-in-Refused)

@@ -12,8 +12,8 @@ overflow_cast-result c = widens w32 c.before.args.n tt c.before.ranges.n
 overflow_sub-result : tie.Need-overflow_sub-result
 overflow_sub-result c = negated_fits c.before.args.n c.before.ranges.n c.if-n-lt0.true
 
-overflow_cast-result-2 : tie.Need-overflow_cast-result-2
-overflow_cast-result-2 c = rw (negated_size c.before.args.n c.before.ranges.n c.if-n-lt0.true) (tt, Fits-nat_abs {w = w32} tt c.before.ranges.n)
+overflow_cast-result-then-n-lt0 : tie.Need-overflow_cast-result-then-n-lt0
+overflow_cast-result-then-n-lt0 c = rw (negated_size c.before.args.n c.before.ranges.n c.if-n-lt0.true) (tt, Fits-nat_abs {w = w32} tt c.before.ranges.n)
 
 returns-then-n-lt0 : tie.Need-returns-then-n-lt0
 returns-then-n-lt0 c = rw (negated_size c.before.args.n c.before.ranges.n c.if-n-lt0.true)
@@ -23,9 +23,6 @@ overflow_cast-result-2 c = rw (back32 c.before.args.n c.before.ranges.n.sfits) (
 
 returns : tie.Need-returns
 returns c = search rules
-
-overflow_cast-result-then-n-lt0 : tie.Need-overflow_cast-result-then-n-lt0
-overflow_cast-result-then-n-lt0 c = search rules
 
 pub absolute_spec : {M : Type 1} → statement M
 absolute_spec =

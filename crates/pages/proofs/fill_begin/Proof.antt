@@ -18,7 +18,7 @@ fill_first-requires : tie.Need-fill_first-requires
 fill_first-requires c κs =
     let read = c.before.before.before.read_sheet-read in
     let start = c.before.before.before.before.before.before in
-    let ready = accepted_ready _ read.result read.ensures.is c.before.enum_told-1.given.1 in
+    let ready = accepted_ready _ read.result read.ensures.is c.in-Accepted.is in
     (start.requires, ready.0, ready.1)
 
 enum_known-answer : tie.Need-enum_known-answer
@@ -36,7 +36,7 @@ shape_of-out-in-Accepted c = search rules
 returns-in-Accepted : tie.Need-returns-in-Accepted
 returns-in-Accepted c =
     let read = c.before.before.before.before.before.before.read_sheet-read in
-    let accepted = c.before.before.before.before.enum_told-1.given.1 in
+    let accepted = c.in-Accepted.is in
     let told = c.before.before.fill_first.ensures in
     record {
       piece = placed _ _ 0 _ (omega arith) (rw (← (accepted_told _ read.result read.ensures.is accepted)) told.fills);
@@ -50,7 +50,7 @@ returns-in-Refused : tie.Need-returns-in-Refused
 returns-in-Refused c =
     let made = c.before.before.before in
     let read = made.before.before.before.before.before.read_sheet-read in
-    let refused = made.before.before.before.answer-1.given.1 in
+    let refused = made.in-Refused.is in
     let e : refused_line made.byte.result ≡ basis_text made.before.before.before.before.before.before.before.before.args.bytes.now = ap refused_line made.byte.ensures ∙ refused_told _ read.result read.ensures.is _ refused in
     let told = c.before.before.fill_refused.ensures in
     record {

@@ -43,14 +43,14 @@ count_of_blocks-blocks-requires : tie.Need-count_of_blocks-blocks-requires
 count_of_blocks-blocks-requires c κs =
     let tested = c.before in
     let s = start tested in
-    (s.pre.2, candidates_few s.args.s.complex s.args.s.lambda tested.before.prepare-w.result tested.before.prepare-w.ensures (sym tested.too_many.ensures ∙ c.if-too_many.false))
+    (s.requires.2, candidates_few s.args.s.complex s.args.s.lambda tested.before.prepare-w.result tested.before.prepare-w.ensures (sym tested.too_many.ensures ∙ c.if-too_many.false))
 
 -- the blocks can be walked
 fit : (c : tie.After-count_of_blocks-blocks) → Fit c.before.before.before.prepare-w.result (start c.before.before).args.s.lambda c.count_of_blocks-blocks.result
 fit c =
     let tested = c.before.before in
     let s = start tested in
-    blocks_fit s.args.s.complex s.args.s.lambda tested.before.prepare-w.result tested.before.prepare-w.ensures (sym tested.too_many.ensures ∙ c.before.if-too_many.false) c.count_of_blocks-blocks.result c.count_of_blocks-blocks.ensures s.pre.2
+    blocks_fit s.args.s.complex s.args.s.lambda tested.before.prepare-w.result tested.before.prepare-w.ensures (sym tested.too_many.ensures ∙ c.before.if-too_many.false) c.count_of_blocks-blocks.result c.count_of_blocks-blocks.ensures s.requires.2
 
 count_states-dim-requires : tie.Need-count_states-dim-requires
 count_states-dim-requires c κs = fit c
@@ -67,8 +67,8 @@ line c =
 line_short : (c : tie.After-count_states-dim) → 0 + length (line c) ≤ length (start_of c).args.out.now
 line_short c =
     let s = start_of c in
-    let room = s.pre.0 in
-    omega (arith, first_line_short s.args.s.complex s.args.s.lambda c.count_states-dim.result s.pre.1 s.pre.2 c.count_states-dim.type_inv)
+    let room = s.requires.0 in
+    omega (arith, first_line_short s.args.s.complex s.args.s.lambda c.count_states-dim.result s.requires.1 s.requires.2 c.count_states-dim.type_inv)
 
 write_first_line-len-requires : tie.Need-write_first_line-len-requires
 write_first_line-len-requires c κs = line_short c.before

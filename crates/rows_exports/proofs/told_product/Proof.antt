@@ -13,11 +13,11 @@ enum_known-answer c = search rules
 
 returns-in-Rows : tie.Need-returns-in-Rows
 unfolding outcome_told zero_of product_answer
-returns-in-Rows c = sym (ap (λ w. outcome_told (zero_of (product_answer w))) c.enum_told-1.given.1)
+returns-in-Rows c = sym (ap (λ w. outcome_told (zero_of (product_answer w))) c.in-Rows.is)
 
 returns-in-Refused : tie.Need-returns-in-Refused
 unfolding outcome_told zero_of product_answer
-returns-in-Refused c = sym (ap (λ w. outcome_told (zero_of (product_answer w))) c.before.answer-1.given.1)
+returns-in-Refused c = sym (ap (λ w. outcome_told (zero_of (product_answer w))) c.in-Refused.is)
 
 pub told_product_spec : {M : Type 1} → statement M
 told_product_spec = tie.close (tie.spec enum_told-1 enum_known-answer returns-in-Rows returns-in-Refused)

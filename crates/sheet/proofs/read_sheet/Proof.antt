@@ -19,8 +19,8 @@ none : (c : tie.Else-header-ne0) → first (header_tests c.before.before.before.
 none c = sym c.before.judge_header-header.ensures ∙ c.if-header-ne0.false
 
 -- what the judge says of the complex that was read
-judged : (c : tie.After-judge-number) → c.judge-number.result ≡ refusal (complex_of (sheet_in c.before.before.before.before.before.before.args.b.now).complex-1)
-judged c = c.judge-number.ensures ∙ ap (λ s. refusal (complex_of s.complex-1)) c.before.before.sheet_in-sheet.ensures
+judged : (c : tie.After-judge-number) → c.judge-number.result ≡ refusal (complex_of (sheet_in c.before.before.before.before.before.before.args.b.now).complex)
+judged c = c.judge-number.ensures ∙ ap (λ s. refusal (complex_of s.complex)) c.before.before.sheet_in-sheet.ensures
 
 returns-then-header-ne0 : tie.Need-returns-then-header-ne0
 returns-then-header-ne0 c = read_told _ _ (c.refused_sheet.ensures ∙ header_refused _ _ c.before.before.judge_header-header.ensures c.before.if-header-ne0.true)

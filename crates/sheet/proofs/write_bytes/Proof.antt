@@ -50,10 +50,10 @@ shape_of-out : tie.Need-shape_of-out
 shape_of-out c = search rules
 
 abbrev at-edges : tie.After-copy-arg-4-1 → tie.Start
-at-edges c = c.before.before.before.before.before.before.before.before.before.before.before.before
+at-edges c = c.before.before.before.before.before.before.before.before.before.before.before
 
 abbrev at-triangles : tie.After-copy-arg-7-1 → tie.Start
-at-triangles c = c.before.before.before.before.before.before.before.before.before.before.before.before.before.before.before.before.before.before.before
+at-triangles c = c.before.before.before.before.before.before.before.before.before.before.before.before.before.before.before.before.before
 
 edges_long : (c : tie.After-copy-arg-4-1) → length (at-edges c).args.s.complex.edges ≡ 126
 edges_long c = search rules
@@ -66,11 +66,10 @@ returns : tie.Need-returns
 returns c =
     let third = c.before.before in
     let second = c.before.before.before.before.before.before.before.before.before in
-    let first = c.before.before.before.before.before.before.before.before.before.before.before.before.before.before.before.before in
     let a = at-triangles c.before.before.before in
-    let el = edges_long second.before in
+    let el = edges_long second in
     let tl = triangles_long third.before in
-    copied a.args.s el tl a.pre.edges a.pre.triangles _ _ _ _ _ first.before.before.before.header-first.ensures first.copy.ensures second.copy-2.ensures third.copy-3.ensures
+    copied a.args.s el tl a.requires.edges a.requires.triangles _ _ _ _ _ c.header-first.ensures c.copy.ensures c.copy-2.ensures c.copy-3.ensures
 
 pub write_bytes_spec : {M : Type 1} → statement M
 write_bytes_spec =

@@ -24,7 +24,7 @@ decreases-loop-e c edges part₀ path₀ closing₀ loops₀ count₀ e₀ e-end
 abbrev Turn : Type 0
 Turn = tie.In-loop-e invariant-loop-e decreases-loop-e
 
-searchable : (c : Turn) → Searchable c.before.before.before.before.args.c.edges-1 c.before.before.before.before.args.c.n_vertices c.before.before.before.before.args.c.n_edges
+searchable : (c : Turn) → Searchable c.before.before.before.before.args.c.edges c.before.before.before.before.args.c.n_vertices c.before.before.before.before.args.c.n_edges
 searchable c = accepted_searchable c.before.before.before.before.args.c c.before.before.before.before.requires
 
 few : (c : Turn) → c.before.loop-e.e < 63
@@ -51,7 +51,7 @@ grow-count-requires c κs =
     let turn = at_a.before.before in
     let e = turn.before.loop-e.e in
     let r = turn.before.before.before.before.args.c in
-    let ends = rw (simplex_at 2 r.edges-1 r.n_edges e (omega arith)) at ((searchable turn).ends e (rw (simplices_length 2 r.edges-1 r.n_edges) (omega arith))) in (
+    let ends = rw (simplex_at 2 r.edges r.n_edges e (omega arith)) at ((searchable turn).ends e (rw (simplices_length 2 r.edges r.n_edges) (omega arith))) in (
       keeps_sized _ _ turn.before.loop-e.invariant.2,
       turn.before.loop-e.invariant.1,
       few turn,
@@ -74,10 +74,10 @@ loop-e-preserved c =
     let turn = at_a.before.before in
     let e = turn.before.loop-e.e in
     let r = turn.before.before.before.before.args.c in
-    let es = simplices 2 r.edges-1 r.n_edges in
+    let es = simplices 2 r.edges r.n_edges in
     let one : get_or es e [] ≡ at_a.edge_start-a.result ∷ at_b.edge_end-b.result ∷ [] =
-    simplex_at 2 r.edges-1 r.n_edges e (omega arith) ∙ rw (at_a.edge_start-a.ensures, at_b.edge_end-b.ensures) in
-    let within = grown_within r.n_vertices es (searchable turn).ends e (rw (simplices_length 2 r.edges-1 r.n_edges) turn.before.loop-e.invariant.0) in (
+    simplex_at 2 r.edges r.n_edges e (omega arith) ∙ rw (at_a.edge_start-a.ensures, at_b.edge_end-b.ensures) in
+    let within = grown_within r.n_vertices es (searchable turn).ends e (rw (simplices_length 2 r.edges r.n_edges) turn.before.loop-e.invariant.0) in (
       omega arith,
       omega (arith, c.grow-count.ensures.few, turn.before.loop-e.invariant.1),
       rw (add-one e, one) (c.grow-count.ensures.keeps (grown es e) turn.before.loop-e.invariant.2 within),

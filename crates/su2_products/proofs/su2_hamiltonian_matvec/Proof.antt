@@ -59,7 +59,7 @@ abbrev too_short : tie.Else-count-gt20 → Bool
 too_short c =
     let a = (at-start c).args in
     let n = length (su2_states (complex_of a.c)) in
-    ltb (length a.states-1.now) n || ltb (length a.result.now) n
+    ltb (length a.states-1.now) n || ltb (length a.res.now) n
 
 not_short : (c : tie.Else-states-n) → too_short c.before.before.before.before ≡ false
 not_short c = rw (number c.before.before.before.before) at c.if-states-n.false

@@ -29,19 +29,19 @@ abbrev begun : tie.At-loop-t invariant-loop-t decreases-loop-t → tie.Start inv
 begun c = c.before.before.before.before.before.before.before.before.before.before
 
 offset_bounds-places-t : tie.Need-offset_bounds-places-t invariant-loop-t decreases-loop-t
-offset_bounds-places-t c = let h = (begun c.before.before).pre.few_triangles in search rules
+offset_bounds-places-t c = let h = (begun c.before.before).requires.few_triangles in search rules
 
 bounds-places-t : tie.Need-bounds-places-t invariant-loop-t decreases-loop-t
-bounds-places-t c = let h = (begun c.before.before.before).pre.places_long in omega arith
+bounds-places-t c = let h = (begun c.before.before.before).requires.places_long in omega arith
 
 overflow_cast-places : tie.Need-overflow_cast-places invariant-loop-t decreases-loop-t
 overflow_cast-places c = omega (arith, c.shared_slice_known-in-loop-t-1.given c.before.before.before.loop-t.t)
 
 offset_bounds-terms-t : tie.Need-offset_bounds-terms-t invariant-loop-t decreases-loop-t
-offset_bounds-terms-t c = let h = (begun c.before.before.before).pre.few_triangles in search rules
+offset_bounds-terms-t c = let h = (begun c.before.before.before).requires.few_triangles in search rules
 
 bounds-terms-t : tie.Need-bounds-terms-t invariant-loop-t decreases-loop-t
-bounds-terms-t c = let h = (begun c.before.before.before.before).pre.terms_long in omega arith
+bounds-terms-t c = let h = (begun c.before.before.before.before).requires.terms_long in omega arith
 
 add_flips-requires : tie.Need-add_flips-requires invariant-loop-t decreases-loop-t
 add_flips-requires c κs =
@@ -52,7 +52,7 @@ add_flips-requires c κs =
     (rw same fits.vector_long, λ i h. fits.within i at_loop.loop-t.t (rw same at h) (omega arith))
 
 overflow_step-t : tie.Need-overflow_step-t invariant-loop-t decreases-loop-t
-overflow_step-t c = let h = (begun c.before.before.before.before.before.before.before).pre.few_triangles in search rules
+overflow_step-t c = let h = (begun c.before.before.before.before.before.before.before).requires.few_triangles in search rules
 
 loop-t-smaller : tie.Need-loop-t-smaller invariant-loop-t decreases-loop-t
 loop-t-smaller c = search rules

@@ -30,7 +30,7 @@ started c = c.before.before.before.before.before.before
 ends : (c : tie.After-smaller-to invariant-loop-from decreases-loop-from) → (c.before.before.loop-from.from < c.smaller-to.result) × (c.smaller-to.result ≤ (started c.before.before).args.n)
 ends c = let e = c.smaller-to.ensures in (omega arith, omega arith)
 
-room : (c : tie.After-smaller-to invariant-loop-from decreases-loop-from) → c.smaller-to.result ≤ length c.before.before.loop-from.result
+room : (c : tie.After-smaller-to invariant-loop-from decreases-loop-from) → c.smaller-to.result ≤ length c.before.before.loop-from.res
 room c =
     let at_loop = c.before.before in
     omega (arith, (ends c).1, at_loop.loop-from.invariant.1, (started at_loop).requires.2)
@@ -55,7 +55,7 @@ write_block-requires c κs =
     let cut = c.before in
     let at_loop = cut.before.before in
     let fits = (started at_loop).requires.1 in
-    let long = mid_len at_loop.loop-from.from cut.smaller-to.result at_loop.loop-from.result (room cut) in
+    let long = mid_len at_loop.loop-from.from cut.smaller-to.result at_loop.loop-from.res (room cut) in
     let whole : at_loop.loop-from.from + (cut.smaller-to.result - at_loop.loop-from.from) ≤ (started at_loop).args.n = omega (arith, ends cut) in
     record {
       few_triangles = fits.few_triangles;
@@ -76,7 +76,7 @@ loop-from-preserved c =
     let inv = at_loop.loop-from.invariant in
     let written = c.before.before.write_block in
     let rises : at_loop.loop-from.from ≤ cut.smaller-to.result = omega (arith, (ends cut).0) in
-    ((ends cut).1, same_len_mid {X = Float} at_loop.loop-from.from (cut.smaller-to.result - at_loop.loop-from.from) at_loop.loop-from.result written.new.0 written.auto.0 ∙ inv.1, next_begun _ _ _ _ _ _ rises (room cut) inv.2 written.ensures)
+    ((ends cut).1, same_len_mid {X = Float} at_loop.loop-from.from (cut.smaller-to.result - at_loop.loop-from.from) at_loop.loop-from.res written.new.0 written.auto.0 ∙ inv.1, next_begun _ _ _ _ _ _ rises (room cut) inv.2 written.ensures)
 
 shape_of-res : tie.Need-shape_of-res invariant-loop-from decreases-loop-from
 shape_of-res c = c.before.loop-from.invariant.1

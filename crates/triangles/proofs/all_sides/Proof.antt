@@ -27,17 +27,17 @@ loop-t-init c = (omega arith, refl, refl, λ k h. absurd (omega arith))
 sides_of-requires : tie.Need-sides_of-requires invariant-loop-t decreases-loop-t
 sides_of-requires c κs =
     let at_loop = c.before.before.before.before.before in
-    let made = at_loop.before in
-    let good = made.before.requires in
+    let made = at_loop in
+    let good = made.requires in
     let index = made.edge_table-table.ensures in
     (small_triangle _ _ good _ index (omega arith), sided _ _ good _ index (omega arith))
 
 -- the edges that were found are those of the triangle
-found : (c : tie.After-sides_of invariant-loop-t decreases-loop-t) → SidesOf (complex_of c.before.before.before.before.before.before.before.before.args.c) c.before.before.before.before.before.before.loop-t.t c.sides_of.result
+found : (c : tie.After-sides_of invariant-loop-t decreases-loop-t) → SidesOf (complex_of c.before.before.before.before.before.before.before.args.c) c.before.before.before.before.before.loop-t.t c.sides_of.result
 found c =
     let at_loop = c.before.before.before.before.before.before in
-    let made = at_loop.before in
-    let start = made.before in
+    let made = at_loop in
+    let start = made in
     record {
       number = rw (triangles_long start.args.c) (omega arith);
       are = rw c.sides_of.ensures (sides_read _ _ start.requires _ made.edge_table-table.ensures (omega arith));
@@ -45,7 +45,7 @@ found c =
 
 write_sides-requires : tie.Need-write_sides-requires invariant-loop-t decreases-loop-t
 write_sides-requires c κs =
-    let start = c.before.before.before.before.before.before.before.before in
+    let start = c.before.before.before.before.before.before.before in
     let right = (accepted start.args.c).0 start.requires in
     let below = sides_below _ _ _ (found c).are right (found c).number in
     let t = (found c).number in
@@ -59,8 +59,8 @@ loop-t-smaller c = search rules
 
 loop-t-preserved : tie.Need-loop-t-preserved invariant-loop-t decreases-loop-t
 loop-t-preserved c =
-    let at_loop = c.before.before.before.before.before.before.before in
-    let start = at_loop.before.before in
+    let at_loop = c.before.before.before.before.before.before in
+    let start = at_loop.before in
     let right = (accepted start.args.c).0 start.requires in
     let of = found c.before in
     let t = of.number in

@@ -32,14 +32,14 @@ returns-then-c-triangle c = refuses _ (past_record _ (accepted c.before) (here (
 
 sides_of-s-requires : tie.Need-sides_of-s-requires
 sides_of-s-requires c κs =
-    let e = c.before.before.before in
-    let i = index_at e.before in
-    (small_triangle _ _ (accepted e.before) _ i e.if-c-triangle.false, sided _ _ (accepted e.before) _ i e.if-c-triangle.false)
+    let e = c.before in
+    let i = index_at e.before.before in
+    (small_triangle _ _ (accepted e.before.before) _ i e.if-c-triangle.false, sided _ _ (accepted e.before.before) _ i e.if-c-triangle.false)
 
 returns : tie.Need-returns
 unfolding indices_call indices_answer
 returns c =
-    let e = c.before.before.before.before in
+    let e = c.before.before.before in
     let good = accepted e.before in
     ends _ (past_record _ good (past (number_test _ _ ∙ lt-leb _ _ e.if-c-triangle.false) none)) (rw c.sides_of-s.ensures (sym (sides_read _ _ good _ (index_at e.before) e.if-c-triangle.false))) refl tt
 

@@ -16,15 +16,15 @@ enum_known-answer-in-Refused-1 c = search rules
 
 returns-in-Place : tie.Need-returns-in-Place
 unfolding outcome_told index_answer
-returns-in-Place c = sym (ap (λ w. outcome_told (index_answer w)) c.before.answer-1.given.1)
+returns-in-Place c = sym (ap (λ w. outcome_told (index_answer w)) c.in-Place.is)
 
 returns-in-NotInBasis : tie.Need-returns-in-NotInBasis
 unfolding outcome_told index_answer
-returns-in-NotInBasis c = sym (ap (λ w. outcome_told (index_answer w)) c.enum_told-1.given.1)
+returns-in-NotInBasis c = sym (ap (λ w. outcome_told (index_answer w)) c.in-NotInBasis.is)
 
 returns-in-Refused : tie.Need-returns-in-Refused
 unfolding outcome_told index_answer
-returns-in-Refused c = sym (ap (λ w. outcome_told (index_answer w)) c.before.answer-in-Refused-1.given.1)
+returns-in-Refused c = sym (ap (λ w. outcome_told (index_answer w)) c.in-Refused.is)
 
 pub told_index_spec : {M : Type 1} → statement M
 told_index_spec =

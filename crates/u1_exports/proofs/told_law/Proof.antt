@@ -17,11 +17,11 @@ enum_known-answer-in-Refused-1 c = search rules
 
 returns-in-Answer : tie.Need-returns-in-Answer
 unfolding outcome_told yes_of law_answer
-returns-in-Answer c = ap (λ n. record { refusal = 0; value = n }) (yes_number c.before.answer-1.given.0.0) ∙ sym (ap (λ w. outcome_told (yes_of (law_answer w))) c.before.answer-1.given.1)
+returns-in-Answer c = ap (λ n. record { refusal = 0; value = n }) (yes_number c.in-Answer.yes) ∙ sym (ap (λ w. outcome_told (yes_of (law_answer w))) c.in-Answer.is)
 
 returns-in-Refused : tie.Need-returns-in-Refused
 unfolding outcome_told yes_of law_answer
-returns-in-Refused c = sym (ap (λ w. outcome_told (yes_of (law_answer w))) c.before.answer-in-Refused-1.given.1)
+returns-in-Refused c = sym (ap (λ w. outcome_told (yes_of (law_answer w))) c.in-Refused.is)
 
 pub told_law_spec : {M : Type 1} → statement M
 told_law_spec =

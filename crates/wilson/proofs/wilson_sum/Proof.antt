@@ -66,7 +66,7 @@ room : (c : tie.In-states invariant-loop-k decreases-loop-k invariant-states dec
     × (c.before.states.i * (start c.before).args.s.edges ≤ 1048576 * 63)
 room c =
     let i = c.before.states.i in
-    let basis = (start c.before).pre.0.basis in
+    let basis = (start c.before).requires.0.basis in
     let few : i ≤ 1048576 = omega (arith, basis.few) in
     (row_within _ _ _ _ basis i (omega arith), mul-le-mul few (edges_few _ _ _ _ basis))
 
@@ -92,7 +92,7 @@ copy_state-requires : tie.Need-copy_state-requires invariant-loop-k decreases-lo
 copy_state-requires c κs =
     let at_states = c.before.before.before in
     let begun = start at_states in
-    let basis = begun.pre.0.basis in
+    let basis = begun.requires.0.basis in
     (at_states.states.invariant.2, rw (row_part begun.args.list.now begun.args.s.edges at_states.states.i, row_long _ _ _ _ basis at_states.states.i (omega arith)) (edges_few _ _ _ _ basis))
 
 loop-k-init : tie.Need-loop-k-init invariant-loop-k decreases-loop-k invariant-states decreases-states
@@ -101,7 +101,7 @@ loop-k-init c =
     let begun = start at_states in
     let i = at_states.states.i in
     let m = begun.args.s.edges in
-    let basis = begun.pre.0.basis in
+    let basis = begun.requires.0.basis in
     let inside : i < begun.args.s.states = omega arith in
     let front = ap (λ (n : ℕ). take n c.copy_state.new.row) (sym (row_long _ _ _ _ basis i inside)) ∙ (rw (row_part begun.args.list.now m i) at c.copy_state.ensures.1) in
     (refl, refl, omega arith, walk_begins _ _ _ _ c.copy_state.new.row c.copy_state.ensures.0 front (row_small _ _ _ _ basis i inside))
@@ -119,9 +119,9 @@ take_step-requires c κs =
     let at_loop = c.before.before.before.before in
     let begun = start (outer at_loop) in
     let k = at_loop.loop-k.k in
-    let basis = begun.pre.0.basis in
+    let basis = begun.requires.0.basis in
     rw (back8 (get_or begun.args.directions.now k (pos 0)) c.take_step-arg-1.given)
-    (step_ready _ _ _ _ _ begun.pre.1 (edges_few _ _ _ _ basis) k _ at_loop.loop-k.invariant.3 (omega arith) basis.truncation)
+    (step_ready _ _ _ _ _ begun.requires.1 (edges_few _ _ _ _ basis) k _ at_loop.loop-k.invariant.3 (omega arith) basis.truncation)
 
 -- what the step did
 stepped : (c : tie.After-take_step invariant-loop-k decreases-loop-k invariant-states decreases-states)
@@ -146,12 +146,12 @@ states-preserved-then-not-take_step c =
     let same : at_loop.loop-k.i ≡ i = at_loop.loop-k.invariant.0 in
     let more : at_loop.loop-k.k < length begun.args.edges.now = omega arith in
     let step = stepped c.before in
-    let out = step_leaves _ _ _ _ _ begun.pre.1 (edges_few _ _ _ _ begun.pre.0.basis) at_loop.loop-k.k _ u more (sym step.stays ∙ not-true _ (ap not c.if-not-take_step.true)) in
+    let out = step_leaves _ _ _ _ _ begun.requires.1 (edges_few _ _ _ _ begun.requires.0.basis) at_loop.loop-k.k _ u more (sym step.stays ∙ not-true _ (ap not c.if-not-take_step.true)) in
     rw same (
       omega arith,
-      at_states.states.inv.1,
+      at_states.states.invariant.1,
       ap length step.row_is ∙ shifted_length _ _ _ ∙ u.long,
-      λ complex basis. summed_left complex _ _ _ basis _ _ _ begun.pre.1 i _ _ (at_states.states.inv.3 complex basis) (rw (row_is complex _ _ _ basis i (omega arith)) at out),
+      λ complex basis. summed_left complex _ _ _ basis _ _ _ begun.requires.1 i _ _ (at_states.states.invariant.3 complex basis) (rw (row_is complex _ _ _ basis i (omega arith)) at out),
     )
 
 overflow_step-k : tie.Need-overflow_step-k invariant-loop-k decreases-loop-k invariant-states decreases-states
@@ -169,7 +169,7 @@ loop-k-preserved c =
       at_loop.loop-k.invariant.0,
       refl,
       omega arith,
-      rw step.row_is (step_stays _ _ _ _ _ begun.pre.1 (edges_few _ _ _ _ begun.pre.0.basis) at_loop.loop-k.k _ at_loop.loop-k.invariant.3 more (sym step.stays ∙ not-false _ (ap not c.if-not-take_step.false))),
+      rw step.row_is (step_stays _ _ _ _ _ begun.requires.1 (edges_few _ _ _ _ begun.requires.0.basis) at_loop.loop-k.k _ at_loop.loop-k.invariant.3 more (sym step.stays ∙ not-false _ (ap not c.if-not-take_step.false))),
     )
 
 -- ---- the walk is over
@@ -181,7 +181,7 @@ config c = take (start (outer c.before)).args.s.edges c.before.loop-k.reached
 
 config_long : (c : Arrived) → length (config c) ≡ (start (outer c.before)).args.s.edges
 config_long c =
-    let few = edges_few _ _ _ _ (start (outer c.before)).pre.0.basis in
+    let few = edges_few _ _ _ _ (start (outer c.before)).requires.0.basis in
     let long = c.before.loop-k.invariant.3.long in
     length-take-le (start (outer c.before)).args.s.edges c.before.loop-k.reached (omega arith)
 
@@ -204,8 +204,8 @@ arrived c complex basis =
     let begun = start (outer at_loop) in
     let past : at_loop.loop-k.k ≡ length begun.args.edges.now = omega arith in
     let is = row_is complex _ _ _ basis (outer at_loop).states.i (inside c) in (
-      rw is at (walk_stays _ _ _ _ _ begun.pre.1 at_loop.loop-k.k _ at_loop.loop-k.invariant.3 past),
-      rw is at (walk_leads _ _ _ _ _ begun.pre.1 at_loop.loop-k.k _ at_loop.loop-k.invariant.3 past),
+      rw is at (walk_stays _ _ _ _ _ begun.requires.1 at_loop.loop-k.k _ at_loop.loop-k.invariant.3 past),
+      rw is at (walk_leads _ _ _ _ _ begun.requires.1 at_loop.loop-k.k _ at_loop.loop-k.invariant.3 past),
     )
 
 slice_bounds-advance-count : tie.Need-slice_bounds-advance-count invariant-loop-k decreases-loop-k invariant-states decreases-states
@@ -216,7 +216,7 @@ slice_bounds-advance-start c = search rules
 
 slice_bounds-advance-end : tie.Need-slice_bounds-advance-end invariant-loop-k decreases-loop-k invariant-states decreases-states
 slice_bounds-advance-end c =
-    let few = edges_few _ _ _ _ (start (outer c.before.before)).pre.0.basis in
+    let few = edges_few _ _ _ _ (start (outer c.before.before)).requires.0.basis in
     let long = c.before.before.loop-k.invariant.3.long in
     search rules
 
@@ -224,7 +224,7 @@ advance-from-requires : tie.Need-advance-from-requires invariant-loop-k decrease
 advance-from-requires c κs =
     let over = c.before.before in
     let begun = start (outer over.before) in
-    (rw (sub-zero begun.args.s.edges) (list_rows _ _ _ _ begun.pre.0.basis (config over) (config_long over)), (outer over.before).states.inv.1)
+    (rw (sub-zero begun.args.s.edges) (list_rows _ _ _ _ begun.requires.0.basis (config over) (config_long over)), (outer over.before).states.invariant.1)
 
 -- the place of what was reached
 found : (c : tie.After-advance-from invariant-loop-k decreases-loop-k invariant-states decreases-states) (complex : Complex) → Basis c.before.before.before complex → c.advance-from.result ≡ place complex (start (outer c.before.before.before.before)).args.s.lambda (config c.before.before.before)
@@ -234,7 +234,7 @@ found c complex basis =
     let begun = start at_states in
     let there = arrived over complex basis in
     (rw (sub-zero begun.args.s.edges) at c.advance-from.ensures) _ (place_ranked complex _ _ _ basis (config over) (config_long over))
-    (sought complex _ _ _ basis _ _ _ begun.pre.1 at_states.states.i _ _ (at_states.states.inv.3 complex basis) (inside over) there.0 (config over) there.1 (config_long over))
+    (sought complex _ _ _ basis _ _ _ begun.requires.1 at_states.states.i _ _ (at_states.states.invariant.3 complex basis) (inside over) there.0 (config over) there.1 (config_long over))
 
 slice_bounds-add_reached-count : tie.Need-slice_bounds-add_reached-count invariant-loop-k decreases-loop-k invariant-states decreases-states
 slice_bounds-add_reached-count c = search rules
@@ -244,7 +244,7 @@ slice_bounds-add_reached-start c = search rules
 
 slice_bounds-add_reached-end : tie.Need-slice_bounds-add_reached-end invariant-loop-k decreases-loop-k invariant-states decreases-states
 slice_bounds-add_reached-end c =
-    let few = edges_few _ _ _ _ (start (outer c.before.before.before.before.before)).pre.0.basis in
+    let few = edges_few _ _ _ _ (start (outer c.before.before.before.before.before)).requires.0.basis in
     let long = c.before.before.before.before.before.loop-k.invariant.3.long in
     search rules
 
@@ -252,9 +252,9 @@ add_reached-total-requires : tie.Need-add_reached-total-requires invariant-loop-
 add_reached-total-requires c κs =
     let over = c.before.before.before.before.before in
     let begun = start (outer over.before) in
-    let basis = begun.pre.0.basis in
+    let basis = begun.requires.0.basis in
     let same : over.before.loop-k.i ≡ (outer over.before).states.i = over.before.loop-k.invariant.0 in
-    rw (sub-zero begun.args.s.edges, config_long over) (basis.few, edges_few _ _ _ _ basis, list_long _ _ _ _ basis, begun.pre.0.one_each, omega arith)
+    rw (sub-zero begun.args.s.edges, config_long over) (basis.few, edges_few _ _ _ _ basis, list_long _ _ _ _ basis, begun.requires.0.one_each, omega arith)
 
 overflow_step-i-in-states : tie.Need-overflow_step-i-in-states invariant-loop-k decreases-loop-k invariant-states decreases-states
 overflow_step-i-in-states c = search rules
@@ -270,21 +270,21 @@ states-preserved c =
     let at_states = outer at_loop in
     let begun = start at_states in
     let same : at_loop.loop-k.i ≡ at_states.states.i = at_loop.loop-k.invariant.0 in
-    let own = begun.pre.0.basis in
+    let own = begun.requires.0.basis in
     rw same (
       omega (arith, inside over),
       omega (arith, found sought_out _ own, place_within _ own.accepted begun.args.s.lambda (config over), own.count),
       at_loop.loop-k.invariant.3.long,
       λ complex basis.
           let there = arrived over complex basis in
-          summed_more complex _ _ _ basis _ _ _ begun.pre.1 at_states.states.i _ _ (at_states.states.inv.3 complex basis) (inside over) there.0 (config over) there.1 (config_long over)
+          summed_more complex _ _ _ basis _ _ _ begun.requires.1 at_states.states.i _ _ (at_states.states.invariant.3 complex basis) (inside over) there.0 (config over) there.1 (config_long over)
           sought_out.advance-from.result (found sought_out complex basis) c.add_reached-total.result ((rw (sub-zero begun.args.s.edges) at c.add_reached-total.ensures) ∙ ap (λ (k : ℕ). with_product begun.args.list.now begun.args.s.states begun.args.amplitudes.now k sought_out.advance-from.result (config over) at_states.states.total) same),
     )
 
 returns : tie.Need-returns invariant-loop-k decreases-loop-k invariant-states decreases-states
 returns c complex basis =
     let begun = start c.before in
-    summed_all complex _ _ _ basis _ _ _ begun.pre.1 c.before.states.i _ _ (c.before.states.invariant.3 complex basis) (omega arith)
+    summed_all complex _ _ _ basis _ _ _ begun.requires.1 c.before.states.i _ _ (c.before.states.invariant.3 complex basis) (omega arith)
 
 bounds-edges-k : tie.Need-bounds-edges-k invariant-loop-k decreases-loop-k invariant-states decreases-states
 bounds-edges-k c = search rules

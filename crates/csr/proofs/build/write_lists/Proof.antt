@@ -78,8 +78,8 @@ write_rows-requires c κs =
     let made = c.before.before.before.before.before.before.before.before in
     let s = start made in (
       small_rows _ _ _ _ (basis made),
-      writable (is made) _ _ _ (omega (arith, (basis made).count, made.write_numbers.ensures.long, s.pre.4))
-          (word_small _ _ _ _ (basis made) s.pre.2 s.args.p (weight s.args.given s.args.weights.now) _ _ made.write_numbers.ensures) s.pre.5 s.pre.6 (few made),
+      writable (is made) _ _ _ (omega (arith, (basis made).count, made.write_numbers.ensures.long, s.requires.4))
+          (word_small _ _ _ _ (basis made) s.requires.2 s.args.p (weight s.args.given s.args.weights.now) _ _ made.write_numbers.ensures) s.requires.5 s.requires.6 (few made),
     )
 
 write_starts-requires : tie.Need-write_starts-requires
@@ -87,7 +87,7 @@ write_starts-requires c κs =
     let made = c.before.before.before.before.before.before.before.before.before.before.before.before.before.before.before.before in
     let s = start made in
     let walked = c.before.before.before.before.before.before.before.write_rows.ensures.2 in
-    (omega (arith, walked.long, made.write_numbers.ensures.long, s.pre.4), starts_fit (is made) s.args.s.states (basis made).count _ _ _ _ _ _ _ _ walked (few made))
+    (omega (arith, walked.long, made.write_numbers.ensures.long, s.requires.4), starts_fit (is made) s.args.s.states (basis made).count _ _ _ _ _ _ _ _ walked (few made))
 
 shape_of-starts : tie.Need-shape_of-starts
 shape_of-starts c = search rules
@@ -102,7 +102,7 @@ returns : tie.Need-returns
 returns c =
     let made = c.before.before.before.before.before.before.before.before.before.before.before.before.before.before.before.before.before.before.before in
     let s = start made in
-    lists_written (is made) s.args.s.states (basis made).count _ _ _ _ _ _ _ _ _ _ _ s.pre.4 made.write_numbers.ensures c.before.before.before.before.before.before.before.before.before.before.write_rows.ensures.2 c.before.before.write_starts.ensures
+    lists_written (is made) s.args.s.states (basis made).count _ _ _ _ _ _ _ _ _ _ _ s.requires.4 made.write_numbers.ensures c.before.before.before.before.before.before.before.before.before.before.write_rows.ensures.2 c.before.before.write_starts.ensures
 
 pub write_lists_spec : {M : Type 1} → statement M
 write_lists_spec =

@@ -59,11 +59,11 @@ add_row-at-requires c κs =
     let at_loop = c.before.before.before.before.before.before.before in
     let s = start at_loop in
     let inv = at_loop.loop-i.invariant in
-    let writable = s.pre.1 in
+    let writable = s.requires.1 in
     let walking = writable.walking in
     let inside : at_loop.loop-i.i < s.args.s.states = c.before.before.before.before.before.before.loop-i-test.true in (
       record { few = walking.few; moves_few = walking.moves_few; each = walking.each },
-      s.pre.0,
+      s.requires.0,
       inside,
       omega (arith, inv.5.long, writable.room),
       pointers_right at_loop,
@@ -92,7 +92,7 @@ loop-i-preserved c =
       added.auto.1.1.1.1.1.1.1.1.1.1.1.1.1.1.0 ∙ inv.2,
       added.auto.1.1.1.1.1.1.1.1.1.1.0 ∙ inv.3,
       added.auto.1.1.1.1.1.1.1.1.1.1.1.0 ∙ inv.4,
-      walk_step _ _ _ _ s.pre.1 _ _ _ _ _ _ inv.5 inside _ _ _ _ _ (done_same (same at_loop) added.ensures),
+      walk_step _ _ _ _ s.requires.1 _ _ _ _ _ _ inv.5 inside _ _ _ _ _ (done_same (same at_loop) added.ensures),
     )
 
 shape_of-words : tie.Need-shape_of-words invariant-loop-i decreases-loop-i

@@ -31,8 +31,8 @@ row_room : (c : tie.In-loop-place invariant-loop-place decreases-loop-place)
     → (c.before.loop-place.place * length (start c.before).args.config.now + length (start c.before).args.config.now ≤ length (start c.before).args.states.now) × (c.before.loop-place.place * length (start c.before).args.config.now ≤ 2 ^ 20 * 63)
 row_room c =
     let s = start c.before in (
-      row_inside s.args.states.now s.args.n s.args.config.now s.args.free.now s.args.n_free s.pre.0 c.before.loop-place.place (inside c),
-      row_small s.args.states.now s.args.n s.args.config.now s.args.free.now s.args.n_free s.pre.0 c.before.loop-place.place (inside c),
+      row_inside s.args.states.now s.args.n s.args.config.now s.args.free.now s.args.n_free s.requires.0 c.before.loop-place.place (inside c),
+      row_small s.args.states.now s.args.n s.args.config.now s.args.free.now s.args.n_free s.requires.0 c.before.loop-place.place (inside c),
     )
 
 loop-place-init : tie.Need-loop-place-init invariant-loop-place decreases-loop-place
@@ -61,7 +61,7 @@ row_before-requires c κs =
     let at_loop = c.before.before in
     let s = start at_loop in
     rw (row_part s.args.states.now (length s.args.config.now) at_loop.loop-place.place)
-    (row_long s.args.states.now s.args.n s.args.config.now s.args.free.now s.args.n_free s.pre.0 at_loop.loop-place.place (inside c.before), s.pre.0.edges_few, s.pre.0.free_few, s.pre.0.free_fit)
+    (row_long s.args.states.now s.args.n s.args.config.now s.args.free.now s.args.n_free s.requires.0 at_loop.loop-place.place (inside c.before), s.requires.0.edges_few, s.requires.0.free_few, s.requires.0.free_fit)
 
 abbrev Tested : Type 0
 Tested = tie.After-row_before invariant-loop-place decreases-loop-place
@@ -80,7 +80,7 @@ past_row c p r =
 returns-then-not-row_before : tie.Need-returns-then-not-row_before invariant-loop-place decreases-loop-place
 returns-then-not-row_before c p r h =
     let at_loop = loop_of c.before in
-    omega (arith, at_loop.loop-place.inv.1 p r h, ltb-false at_loop.loop-place.place p (past_row c.before p r ∙ not-true _ (ap not c.if-not-row_before.true)))
+    omega (arith, at_loop.loop-place.invariant.1 p r h, ltb-false at_loop.loop-place.place p (past_row c.before p r ∙ not-true _ (ap not c.if-not-row_before.true)))
 
 overflow_add-place : tie.Need-overflow_add-place invariant-loop-place decreases-loop-place
 overflow_add-place c = search rules

@@ -35,8 +35,8 @@ inside c = omega arith
 row_room : (c : tie.In-loop-low invariant-loop-low decreases-loop-low) → (row_start c.before + length (start c.before).args.config.now ≤ length (start c.before).args.states.now) × (row_start c.before ≤ 2 ^ 20 * 63)
 row_room c =
     let s = start c.before in (
-      row_inside s.args.states.now s.args.n s.args.config.now s.args.free.now s.args.n_free s.pre (middle c.before) (inside c),
-      row_small s.args.states.now s.args.n s.args.config.now s.args.free.now s.args.n_free s.pre (middle c.before) (inside c),
+      row_inside s.args.states.now s.args.n s.args.config.now s.args.free.now s.args.n_free s.requires (middle c.before) (inside c),
+      row_small s.args.states.now s.args.n s.args.config.now s.args.free.now s.args.n_free s.requires (middle c.before) (inside c),
     )
 
 loop-low-init : tie.Need-loop-low-init invariant-loop-low decreases-loop-low
@@ -71,7 +71,7 @@ row_before-requires c κs =
     let at_loop = c.before.before in
     let s = start at_loop in
     rw (row_part s.args.states.now (length s.args.config.now) (middle at_loop))
-    (row_long s.args.states.now s.args.n s.args.config.now s.args.free.now s.args.n_free s.pre (middle at_loop) (inside c.before), s.pre.edges_few, s.pre.free_few, s.pre.free_fit)
+    (row_long s.args.states.now s.args.n s.args.config.now s.args.free.now s.args.n_free s.requires (middle at_loop) (inside c.before), s.requires.edges_few, s.requires.free_few, s.requires.free_fit)
 
 abbrev Tested : Type 0
 Tested = tie.After-row_before invariant-loop-low decreases-loop-low
@@ -99,8 +99,8 @@ loop-low-preserved-then-row_before : tie.Need-loop-low-preserved-then-row_before
 loop-low-preserved-then-row_before c =
     let at_loop = loop_of c.before in (
       omega arith,
-      at_loop.loop-low.inv.1,
-      λ p r. (omega (arith, ltb-true (middle at_loop) p (past_middle c.before p r ∙ c.if-row_before.true)), (at_loop.loop-low.inv.2 p r).1),
+      at_loop.loop-low.invariant.1,
+      λ p r. (omega (arith, ltb-true (middle at_loop) p (past_middle c.before p r ∙ c.if-row_before.true)), (at_loop.loop-low.invariant.2 p r).1),
     )
 
 loop-low-smaller : tie.Need-loop-low-smaller invariant-loop-low decreases-loop-low
@@ -111,7 +111,7 @@ loop-low-preserved c =
     let at_loop = loop_of c.before in (
       omega arith,
       omega arith,
-      λ p r. ((at_loop.loop-low.inv.2 p r).0, ltb-false (middle at_loop) p (past_middle c.before p r ∙ c.if-row_before.false)),
+      λ p r. ((at_loop.loop-low.invariant.2 p r).0, ltb-false (middle at_loop) p (past_middle c.before p r ∙ c.if-row_before.false)),
     )
 
 returns : tie.Need-returns invariant-loop-low decreases-loop-low

@@ -30,11 +30,11 @@ bounds-vector-i c = search rules
 row_energy-requires : tie.Need-row_energy-requires invariant-loop-i decreases-loop-i
 row_energy-requires c κs = (_, c.before.before.before.before.before.requires.0, omega arith)
 
-mul-result : tie.Need-overflow-mul-result invariant-loop-i decreases-loop-i
-mul-result c = search rules
+offset_bounds-res-i : tie.Need-offset_bounds-res-i invariant-loop-i decreases-loop-i
+offset_bounds-res-i c = search rules
 
-slice-write-result : tie.Need-slice-write-result invariant-loop-i decreases-loop-i
-slice-write-result c = search rules
+bounds-res-i : tie.Need-bounds-res-i invariant-loop-i decreases-loop-i
+bounds-res-i c = search rules
 
 overflow_step-i : tie.Need-overflow_step-i invariant-loop-i decreases-loop-i
 overflow_step-i c = search rules
@@ -49,7 +49,7 @@ loop-i-preserved c =
     let i = at_loop.loop-i.i in (
       omega arith,
       rw length-set at_loop.loop-i.invariant.1,
-      electric_turn a.factor a.m a.list.now a.vector.now a.result.now at_loop.loop-i.result i _ (omega (arith, at_loop.before.before.before.requires.2)) at_loop.loop-i.invariant.2 (rw (zero, ← c.row_energy.ensures)),
+      electric_turn a.factor a.m a.list.now a.vector.now a.res.now at_loop.loop-i.res i _ (omega (arith, at_loop.before.before.before.requires.2)) at_loop.loop-i.invariant.2 (rw (zero, ← c.row_energy.ensures)),
     )
 
 shape_of-res : tie.Need-shape_of-res invariant-loop-i decreases-loop-i
@@ -59,13 +59,7 @@ returns : tie.Need-returns invariant-loop-i decreases-loop-i
 returns c =
     let a = c.before.before.before.before.args in
     let past : c.before.loop-i.i ≡ a.n = omega arith in
-    (rw past at c.before.loop-i.invariant.2) ∙ electric_all a.factor a.m a.list.now a.vector.now a.n a.result.now
-
-offset_bounds-res-i : tie.Need-offset_bounds-res-i invariant-loop-i decreases-loop-i
-offset_bounds-res-i c = search rules
-
-bounds-res-i : tie.Need-bounds-res-i invariant-loop-i decreases-loop-i
-bounds-res-i c = search rules
+    (rw past at c.before.loop-i.invariant.2) ∙ electric_all a.factor a.m a.list.now a.vector.now a.n a.res.now
 
 pub write_electric_spec : {M : Type 1} → statement M
 write_electric_spec =

@@ -23,7 +23,7 @@ turned_is c =
     back32 c.turned.result c.turned.type_inv ∙ c.turned.ensures ∙ ap₂ ◌*ℤ◌ (back32 s.args.x s.fits.x.sfits) (back8 s.args.sign s.fits.sign.sfits)
 
 turned_small : (c : tie.After-turned) → nat_abs ((start c).args.x *ℤ (start c).args.sign) ≤ (start c).args.lambda
-turned_small c = let s = start c in omega (arith, size_sign s.args.x s.args.sign s.pre.2, s.pre.0)
+turned_small c = let s = start c in omega (arith, size_sign s.args.x s.args.sign s.requires.2, s.requires.0)
 
 is_zero-requires : tie.Need-is_zero-requires
 is_zero-requires c κs = search rules
@@ -47,7 +47,7 @@ turned-requires c κs =
 gap-requires : tie.Need-gap-requires
 gap-requires c κs =
     let s = start c in
-    rw (top_is c.before, turned_is c) (omega (arith, s.pre.1), omega (arith, turned_small c, s.pre.1), below_top s.args.lambda (s.args.x *ℤ s.args.sign) (turned_small c))
+    rw (top_is c.before, turned_is c) (omega (arith, s.requires.1), omega (arith, turned_small c, s.requires.1), below_top s.args.lambda (s.args.x *ℤ s.args.sign) (turned_small c))
 
 smaller-requires : tie.Need-smaller-requires
 smaller-requires c κs = search rules
@@ -56,7 +56,7 @@ returns : tie.Need-returns
 returns c =
     let turning = c.before.before in
     let s = start turning in
-    room_is s.args.lambda s.args.x s.pre.0 s.args.sign s.pre.2 s.args.most _ s.pre.3
+    room_is s.args.lambda s.args.x s.requires.0 s.args.sign s.requires.2 s.args.most _ s.requires.3
     (rw (← (top_is turning.before), ← (turned_is turning), ← c.before.gap.ensures) c.smaller.ensures)
 
 pub room_spec : {M : Type 1} → statement M

@@ -25,62 +25,6 @@ overflow_add-a c = search rules
 overflow_add-b : tie.Need-overflow_add-b invariant-loop-k decreases-loop-k
 overflow_add-b c = search rules
 
-mul-result : tie.Need-overflow-mul-result invariant-loop-k decreases-loop-k
-mul-result c = search rules
-
-slice-read-result : tie.Need-slice-read-result invariant-loop-k decreases-loop-k
-slice-read-result c = search rules
-
-mul-result-2 : tie.Need-overflow-mul-result-2 invariant-loop-k decreases-loop-k
-mul-result-2 c = search rules
-
-shared-slice-read-result : tie.Need-shared-slice-read-result invariant-loop-k decreases-loop-k
-shared-slice-read-result c = search rules
-
-mul-result-3 : tie.Need-overflow-mul-result-3 invariant-loop-k decreases-loop-k
-mul-result-3 c = search rules
-
-slice-write-result : tie.Need-slice-write-result invariant-loop-k decreases-loop-k
-slice-write-result c = search rules
-
-mul-result-4 : tie.Need-overflow-mul-result-4 invariant-loop-k decreases-loop-k
-mul-result-4 c = search rules
-
-slice-read-result-2 : tie.Need-slice-read-result-2 invariant-loop-k decreases-loop-k
-slice-read-result-2 c = rw length-set (omega arith)
-
-mul-result-5 : tie.Need-overflow-mul-result-5 invariant-loop-k decreases-loop-k
-mul-result-5 c = search rules
-
-shared-slice-read-result-2 : tie.Need-shared-slice-read-result-2 invariant-loop-k decreases-loop-k
-shared-slice-read-result-2 c = search rules
-
-mul-result-6 : tie.Need-overflow-mul-result-6 invariant-loop-k decreases-loop-k
-mul-result-6 c = search rules
-
-slice-write-result-2 : tie.Need-slice-write-result-2 invariant-loop-k decreases-loop-k
-slice-write-result-2 c = rw length-set (omega arith)
-
-overflow_step-k : tie.Need-overflow_step-k invariant-loop-k decreases-loop-k
-overflow_step-k c = search rules
-
-loop-k-smaller : tie.Need-loop-k-smaller invariant-loop-k decreases-loop-k
-loop-k-smaller c = search rules
-
-loop-k-preserved : tie.Need-loop-k-preserved invariant-loop-k decreases-loop-k
-unfolding run_added with_hit
-loop-k-preserved c =
-    let at_loop = c.before.before.before.before.before in
-    (omega arith, rw (length-set, length-set) at_loop.loop-k.invariant.1, rw (add-one at_loop.loop-k.k, ← at_loop.loop-k.invariant.2))
-
-shape_of-res : tie.Need-shape_of-res invariant-loop-k decreases-loop-k
-shape_of-res c = search rules
-
-returns : tie.Need-returns invariant-loop-k decreases-loop-k
-returns c =
-    let past : c.before.loop-k.k ≡ c.before.before.args.count = omega arith in
-    rw past at c.before.loop-k.invariant.2
-
 offset_bounds-res-a : tie.Need-offset_bounds-res-a invariant-loop-k decreases-loop-k
 offset_bounds-res-a c = search rules
 
@@ -103,7 +47,7 @@ offset_bounds-res-b : tie.Need-offset_bounds-res-b invariant-loop-k decreases-lo
 offset_bounds-res-b c = search rules
 
 bounds-res-b : tie.Need-bounds-res-b invariant-loop-k decreases-loop-k
-bounds-res-b c = search rules
+bounds-res-b c = rw length-set (omega arith)
 
 offset_bounds-vector-a : tie.Need-offset_bounds-vector-a invariant-loop-k decreases-loop-k
 offset_bounds-vector-a c = search rules
@@ -115,7 +59,27 @@ offset_bounds-res-b-in-loop-k : tie.Need-offset_bounds-res-b-in-loop-k invariant
 offset_bounds-res-b-in-loop-k c = search rules
 
 bounds-res-b-in-loop-k : tie.Need-bounds-res-b-in-loop-k invariant-loop-k decreases-loop-k
-bounds-res-b-in-loop-k c = search rules
+bounds-res-b-in-loop-k c = rw length-set (omega arith)
+
+overflow_step-k : tie.Need-overflow_step-k invariant-loop-k decreases-loop-k
+overflow_step-k c = search rules
+
+loop-k-smaller : tie.Need-loop-k-smaller invariant-loop-k decreases-loop-k
+loop-k-smaller c = search rules
+
+loop-k-preserved : tie.Need-loop-k-preserved invariant-loop-k decreases-loop-k
+unfolding run_added with_hit
+loop-k-preserved c =
+    let at_loop = c.before.before.before.before.before in
+    (omega arith, rw (length-set, length-set) at_loop.loop-k.invariant.1, rw (add-one at_loop.loop-k.k, ← at_loop.loop-k.invariant.2))
+
+shape_of-res : tie.Need-shape_of-res invariant-loop-k decreases-loop-k
+shape_of-res c = search rules
+
+returns : tie.Need-returns invariant-loop-k decreases-loop-k
+returns c =
+    let past : c.before.loop-k.k ≡ c.before.before.args.count = omega arith in
+    rw past at c.before.loop-k.invariant.2
 
 pub add_run_spec : {M : Type 1} → statement M
 add_run_spec =

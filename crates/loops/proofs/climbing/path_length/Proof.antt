@@ -57,7 +57,7 @@ byte-requires c κs = tt
 across-x-requires : tie.Need-across-x-requires invariant-loop-x decreases-loop-x
 across-x-requires c κs =
     let up = c.before.before.before.before in
-    rw c.byte.ensures (first_edge (start (up_turn up)).pre.0 (apart (up_turn up)) up.if-parents-y.true)
+    rw c.byte.ensures (first_edge (start (up_turn up)).requires.0 (apart (up_turn up)) up.if-parents-y.true)
 
 abbrev up_from : tie.After-across-x invariant-loop-x decreases-loop-x → Up
 up_from c = c.before.before.before.before.before
@@ -66,14 +66,14 @@ climbed : (c : tie.After-across-x invariant-loop-x decreases-loop-x)
     → let turn = up_turn (up_from c) in FirstClimbs (start turn).args.c (start turn).args.parents (at_loop turn).loop-x.x (at_loop turn).loop-x.y c.across-x.result
 climbed c =
     let turn = up_turn (up_from c) in
-    first_climbs (start turn).pre.0 (apart turn) (up_from c).if-parents-y.true (rw c.before.byte.ensures at c.across-x.ensures)
+    first_climbs (start turn).requires.0 (apart turn) (up_from c).if-parents-y.true (rw c.before.byte.ensures at c.across-x.ensures)
 
 loop-x-smaller-then-parents-y : tie.Need-loop-x-smaller-then-parents-y invariant-loop-x decreases-loop-x
 loop-x-smaller-then-parents-y c = let q = (climbed c).shorter in omega arith
 
 loop-x-preserved-then-parents-y : tie.Need-loop-x-preserved-then-parents-y invariant-loop-x decreases-loop-x
 loop-x-preserved-then-parents-y c =
-    let inv = (at_loop (up_turn (up_from c))).loop-x.inv in
+    let inv = (at_loop (up_turn (up_from c))).loop-x.invariant in
     let q = (climbed c).shorter in
     ((climbed c).below, inv.1, omega (arith, inv.2))
 
@@ -93,7 +93,7 @@ byte-requires-else-parents-y c κs = tt
 across-y-requires : tie.Need-across-y-requires invariant-loop-x decreases-loop-x
 across-y-requires c κs =
     let down = c.before.before.before.before in
-    rw c.byte-else-parents-y.ensures (second_edge (start (down_turn down)).pre.0 (apart (down_turn down)) down.if-parents-y.false)
+    rw c.byte-else-parents-y.ensures (second_edge (start (down_turn down)).requires.0 (apart (down_turn down)) down.if-parents-y.false)
 
 abbrev down-from : tie.After-across-y invariant-loop-x decreases-loop-x → Down
 down-from c = c.before.before.before.before.before
@@ -102,14 +102,14 @@ reached : (c : tie.After-across-y invariant-loop-x decreases-loop-x)
     → let turn = down_turn (down-from c) in SecondClimbs (start turn).args.c (start turn).args.parents (at_loop turn).loop-x.x (at_loop turn).loop-x.y c.across-y.result
 reached c =
     let turn = down_turn (down-from c) in
-    second_climbs (start turn).pre.0 (apart turn) (down-from c).if-parents-y.false (rw c.before.byte-else-parents-y.ensures at c.across-y.ensures)
+    second_climbs (start turn).requires.0 (apart turn) (down-from c).if-parents-y.false (rw c.before.byte-else-parents-y.ensures at c.across-y.ensures)
 
 loop-x-smaller : tie.Need-loop-x-smaller invariant-loop-x decreases-loop-x
 loop-x-smaller c = let q = (reached c).shorter in omega arith
 
 loop-x-preserved : tie.Need-loop-x-preserved invariant-loop-x decreases-loop-x
 loop-x-preserved c =
-    let inv = (at_loop (down_turn (down-from c))).loop-x.inv in
+    let inv = (at_loop (down_turn (down-from c))).loop-x.invariant in
     let q = (reached c).shorter in
     (inv.0, (reached c).below, omega (arith, inv.2))
 

@@ -42,8 +42,8 @@ bounds-tree-i-in-loop-i c = let room = c.before.before.before.before.requires.ro
 bounds-led-v : tie.Need-bounds-led-v invariant-loop-i decreases-loop-i
 bounds-led-v c = bounds-place-v c.before
 
-overflow_add-i : tie.Need-overflow_add-i invariant-loop-i decreases-loop-i
-overflow_add-i c = search rules
+overflow_step-i : tie.Need-overflow_step-i invariant-loop-i decreases-loop-i
+overflow_step-i c = search rules
 
 loop-i-smaller : tie.Need-loop-i-smaller invariant-loop-i decreases-loop-i
 loop-i-smaller c = search rules
@@ -60,9 +60,6 @@ returns : tie.Need-returns invariant-loop-i decreases-loop-i
 returns c =
     let past : c.before.loop-i.i ≡ c.before.before.args.tree.found = omega arith in
     rw past at c.before.loop-i.invariant.2
-
-overflow_step-i : tie.Need-overflow_step-i invariant-loop-i decreases-loop-i
-overflow_step-i c = search rules
 
 pub tree_parents_spec : {M : Type 1} → statement M
 tree_parents_spec =

@@ -71,10 +71,10 @@ abbrev up_turn : Up → Turn
 up_turn c = c.before.before.before
 
 up_edge : (c : Up) → led_by (start (up_turn c)).args.parents (at_loop (up_turn c)).loop-x.x < 63
-up_edge c = first_edge (start (up_turn c)).pre.0 (apart (up_turn c)) c.if-parents-y.true
+up_edge c = first_edge (start (up_turn c)).requires.0 (apart (up_turn c)) c.if-parents-y.true
 
 bounds-parents-x-then-parents-y : tie.Need-bounds-parents-x-then-parents-y invariant-loop-x decreases-loop-x
-bounds-parents-x-then-parents-y c = let turn = up_turn c in first_fits (start turn).pre.0 (apart turn)
+bounds-parents-x-then-parents-y c = let turn = up_turn c in first_fits (start turn).requires.0 (apart turn)
 
 bounds-edges-front : tie.Need-bounds-edges-front invariant-loop-x decreases-loop-x
 bounds-edges-front c = let r = room (up_turn c.before) in omega (arith, r.some, r.edges)
@@ -107,7 +107,7 @@ climbed : (c : tie.After-across-x invariant-loop-x decreases-loop-x)
     → let turn = up_turn (up_from c) in FirstClimbs (start turn).args.c (start turn).args.parents (at_loop turn).loop-x.x (at_loop turn).loop-x.y c.across-x.result
 climbed c =
     let turn = up_turn (up_from c) in
-    first_climbs (start turn).pre.0 (apart turn) (up_from c).if-parents-y.true (rw c.before.byte-then-parents-y.ensures at c.across-x.ensures)
+    first_climbs (start turn).requires.0 (apart turn) (up_from c).if-parents-y.true (rw c.before.byte-then-parents-y.ensures at c.across-x.ensures)
 
 loop-x-smaller-then-parents-y : tie.Need-loop-x-smaller-then-parents-y invariant-loop-x decreases-loop-x
 loop-x-smaller-then-parents-y c = let q = (climbed c).shorter in omega arith
@@ -120,7 +120,7 @@ way_up c = back8 c.direction.result c.direction.type_inv ∙ (rw c.before.byte.e
 
 loop-x-preserved-then-parents-y : tie.Need-loop-x-preserved-then-parents-y invariant-loop-x decreases-loop-x
 loop-x-preserved-then-parents-y c =
-    let inv = (at_loop (up_turn (up_from c))).loop-x.inv in
+    let inv = (at_loop (up_turn (up_from c))).loop-x.invariant in
     let q = (climbed c).shorter in (
       (climbed c).below,
       inv.1,
@@ -137,10 +137,10 @@ abbrev down_turn : Down → Turn
 down_turn c = c.before.before.before
 
 down_edge : (c : Down) → led_by (start (down_turn c)).args.parents (at_loop (down_turn c)).loop-x.y < 63
-down_edge c = second_edge (start (down_turn c)).pre.0 (apart (down_turn c)) c.if-parents-y.false
+down_edge c = second_edge (start (down_turn c)).requires.0 (apart (down_turn c)) c.if-parents-y.false
 
 bounds-parents-y-else-parents-y : tie.Need-bounds-parents-y-else-parents-y invariant-loop-x decreases-loop-x
-bounds-parents-y-else-parents-y c = let turn = down_turn c in second_fits (start turn).pre.0 (apart turn)
+bounds-parents-y-else-parents-y c = let turn = down_turn c in second_fits (start turn).requires.0 (apart turn)
 
 byte-requires-else-parents-y : tie.Need-byte-requires-else-parents-y invariant-loop-x decreases-loop-x
 byte-requires-else-parents-y c κs = tt
@@ -164,7 +164,7 @@ direction-requires-else-parents-y : tie.Need-direction-requires-else-parents-y i
 direction-requires-else-parents-y c κs = rw c.byte-else-parents-y-2.ensures (down_edge (down-from c.before.before.before))
 
 abbrev down-directed : tie.After-direction-else-parents-y invariant-loop-x decreases-loop-x → tie.After-across-y invariant-loop-x decreases-loop-x
-down-directed c = c.before.before.before.before
+down-directed c = c.before.before.before
 
 bounds-directions-back : tie.Need-bounds-directions-back invariant-loop-x decreases-loop-x
 bounds-directions-back c = let r = room (down_turn (down-from (down-directed c))) in omega (arith, r.some, r.directions)
@@ -173,7 +173,7 @@ reached : (c : tie.After-across-y invariant-loop-x decreases-loop-x)
     → let turn = down_turn (down-from c) in SecondClimbs (start turn).args.c (start turn).args.parents (at_loop turn).loop-x.x (at_loop turn).loop-x.y c.across-y.result
 reached c =
     let turn = down_turn (down-from c) in
-    second_climbs (start turn).pre.0 (apart turn) (down-from c).if-parents-y.false (rw c.before.byte-else-parents-y.ensures at c.across-y.ensures)
+    second_climbs (start turn).requires.0 (apart turn) (down-from c).if-parents-y.false (rw c.before.byte-else-parents-y.ensures at c.across-y.ensures)
 
 loop-x-smaller : tie.Need-loop-x-smaller invariant-loop-x decreases-loop-x
 loop-x-smaller c = let q = (reached (down-directed c)).shorter in omega arith
@@ -187,13 +187,13 @@ way_down c = back8 c.direction-else-parents-y.result c.direction-else-parents-y.
 last_place : (c : tie.After-across-y invariant-loop-x decreases-loop-x)
     → let turn = down_turn (down-from c) in
     (at_loop turn).loop-x.back - 1 ≡ (at_loop turn).loop-x.front + length (path (complex_of (start turn).args.c) (at_loop turn).loop-x.x c.across-y.result)
-last_place c = let q = (reached c).shorter in omega (arith, (at_loop (down_turn (down-from c))).loop-x.inv.2)
+last_place c = let q = (reached c).shorter in omega (arith, (at_loop (down_turn (down-from c))).loop-x.invariant.2)
 
 loop-x-preserved : tie.Need-loop-x-preserved invariant-loop-x decreases-loop-x
 loop-x-preserved c =
     let d = reached (down-directed c) in
     let k = last_place (down-directed c) in
-    let inv = (at_loop (down_turn (down-from (down-directed c)))).loop-x.inv in (
+    let inv = (at_loop (down_turn (down-from (down-directed c)))).loop-x.invariant in (
       inv.0,
       d.below,
       k,

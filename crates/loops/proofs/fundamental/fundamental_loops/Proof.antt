@@ -28,14 +28,14 @@ returns-then-number-ne0 c = refuses _ (record_refuses _ c.before.judge-number.en
 accepted : (c : tie.Else-number-ne0) → refusal (complex_of c.before.before.before.before.args.c) ≡ 0
 accepted c = sym c.before.judge-number.ensures ∙ c.if-number-ne0.false
 
-spanned : (c : tie.After-search-tree) → Spanned c.before.before.before.before.before.before.before.args.c c.search-tree.result
-spanned c = searched_spanned _ _ (accepted c.before.before.before) c.search-tree.ensures
+spanned : (c : tie.After-search-tree) → Spanned c.before.before.before.before.before.before.args.c c.search-tree.result
+spanned c = searched_spanned _ _ (accepted c.before.before) c.search-tree.ensures
 
-parented : (c : tie.After-tree_parents-parents) → Parented c.before.before.before.before.before.before.before.before.before.args.c c.tree_parents-parents.result
+parented : (c : tie.After-tree_parents-parents) → Parented c.before.before.before.before.before.before.before.before.args.c c.tree_parents-parents.result
 parented c = noted_parented _ _ (spanned c.before.before) _ c.tree_parents-parents.ensures
 
 search-tree-requires : tie.Need-search-tree-requires
-search-tree-requires c κs = accepted_searchable _ (accepted c.before.before)
+search-tree-requires c κs = accepted_searchable _ (accepted c.before)
 
 free_edges-free-requires : tie.Need-free_edges-free-requires
 free_edges-free-requires c κs = spanned c
@@ -54,14 +54,14 @@ unfolding loops_call number_answer
 returns-then-starts-count c =
     let counted = c.before in
     let told = room_told _ _ counted.before.before.free_edges-free.ensures _ counted.total_steps-total.ensures _ _ _ in
-    refuses _ (past_record _ (accepted counted.before.before.before.before.before.before) (here (told ∙ c.if-starts-count.true))) refl
+    refuses _ (past_record _ (accepted counted.before.before.before.before.before) (here (told ∙ c.if-starts-count.true))) refl
 
 write_loops-requires : tie.Need-write_loops-requires
 write_loops-requires c κs =
     let decided = c.before.before.before in
     let counted = decided.before in
     let of = counted.before.before.free_edges-free.ensures in
-    let args = counted.before.before.before.before.before.before.before.before.before.before.args in
+    let args = counted.before.before.before.before.before.before.before.before.before.args in
     let room = long_enough _ _ of _ counted.total_steps-total.ensures args.starts.now args.edges.now args.directions.now decided.if-starts-count.false in
     (parented counted.before, of, room.0, room.1)
 
@@ -80,7 +80,7 @@ returns c =
     let decided = c.before.before.before.before.before.before.before.before.before in
     let counted = decided.before in
     let of = counted.before.before.free_edges-free.ensures in
-    let whole = accepted counted.before.before.before.before.before.before in
+    let whole = accepted counted.before.before.before.before.before in
     let told = room_told _ _ of _ counted.total_steps-total.ensures _ _ _ in
     ends _ (past_record _ whole (past (told ∙ decided.if-starts-count.false) none)) of.count (lists_are c.before.before.before.before.before.write_loops.ensures)
     (record { few = rw (← of.count) of.few; each = loops_fundamental _ ((accepting.accepted _).0 whole) })

@@ -43,9 +43,9 @@ next : (c : tie.After-loop_length-total invariant-loop-j decreases-loop-j)
     ((at_loop read).loop-j.total + c.loop_length-total.result ≡ length (loop_steps (complex_of (start read).args.c) ((at_loop read).loop-j.j + 1)))
     × (length (loop_steps (complex_of (start read).args.c) ((at_loop read).loop-j.j + 1)) ≤ 3969)
 next c =
-    let pre = (start c.before).pre in
+    let pre = (start c.before).requires in
     let count = steps_count (next_free pre.0 pre.1 (read c.before)) in
-    (omega (arith, (at_loop c.before).loop-j.inv.2, c.loop_length-total.ensures), steps_fit pre.0 pre.1 (omega arith))
+    (omega (arith, (at_loop c.before).loop-j.invariant.2, c.loop_length-total.ensures), steps_fit pre.0 pre.1 (omega arith))
 
 overflow_add-total : tie.Need-overflow_add-total invariant-loop-j decreases-loop-j
 overflow_add-total c = let n = next c in search rules

@@ -44,7 +44,7 @@ bounds-starts-j : tie.Need-bounds-starts-j invariant-loop-j decreases-loop-j
 bounds-starts-j c = let r = room c.before in let same = c.before.loop-j.invariant.3 in omega arith
 
 bounds-free-j : tie.Need-bounds-free-j invariant-loop-j decreases-loop-j
-bounds-free-j c = let few = (start c.before).pre.1.few in omega arith
+bounds-free-j c = let few = (start c.before).requires.1.few in omega arith
 
 byte-requires : tie.Need-byte-requires invariant-loop-j decreases-loop-j
 byte-requires c κs = tt
@@ -58,7 +58,7 @@ read c = record { more = omega arith; is = c.byte.ensures }
 put_loop-at-requires : tie.Need-put_loop-at-requires invariant-loop-j decreases-loop-j
 put_loop-at-requires c κs =
     let read_it = c.before.before in
-    let pre = (start (at_loop read_it)).pre in
+    let pre = (start (at_loop read_it)).requires in
     let inv = (at_loop read_it).loop-j.invariant in
     let n = next_free pre.0 pre.1 (read read_it) in (
       pre.0,
@@ -76,8 +76,8 @@ loop-j-preserved : tie.Need-loop-j-preserved invariant-loop-j decreases-loop-j
 loop-j-preserved c =
     let read_it = c.before.before.before.before.before.before in
     let loop = (at_loop read_it).loop-j in
-    let pre = (start (at_loop read_it)).pre in
-    let inv = loop.inv in
+    let pre = (start (at_loop read_it)).requires in
+    let inv = loop.invariant in
     let n = next_free pre.0 pre.1 (read read_it) in
     let written = c.before.before.before.put_loop-at.ensures in
     let count = steps_count n in (
@@ -113,7 +113,7 @@ returns c =
     let inv = c.before.loop-j.invariant in
     let begun = start c.before in
     let past : begun.args.free.count ≡ c.before.loop-j.j = omega arith in
-    let end = sym past ∙ begun.pre.1.count in
+    let end = sym past ∙ begun.requires.1.count in
     record {
       start_list = rw past (all_started (one_started inv.4 inv.2 (room c.before)) end);
       edge_list = all_laid inv.5 end;

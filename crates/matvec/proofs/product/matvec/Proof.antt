@@ -71,7 +71,7 @@ returns c =
     let right = enough.before in
     let placed = right.before.before.before in
     let a = (at-start placed).args in
-    ends (product_call a.starts.now a.columns.now a.values.now a.vector.now a.result.now) (past placed.before.before.before.if-starts-n.false (past (places_fit placed) (past (numbers_fit right) (past (le-ltb _ _ enough.if-res-n.false) none)))) refl c.before.before.multiply.ensures (valid right)
+    ends (product_call a.starts.now a.columns.now a.values.now a.vector.now a.res.now) (past placed.before.before.before.if-starts-n.false (past (places_fit placed) (past (numbers_fit right) (past (le-ltb _ _ enough.if-res-n.false) none)))) refl c.before.before.multiply.ensures (valid right)
 
 pub matvec_spec : {M : Type 1} → statement M
 matvec_spec =

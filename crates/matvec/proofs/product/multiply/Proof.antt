@@ -47,11 +47,11 @@ row_sum-requires c κs =
     let i = at_loop.loop-i.i in
     (valid.in_order i (i + 1) (omega arith) (omega arith), rw (← valid.last_start) (valid.in_order (i + 1) _ (omega arith) (omega arith)), valid.same_length, valid.columns_below)
 
-mul-result : tie.Need-overflow-mul-result invariant-loop-i decreases-loop-i
-mul-result c = search rules
+offset_bounds-res-i : tie.Need-offset_bounds-res-i invariant-loop-i decreases-loop-i
+offset_bounds-res-i c = search rules
 
-slice-write-result : tie.Need-slice-write-result invariant-loop-i decreases-loop-i
-slice-write-result c = search rules
+bounds-res-i : tie.Need-bounds-res-i invariant-loop-i decreases-loop-i
+bounds-res-i c = search rules
 
 overflow_step-i : tie.Need-overflow_step-i invariant-loop-i decreases-loop-i
 overflow_step-i c = search rules
@@ -63,11 +63,11 @@ loop-i-preserved : tie.Need-loop-i-preserved invariant-loop-i decreases-loop-i
 loop-i-preserved c =
     let at_loop = c.before.before.before.before in
     let a = at_loop.before.before.before.before.before.before.args in
-    let room : at_loop.loop-i.i < length a.result.now = omega arith in (
+    let room : at_loop.loop-i.i < length a.res.now = omega arith in (
       omega arith,
       refl,
       rw length-set at_loop.loop-i.invariant.2,
-      store_turn a.starts.now a.columns.now a.values.now a.vector.now a.result.now at_loop.loop-i.result at_loop.loop-i.i c.row_sum.result room at_loop.loop-i.invariant.3 c.row_sum.ensures,
+      store_turn a.starts.now a.columns.now a.values.now a.vector.now a.res.now at_loop.loop-i.res at_loop.loop-i.i c.row_sum.result room at_loop.loop-i.invariant.3 c.row_sum.ensures,
     )
 
 shape_of-res : tie.Need-shape_of-res invariant-loop-i decreases-loop-i
@@ -78,13 +78,7 @@ returns c =
     let at_loop = c.before in
     let a = at_loop.before.before.before.before.before.before.args in
     let past : at_loop.loop-i.i ≡ length a.vector.now = omega arith in
-    (rw past at at_loop.loop-i.invariant.3) ∙ all_stored a.starts.now a.columns.now a.values.now a.vector.now a.result.now
-
-offset_bounds-res-i : tie.Need-offset_bounds-res-i invariant-loop-i decreases-loop-i
-offset_bounds-res-i c = search rules
-
-bounds-res-i : tie.Need-bounds-res-i invariant-loop-i decreases-loop-i
-bounds-res-i c = search rules
+    (rw past at at_loop.loop-i.invariant.3) ∙ all_stored a.starts.now a.columns.now a.values.now a.vector.now a.res.now
 
 pub multiply_spec : {M : Type 1} → statement M
 multiply_spec =

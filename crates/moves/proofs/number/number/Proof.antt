@@ -31,8 +31,8 @@ told : (c : tie.After-digit invariant-loop-j decreases-loop-j) → c.digit.resul
 unfolding digit
 told c =
     let s = start c.before.before in
-    let small = s.pre.small c.before.before.byte-e.result in
-    let few = s.pre.low_small in
+    let small = s.requires.small c.before.before.byte-e.result in
+    let few = s.requires.low_small in
     c.digit.ensures ∙ rw (small_back (get_or s.args.row.now c.before.before.byte-e.result (pos 0)) (omega (arith, small, few))) (ap (λ e. nat_abs (get_or s.args.row.now e (pos 0) +ℤ pos s.args.low)) c.before.before.byte-e.ensures)
 
 next : (c : tie.After-digit invariant-loop-j decreases-loop-j)
@@ -48,7 +48,7 @@ next_small c =
     let at_loop = c.before.before.before.before in
     let s = start c in
     let next = numeral_next (2 * s.args.lambda + 1) (digit s.args.low s.args.free.now s.args.row.now) at_loop.loop-j.j at_loop.loop-j.a _ _ (omega arith) (omega (arith, c.before.before.before.loop-j-test.true)) at_loop.loop-j.invariant.1 refl in
-    omega (arith, next.1, s.pre.few)
+    omega (arith, next.1, s.requires.few)
 
 overflow_mul-base : tie.Need-overflow_mul-base invariant-loop-j decreases-loop-j
 overflow_mul-base c = let few = c.requires.truncation in search rules

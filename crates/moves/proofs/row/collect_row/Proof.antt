@@ -75,7 +75,7 @@ change_in-requires c κs = search rules
 overflow_add-number : tie.Need-overflow_add-number invariant-loop-k decreases-loop-k
 overflow_add-number c =
     let small = c.change_in.ensures.1 in
-    let few = (start c.before.before.before.before.before).pre.6 in
+    let few = (start c.before.before.before.before.before).requires.6 in
     search rules
 
 offset_bounds-terms-k : tie.Need-offset_bounds-terms-k invariant-loop-k decreases-loop-k
@@ -91,12 +91,12 @@ push_move-m-requires c κs =
     let inside : at_loop.loop-k.k < s.args.n_moves = c.before.before.before.before.before.before.before.before.loop-k-test.true in
     let pointers = pointers_right at_loop in
     let pushed = at_loop.before.before.before.before.before.push_entry-m.auto in (
-      s.pre.3,
-      s.pre.4,
-      omega (arith, pointers.long, inside, s.pre.0),
+      s.requires.3,
+      s.requires.4,
+      omega (arith, pointers.long, inside, s.requires.0),
       pointers.below at_loop.loop-k.k,
-      omega (arith, at_loop.loop-k.invariant.1, at_loop.loop-k.invariant.4, inside, pushed.0, s.pre.7),
-      at_loop.loop-k.invariant.1 ∙ pushed.0 ∙ s.pre.8 ∙ sym (at_loop.loop-k.invariant.2 ∙ pushed.1.0),
+      omega (arith, at_loop.loop-k.invariant.1, at_loop.loop-k.invariant.4, inside, pushed.0, s.requires.7),
+      at_loop.loop-k.invariant.1 ∙ pushed.0 ∙ s.requires.8 ∙ sym (at_loop.loop-k.invariant.2 ∙ pushed.1.0),
     )
 
 overflow_step-k : tie.Need-overflow_step-k invariant-loop-k decreases-loop-k
@@ -127,7 +127,7 @@ loop-k-preserved c =
     )
 
 shape_of-pointers : tie.Need-shape_of-pointers invariant-loop-k decreases-loop-k
-shape_of-pointers c = (pointers_right c.before).long ∙ sym (start c.before).pre.2.long
+shape_of-pointers c = (pointers_right c.before).long ∙ sym (start c.before).requires.2.long
 
 shape_of-row_columns : tie.Need-shape_of-row_columns invariant-loop-k decreases-loop-k
 shape_of-row_columns c = search rules

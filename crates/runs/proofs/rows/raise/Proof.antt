@@ -37,7 +37,7 @@ x_back : (c : In) → to_z w32 (of_z w32 (get_or (loop_of c).loop-i.states ((loo
     ≡ get_or (loop_of c).before.args.states.now ((loop_of c).before.args.at - (loop_of c).before.args.back + (loop_of c).loop-i.i) (pos 0)
 x_back c =
     let s = (loop_of c).before in
-    let h = s.pre in
+    let h = s.requires in
     back32 _ c.before.plus_amount-arg-1.given
     ∙ ap (λ l. get_or l (s.args.at - s.args.back + (loop_of c).loop-i.i) (pos 0)) (loop_of c).loop-i.invariant.4
     ∙ paste_outside s.args.states.now s.args.at _ (loop_of c).loop-i.i (pos 0) (omega (arith, h.room)) (omega (arith, raised_long s.args.states.now (s.args.at - s.args.back) s.args.amounts.now (readable s))) (s.args.at - s.args.back + (loop_of c).loop-i.i) (inl (omega (arith, h.before, h.apart)))
@@ -71,7 +71,7 @@ plus_amount-requires c κs =
     let at_loop = loop_of c in
     let s = at_loop.before in
     rw (x_back c, y_back c, ← (raised_at s.args.states.now (s.args.at - s.args.back) s.args.amounts.now (readable s) at_loop.loop-i.i (omega arith)))
-    (s.pre.small at_loop.loop-i.i)
+    (s.requires.small at_loop.loop-i.i)
 
 overflow_add-at : tie.Need-overflow_add-at invariant-loop-i decreases-loop-i
 overflow_add-at c = let room = c.before.before.before.before.before.requires.room in search rules

@@ -51,7 +51,7 @@ of c = own_sides _ _ c.before.before.before.before.all_sides-all.ensures _ _ (th
 
 triangle_place-place-requires : tie.Need-triangle_place-place-requires invariant-loop-t decreases-loop-t
 triangle_place-place-requires c κs =
-    let matrix = (start c.before.before).pre.0 in
+    let matrix = (start c.before.before).requires.0 in
     let right = matrix.loops.accepted in
     let below = sides_below _ _ _ (of c).are right (of c).number in
     (loops_readable _ _ matrix.loops matrix.few, omega (arith, below.0, right.few_edges), omega (arith, below.1, right.few_edges), omega (arith, below.2, right.few_edges))

@@ -96,8 +96,8 @@ flip_row-requires c κs =
     let pre = at_loop.before.before.before.before.before.before.before.requires in
     (omega (arith, pre.places_long, inv.8), inv.8 ∙ pre.same_long ∙ sym inv.9, inv.11 c.before.before.before.before.before.before.before.before.before.before.before.before.before.before.before.before.before.before.before.before.loop-i-test.true)
 
-overflow_add-i : tie.Need-overflow_add-i invariant-loop-i decreases-loop-i
-overflow_add-i c = search rules
+overflow_step-i : tie.Need-overflow_step-i invariant-loop-i decreases-loop-i
+overflow_step-i c = search rules
 
 loop-i-smaller : tie.Need-loop-i-smaller invariant-loop-i decreases-loop-i
 loop-i-smaller c = search rules
@@ -151,9 +151,6 @@ returns c =
     let all = inv.7 start.args.starts.now (length-set start.args.starts.now 0 0) (λ row sorted. none_written row _ _ _ some) in
     let ends : c.before.loop-i.at ≡ length (rows_to (table_entries start.args.electric start.args.states.now start.args.places.now start.args.terms.now start.args.n_triangles) start.args.n) = rw past at inv.6 in
     rw (← ends) (rw past at all)
-
-overflow_step-i : tie.Need-overflow_step-i invariant-loop-i decreases-loop-i
-overflow_step-i c = search rules
 
 pub write_rows_spec : {M : Type 1} → statement M
 write_rows_spec =

@@ -56,16 +56,16 @@ of c = own_sides _ _ c.before.before.before.before.all_sides-all.ensures _ _ (th
 triangle_place-place-requires : tie.Need-triangle_place-place-requires invariant-loop-t decreases-loop-t
 triangle_place-place-requires c κs =
     let start = begun c.before.before in
-    let right = start.pre.0.accepted in
+    let right = start.requires.0.accepted in
     let below = sides_below _ _ _ (of c).are right (of c).number in
-    (loops_readable _ _ start.pre.0 start.pre.1, omega (arith, below.0, right.few_edges), omega (arith, below.1, right.few_edges), omega (arith, below.2, right.few_edges))
+    (loops_readable _ _ start.requires.0 start.requires.1, omega (arith, below.0, right.few_edges), omega (arith, below.1, right.few_edges), omega (arith, below.2, right.few_edges))
 
 overflow_cast-places : tie.Need-overflow_cast-places invariant-loop-t decreases-loop-t
 overflow_cast-places c =
     let looping = c.before.before.before in
     let start = begun looping in
-    let place = c.triangle_place-place.ensures _ _ start.pre.0 (of c.before) in
-    let low = place_few _ _ start.pre.0 start.pre.1 _ (there looping) in
+    let place = c.triangle_place-place.ensures _ _ start.requires.0 (of c.before) in
+    let low = place_few _ _ start.requires.0 start.requires.1 _ (there looping) in
     omega arith
 
 offset_bounds-places-t : tie.Need-offset_bounds-places-t invariant-loop-t decreases-loop-t

@@ -32,7 +32,7 @@ loop-d-init c =
       omega arith,
       rw none (omega arith),
       refl,
-      rw (rows_none s.config.now s.cycle.now s.span.from s.span.from none) (sym (put_none s.states-1.now s.at)),
+      rw (rows_none s.config.now s.cycle.now s.span.from s.span.from none) (sym (put_none s.states.now s.at)),
     )
 
 -- one row more has room
@@ -80,7 +80,7 @@ loop-d-preserved c =
       omega arith,
       omega arith,
       omega (arith, row_after from d (length s) at_loop.loop-d.invariant.1),
-      c.before.write_row.auto.0 ∙ at_loop.loop-d.invariant.4,
+      c.before.write_row.auto.states ∙ at_loop.loop-d.invariant.4,
       made
           ∙ put_more start.args.states.now start.args.at (flatten (block_rows s z from d)) (with_cycle s (pos d) z) (omega arith)
           ∙ ap (put start.args.states.now start.args.at) (sym (flatten_last (block_rows s z from d) (with_cycle s (pos d) z)) ∙ ap flatten (sym (rows_more s z from d at_loop.loop-d.invariant.1))),

@@ -68,8 +68,8 @@ add-requires c κs =
     (cycle_addable m start.args.n_free start.args.lambda start.args.cycles.now fit j (omega arith) at_loop.loop-j.config _ at_loop.loop-j.invariant.3
     (λ i. omega (arith, at_loop.loop-j.invariant.5 i, fit.free_few)) (omega arith))
 
-overflow_add-j : tie.Need-overflow_add-j invariant-loop-j decreases-loop-j
-overflow_add-j c = search rules
+overflow_step-j : tie.Need-overflow_step-j invariant-loop-j decreases-loop-j
+overflow_step-j c = search rules
 
 loop-j-smaller : tie.Need-loop-j-smaller invariant-loop-j decreases-loop-j
 loop-j-smaller c = search rules
@@ -88,7 +88,7 @@ loop-j-preserved c =
       omega arith,
       refl,
       at_loop.loop-j.invariant.2,
-      c.before.add.auto.0 ∙ at_loop.loop-j.invariant.3,
+      c.before.add.auto.config ∙ at_loop.loop-j.invariant.3,
       made ∙ ap (λ s. with_cycle s (neg_ℤ (pos start.args.lambda)) (row m cycles j)) at_loop.loop-j.invariant.4 ∙ sym (combined_next (row m cycles) (λ i. neg_ℤ (pos start.args.lambda)) start.args.config.now j),
       λ i.
           rw made
@@ -108,9 +108,6 @@ returns c =
     let start = c.before.before.before in
     let past : c.before.loop-j.j ≡ start.args.n_free = omega arith in
     rw past at c.before.loop-j.invariant.4
-
-overflow_step-j : tie.Need-overflow_step-j invariant-loop-j decreases-loop-j
-overflow_step-j c = search rules
 
 pub begin_spec : {M : Type 1} → statement M
 begin_spec =

@@ -84,7 +84,7 @@ loop-j-init c =
     )
 
 bounds-free-j : tie.Need-bounds-free-j invariant-loop-j decreases-loop-j
-bounds-free-j c = omega (arith, (start c.before.before).pre.0.free_few)
+bounds-free-j c = omega (arith, (start c.before.before).requires.0.free_few)
 
 byte-requires : tie.Need-byte-requires invariant-loop-j decreases-loop-j
 byte-requires c κs = tt
@@ -144,11 +144,7 @@ overflow_add-j-in-loop-j c = search rules
 slice_bounds-add-count-in-loop-j : tie.Need-slice_bounds-add-count-in-loop-j invariant-loop-j decreases-loop-j
 slice_bounds-add-count-in-loop-j c = search rules
 
-part-add-start-2 : tie.Need-slice-bounds-add-start-2 invariant-loop-j decreases-loop-j
-part-add-start-2 c = search rules
 
-part-add-end-2 : tie.Need-slice-bounds-add-end-2 invariant-loop-j decreases-loop-j
-part-add-end-2 c = search rules
 
 add-requires-in-loop-j : tie.Need-add-requires-in-loop-j invariant-loop-j decreases-loop-j
 add-requires-in-loop-j c κs =
@@ -156,8 +152,8 @@ add-requires-in-loop-j c κs =
     let few : nat_abs (to_z w32 (of_z w32 at_loop.before.negative-back.result)) ≤ 2000 = rw at_loop.loop-j.invariant.2 (back_small (start at_loop).args.lambda (start at_loop).requires.0.truncation) in
     rw (part at_loop.loop-j.j (length (start at_loop).args.config.now)) (addable at_loop (omega arith) _ (omega arith))
 
-overflow_add-j : tie.Need-overflow_add-j invariant-loop-j decreases-loop-j
-overflow_add-j c = search rules
+overflow_add-j-in-loop-j-2 : tie.Need-overflow_add-j-in-loop-j-2 invariant-loop-j decreases-loop-j
+overflow_add-j-in-loop-j-2 c = search rules
 
 loop-j-smaller : tie.Need-loop-j-smaller invariant-loop-j decreases-loop-j
 loop-j-smaller c = search rules
@@ -168,7 +164,7 @@ loop-j-preserved c =
     let s = start at_loop in
     let m = length s.args.config.now in
     let j = at_loop.loop-j.j in
-    let fit = s.pre.0 in
+    let fit = s.requires.0 in
     let L = s.args.lambda in
     let z = row m s.args.cycles.now in
     let inside : j < 63 = omega (arith, fit.free_few) in
@@ -176,7 +172,7 @@ loop-j-preserved c =
       refl,
       at_loop.loop-j.invariant.1,
       at_loop.loop-j.invariant.2,
-      c.before.add-in-loop-j.auto.0 ∙ at_loop.loop-j.invariant.3,
+      c.before.add-in-loop-j.auto.config ∙ at_loop.loop-j.invariant.3,
       ap (stepped s.args.free.now z L (s.args.n_free - (j + 1)) (j + 1)) made
           ∙ sym (step_on s.args.free.now z L s.args.n_free j at_loop.loop-j.config (omega arith) (test c.before.before.before.before.before false c.before.before.before.before.if-x-top.false))
           ∙ at_loop.loop-j.invariant.4,
@@ -204,9 +200,6 @@ slice_bounds-add-start-in-loop-j c = search rules
 
 slice_bounds-add-end-in-loop-j : tie.Need-slice_bounds-add-end-in-loop-j invariant-loop-j decreases-loop-j
 slice_bounds-add-end-in-loop-j c = search rules
-
-overflow_add-j-in-loop-j-2 : tie.Need-overflow_add-j-in-loop-j-2 invariant-loop-j decreases-loop-j
-overflow_add-j-in-loop-j-2 c = search rules
 
 pub step_spec : {M : Type 1} → statement M
 step_spec =

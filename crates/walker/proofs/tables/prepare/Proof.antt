@@ -6,11 +6,11 @@ use Rattle.walker.proofs.Fitting.{begin_ready, cycles_may, tables_walk}
 use Rattle.walker.proofs.tables.prepare.Statement.{statement}
 use Rattle.walker.proofs.tables.prepare.Tie as tie
 
-spanned : (c : tie.After-search-tree) → Spanned c.before.before.before.args.c c.search-tree.result
-spanned c = searched_spanned _ _ c.before.before.before.requires.0 c.search-tree.ensures
+spanned : (c : tie.After-search-tree) → Spanned c.before.before.args.c c.search-tree.result
+spanned c = searched_spanned _ _ c.before.before.requires.0 c.search-tree.ensures
 
 search-tree-requires : tie.Need-search-tree-requires
-search-tree-requires c κs = accepted_searchable _ c.before.before.requires.0
+search-tree-requires c κs = accepted_searchable _ c.before.requires.0
 
 free_edges-free-requires : tie.Need-free_edges-free-requires
 free_edges-free-requires c κs = spanned c
@@ -19,13 +19,13 @@ tree_paths-paths-requires : tie.Need-tree_paths-paths-requires
 tree_paths-paths-requires c κs = spanned c.before
 
 fundamental_cycles-cycles-requires : tie.Need-fundamental_cycles-cycles-requires
-fundamental_cycles-cycles-requires c κs = (c.before.before.before.before.before.before.requires.0, c.before.tree_paths-paths.ensures, c.before.before.free_edges-free.ensures)
+fundamental_cycles-cycles-requires c κs = (c.before.before.before.before.before.requires.0, c.before.tree_paths-paths.ensures, c.before.before.free_edges-free.ensures)
 
 abbrev Made : Type 0
 Made = tie.After-fundamental_cycles-cycles
 
 abbrev start : Made → tie.Start
-start c = c.before.before.before.before.before.before.before
+start c = c.before.before.before.before.before.before
 
 fit : (c : Made) → CyclesFit (start c).args.c.n_edges c.before.before.before.free_edges-free.result.count (start c).args.lambda c.fundamental_cycles-cycles.result
 fit c =
@@ -54,7 +54,7 @@ returns c =
     let s = start made in
     let free = made.before.before.before.free_edges-free in
     let cycles = made.fundamental_cycles-cycles in
-    tables_walk s.args.c s.pre.0 s.args.lambda s.pre.1 free.result free.ensures cycles.result cycles.ensures c.before.begin.new.config c.before.begin.auto.0 c.before.begin.ensures
+    tables_walk s.args.c s.requires.0 s.args.lambda s.requires.1 free.result free.ensures cycles.result cycles.ensures c.before.begin.new.config c.before.begin.auto.config c.before.begin.ensures
 
 pub prepare_spec : {M : Type 1} → statement M
 prepare_spec =
