@@ -35,7 +35,8 @@ fn start() -> Moving
 // After one call more, which moved so many bytes or failed, a signal having interrupted it or not. A call that did neither is at the end.
 fn after(m: Moving, moved: usize, failed: bool, interrupted: bool) -> Moving
     requires { m.n + moved < 2 ^ 64 }
-    ensures { Moved moved failed m result }
+    ensures moved { Moved moved failed m result }
+    ensures tried { moved ≡ 0 → result.going ≡ true → interrupted ≡ true }
 {
     if 0 < moved {
         return Moving {

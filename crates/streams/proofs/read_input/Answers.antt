@@ -32,9 +32,9 @@ loop-m-preserved-in-Ok g c =
       long = search rules;
       inside = search rules;
       taken =
-          subst (Consumes _ _) (put ∙ ap (λ k. take k (put_mid n room list part)) (sym c.after-m.ensures.n))
+          subst (Consumes _ _) (put ∙ ap (λ k. take k (put_mid n room list part)) (sym c.after-m.ensures.moved.n))
           (Consumes-trans _ _ _ _ _ c.loop-m.invariant.taken c.in-Ok.ensures.bytes.0);
-      ended = λ h. c.in-Ok.ensures.bytes.1 (c.after-m.ensures.ended h).0 (search rules);
+      ended = λ h. c.in-Ok.ensures.bytes.1 (c.after-m.ensures.moved.ended h).0 (search rules);
     }
 
 pub returns-then-m-clause-taken : goal.returns-then-m-clause-taken

@@ -13,5 +13,5 @@ loop-m-preserved-in-Ok g c =
     let fits : n + moved ≤ length bytes = search rules in
     record {
       inside = search rules;
-      given = subst (Appends _ _) (given_up_to bytes n moved fits ∙ ap (λ k. take k bytes) (sym c.after-m.ensures.n)) (Appends-trans _ _ _ _ _ c.loop-m.invariant.given c.in-Ok.ensures.bytes);
+      given = subst (Appends _ _) (given_up_to bytes n moved fits ∙ ap (λ k. take k bytes) (sym c.after-m.ensures.moved.n)) (Appends-trans _ _ _ _ _ c.loop-m.invariant.given c.in-Ok.ensures.bytes);
     }
