@@ -99,7 +99,7 @@ write_sums-requires c κs =
     let listed = c.before.before.before in
     let enough = listed.before.before in
     let right = enough.before in
-    ((few right).0, (basis (judged right)).fit.edges, rw listed.write_states.auto.1.1.1.0 (room enough).0, right.before.before.if-amplitudes-n.false, (room enough).1)
+    ((few right).0, (basis (judged right)).fit.edges, rw listed.write_states.auto.states (room enough).0, right.before.before.if-amplitudes-n.false, (room enough).1)
 
 shape_of-states : tie.Need-shape_of-states
 shape_of-states c = search rules
