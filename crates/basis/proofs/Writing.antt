@@ -1,6 +1,6 @@
 -- What a writer was handed, piece by piece, is the beginning of the text.
 use Rattle.std.proofs.Common.{ℕ, ◌+◌, ◌≤◌, List, ◌++◌, ◌≡◌, false, subst, sym, ap, ◌∙◌, arith, length, take, drop, take_all}
-use Rattle.std.specs.Prelude.{Option, Result, Ok, Err, OnOk, ltb}
+use Rattle.std.specs.Prelude.{Option, Result, Ok, Err, OnOk}
 use Rattle.std.proofs.lemmas.List.{take-take}
 use lib.ListN.{length-take}
 use lib.Seq.{take-add}

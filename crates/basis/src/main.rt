@@ -49,16 +49,28 @@ fn say(rt: &HostRuntime, text: &[u8]) {
     let _ = rt.stderr().write_all(text);
 }
 
+// The words of an error of the system, without the number that its text ends with.
+fn words_of(text: &[u8]) -> &[u8] {
+    let number = b" (os error ";
+    match text
+        .windows(number.len())
+        .position(|part| part == number.as_slice())
+    {
+        Some(end) => &text[..end],
+        None => text,
+    }
+}
+
 // What failed and why, on a line of standard error.
-fn fail(rt: &HostRuntime, what: &str, why: Error) {
-    let _ = match why.to_string(rt.alloc()) {
-        // the words alone, without the number that the text of an error of the system ends with
-        Ok(text) => match text.split_once(" (os error ") {
-            Some((words, _)) => eprintln!(rt; "{what}: {words}"),
-            None => eprintln!(rt; "{what}: {text}"),
-        },
-        Err(_) => eprintln!(rt; "{what}: {why}"),
-    };
+fn fail(rt: &HostRuntime, what: &[u8], why: Error) {
+    let mut text = [0u8; 128];
+    let mut room: &mut [u8] = &mut text;
+    let _ = write!(room, "{why}");
+    let left = room.len();
+    say(rt, what);
+    say(rt, b": ");
+    say(rt, words_of(&text[..text.len().saturating_sub(left)]));
+    say(rt, b"\n");
 }
 
 // The number and the sentence of a refusal go to standard error.
@@ -117,7 +129,7 @@ fn answer<W: Write>(rt: &HostRuntime, output: &mut W, bytes: &[u8]) -> Status
     if let Err(why) = print(output, &mut out, begun.filled) {
         fail(
             rt,
-            "basis: the answer could not be written to standard output",
+            b"basis: the answer could not be written to standard output",
             why,
         );
         return Status::Failed;
@@ -137,7 +149,7 @@ fn list(rt: &HostRuntime) -> Status {
         Input::Unread(why) => {
             fail(
                 rt,
-                "basis: the sheet could not be read from standard input",
+                b"basis: the sheet could not be read from standard input",
                 why,
             );
             Status::Failed
@@ -151,7 +163,7 @@ fn tell(rt: &HostRuntime, text: &[u8]) -> Status {
     if written.n < text.len() {
         fail(
             rt,
-            "basis: the text could not be written to standard output",
+            b"basis: the text could not be written to standard output",
             unwritten(written),
         );
         return Status::Failed;

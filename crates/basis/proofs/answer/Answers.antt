@@ -1,7 +1,6 @@
 -- What the answer's refusal tells.
-use Rattle.std.proofs.Common.{ℕ, zero, suc, ◌≡◌, refl, sym, ap, inl, inr, arith}
+use Rattle.std.proofs.Common.{ℕ, zero, suc, ◌≡◌, refl, sym, ap, inr, arith}
 use Rattle.pages.specs.Text.{basis_refusal}
-use Rattle.basis.specs.declared.Status.{Status}
 use Rattle.basis.specs.declared.Status.TheVariants.{Answered, Refused, Failed}
 use Rattle.basis.specs.Status.{status_of}
 use Rattle.basis.proofs.answer.Goals as goal

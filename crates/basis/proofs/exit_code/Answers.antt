@@ -1,5 +1,5 @@
 -- A digit is no less than that of 0.
-use Rattle.std.proofs.Common.{ℕ, ◌≤◌, arith, sym, subst}
+use Rattle.std.proofs.Common.{◌≤◌, arith}
 use Rattle.basis.specs.declared.Status.{Status}
 use Rattle.basis.specs.declared.Status.TheVariants.{Answered, Refused, WrongUsage, Failed}
 use Rattle.basis.specs.Status.{status_digit}

@@ -1,5 +1,5 @@
 -- Each piece leaves less to come, and the next one stands in the list. What was written and the piece are the beginning of a text.
-use Rattle.std.proofs.Common.{ℕ, ◌+◌, ◌<◌, List, ◌≡◌, refl, ap, ◌∙◌, arith, length, subst}
+use Rattle.std.proofs.Common.{ℕ, ◌+◌, ◌<◌, List, refl, ap, ◌∙◌, arith, length, subst}
 use borrow.Author.Tests.{not-true}
 use Rattle.std.specs.Io.KnownBytes.{Appends}
 use lib.ListN.{length-drop}

@@ -1,6 +1,6 @@
 -- The sentence stands in the list.
 use mathlib.Core.Path.{sym}
-use Rattle.std.proofs.Common.{arith, ◌≤◌, length}
+use Rattle.std.proofs.Common.{arith}
 use lib.Seq.{length-take-le}
 use Rattle.answers.specs.Answer.{number_answer}
 use Rattle.refusals.proofs.Telling.{bytes_few}
