@@ -41,7 +41,7 @@ def read_crates():
         for line in f:
             name, colon, named = line.split("#")[0].partition(":")
             if colon:
-                lines[name.strip()] = named.split()
+                lines[name.split()[0]] = named.split()
     return {name: {d for d in named if d in lines} for name, named in lines.items()}
 
 

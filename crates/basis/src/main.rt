@@ -1,17 +1,23 @@
 // `basis list`: reads a sheet from standard input and prints its states, or the number of its refusal.
 #![tactic(auto)]
 
-ghost use Rattle.std.specs.Prelude.{◌≡◌, true, ◌≤◌, length};
-ghost use Rattle.pages.specs.Pages.{PageReady};
-ghost use Rattle.basis.specs.Status.{status_digit, Told};
+ghost use Rattle.std.specs.Prelude.{◌≡◌, true, ℕ, ◌+◌, ◌≤◌, List, OnOk, length};
+ghost use Rattle.std.specs.Io.KnownBytes.{Appends};
+ghost use Rattle.std.specs.Process.{exit_status};
+ghost use Rattle.pages.specs.Pages.{PageReady, Piece};
+ghost use Rattle.pages.specs.Text.{basis_refusal, basis_text};
+ghost use Rattle.basis.specs.Status.{status_digit, status_of, Told};
 
 use answers::Answer;
 use numbers::sizes::INPUT_ROOM;
 use pages::{Filled, fill_begin, fill_more};
 use refusals::refusal_text;
-use streams::{Input, read_input, write_output};
+use std::env::{Env, FillError};
+use std::io::{Error, ErrorKind, Result, Write};
+use std::process::ExitCode;
+use streams::{Input, Output, read_input, write_output};
 
-// How a run came out. The launcher makes its exit status of it.
+// How a run came out. The exit status is made of it.
 #[derive(Clone, Copy)]
 enum Status {
     Answered,
@@ -20,27 +26,63 @@ enum Status {
     Failed,
 }
 
-// Whether a word of the command line is the text, of at most 16 bytes.
-fn is_word(number: usize, text: &[u8]) -> bool {
-    let mut word = [0u8; 16];
-    let n = os::arg(number, &mut word);
-    check::same(&word[..n], text)
+// How many words the command line has, the program's name among them.
+fn word_count(env: &impl Env) -> usize {
+    for number in 0..usize::MAX {
+        if let Err(FillError::NotPresent) = env.arg(number, &mut []) {
+            return number;
+        }
+    }
+    usize::MAX
 }
 
-fn say(text: &[u8]) {
-    io::write_all(2, text);
+// Whether a word of the command line is the text, of at most 16 bytes.
+fn is_word(env: &impl Env, number: usize, text: &[u8]) -> bool {
+    let mut word = [0u8; 16];
+    match env.arg(number, &mut word) {
+        Ok(n) => check::same(&word[..n], text),
+        Err(_) => check::same(b"", text),
+    }
+}
+
+fn say(rt: &HostRuntime, text: &[u8]) {
+    let _ = rt.stderr().write_all(text);
+}
+
+// The words of an error of the system, without the number that its text ends with.
+fn words_of(text: &[u8]) -> &[u8] {
+    let number = b" (os error ";
+    match text
+        .windows(number.len())
+        .position(|part| part == number.as_slice())
+    {
+        Some(end) => &text[..end],
+        None => text,
+    }
+}
+
+// What failed and why, on a line of standard error.
+fn fail(rt: &HostRuntime, what: &[u8], why: Error) {
+    let mut text = [0u8; 128];
+    let mut room: &mut [u8] = &mut text;
+    let _ = write!(room, "{why}");
+    let left = room.len();
+    say(rt, what);
+    say(rt, b": ");
+    say(rt, words_of(&text[..text.len().saturating_sub(left)]));
+    say(rt, b"\n");
 }
 
 // The number and the sentence of a refusal go to standard error.
-fn say_refusal(number: usize) {
+fn say_refusal(rt: &HostRuntime, number: usize) {
     let mut text = [0u8; 256];
-    say(b"basis: refused ");
-    io::print_decimal(2, number as u64);
+    say(rt, b"basis: refused ");
+    let _ = eprint!(rt; "{number}");
     if let Answer::Number(n) = refusal_text(number, &mut text) {
-        say(b": ");
-        say(&text[..n]);
+        say(rt, b": ");
+        say(rt, &text[..n]);
     }
-    say(b"\n");
+    say(rt, b"\n");
 }
 
 fn buffer() -> [u8; 32768]
@@ -49,95 +91,123 @@ fn buffer() -> [u8; 32768]
     [0; 32768]
 }
 
-// What stands in the list goes out, and then all that is to come, piece by piece. Whether all of it could be written: nothing follows a piece that could not.
-fn print(out: &mut [u8], first: Filled) -> bool
+// Why not all was written. A write that takes nothing does not say why.
+fn unwritten(written: Output) -> Error {
+    match written.why {
+        Some(why) => why,
+        None => Error::from(ErrorKind::WriteZero),
+    }
+}
+
+// What stands in the list goes out, and then all that is to come, piece by piece. Or why not all of it could be written: nothing follows a piece that could not.
+fn print<W: Write>(output: &mut W, out: &mut [u8], first: Filled) -> Result<()>
     requires { (400 ≤ length out.old) × (first.len ≤ length out.old) × (first.more ≡ true → PageReady first.page) }
+    ensures { OnOk result ((text : List ℕ) → Piece text 0 out.old first → Appends (W.contents output.old) (W.contents output.new) text) }
 {
     let mut piece = first;
     loop {
         let len = piece.len;
-        if write_output(1, &out[..len]) < len {
-            return false;
+        let written = write_output(output, &out[..len]);
+        if written.n < len {
+            return Err(unwritten(written));
         }
         if !piece.more {
-            return true;
+            return output.flush();
         }
         piece = fill_more(out, piece.page);
     }
 }
 
-// The answer to the bytes of a sheet. A write may fail as late as when its descriptor is closed.
-fn answer(bytes: &[u8]) -> Status
-    ensures { Told bytes.now result }
+// The answer to the bytes of a sheet. Where it is not told that it failed, all of the text went out.
+fn answer<W: Write>(rt: &HostRuntime, output: &mut W, bytes: &[u8]) -> Status
+    ensures told { Told bytes.now result }
+    ensures given { result ≡ status_of (basis_refusal bytes.now) → Appends (W.contents output.old) (W.contents output.new) (basis_text bytes.now) }
 {
     let mut out = buffer();
     let begun = fill_begin(&mut out, bytes);
     let refusal = begun.refusal;
-    let written = print(&mut out, begun.filled);
-    if !written || libc::close(1) != 0 {
-        os::fail(b"basis: the answer could not be written to standard output");
+    if let Err(why) = print(output, &mut out, begun.filled) {
+        fail(
+            rt,
+            b"basis: the answer could not be written to standard output",
+            why,
+        );
         return Status::Failed;
     }
     if refusal == 0 {
         return Status::Answered;
     }
-    say_refusal(refusal);
+    say_refusal(rt, refusal);
     Status::Refused
 }
 
-fn list() -> Status {
+fn list(rt: &HostRuntime) -> Status {
     // one byte more than the longest sheet has
     let mut input = [0u8; INPUT_ROOM];
-    match read_input(0, &mut input) {
-        Input::Bytes(n) => answer(&input[..n]),
-        Input::Unread => {
-            os::fail(b"basis: the sheet could not be read from standard input");
+    match read_input(&mut rt.stdin(), &mut input) {
+        Input::Bytes(n) => answer(rt, &mut rt.stdout(), &input[..n]),
+        Input::Unread(why) => {
+            fail(
+                rt,
+                b"basis: the sheet could not be read from standard input",
+                why,
+            );
             Status::Failed
         }
     }
 }
 
 // A text on standard output.
-fn tell(text: &[u8]) -> Status {
-    if write_output(1, text) < text.len() {
-        os::fail(b"basis: the text could not be written to standard output");
+fn tell(rt: &HostRuntime, text: &[u8]) -> Status {
+    let written = write_output(&mut rt.stdout(), text);
+    if written.n < text.len() {
+        fail(
+            rt,
+            b"basis: the text could not be written to standard output",
+            unwritten(written),
+        );
         return Status::Failed;
     }
     Status::Answered
 }
 
 // A word of the command line goes to standard error, of a long one the beginning.
-fn say_word(number: usize) {
+fn say_word(rt: &HostRuntime, number: usize) {
     let mut word = [0u8; 64];
-    let n = os::arg(number, &mut word);
-    if os::errno() == libc::ENAMETOOLONG {
-        say(&word);
-        say(b"..");
-        return;
+    match rt.arg(number, &mut word) {
+        Ok(n) => say(rt, &word[..n]),
+        Err(FillError::TooLong) => {
+            say(rt, &word);
+            say(rt, b"..");
+        }
+        Err(FillError::NotPresent) => {}
     }
-    say(&word[..n]);
 }
 
 // What was wrong with the command line, of so many words with the program's name.
-fn usage(words: usize) -> Status {
-    let job = is_word(1, b"list") | is_word(1, b"--help") | is_word(1, b"--version");
+fn usage(rt: &HostRuntime, words: usize) -> Status {
+    let job = is_word(rt, 1, b"list") | is_word(rt, 1, b"--help") | is_word(rt, 1, b"--version");
     if words < 2 {
-        say(b"basis: no job is named");
+        say(rt, b"basis: no job is named");
     } else {
         if job {
-            say(b"basis: a word too many: ");
-            say_word(2);
+            say(rt, b"basis: a word too many: ");
+            say_word(rt, 2);
         } else {
-            say(b"basis: no such job: ");
-            say_word(1);
+            say(rt, b"basis: no such job: ");
+            say_word(rt, 1);
         }
     }
-    say(b"\nusage: basis list < SHEET, or basis --help, or basis --version\n");
+    say(
+        rt,
+        b"\nusage: basis list < SHEET, or basis --help, or basis --version\n",
+    );
     Status::WrongUsage
 }
 
-fn help() -> Status {
+fn help(rt: &HostRuntime) -> Status {
     tell(
+        rt,
         b"usage: basis list < SHEET
 
 Lists the gauge-invariant states of the sheet on standard input. The first line has its numbers of
@@ -153,19 +223,19 @@ Exit status of ./basis: 0 answered, 1 refused, 2 wrong usage, 3 input or output 
     )
 }
 
-fn run(words: usize) -> Status {
+fn run(rt: &HostRuntime, words: usize) -> Status {
     if words == 2 {
-        if is_word(1, b"list") {
-            return list();
+        if is_word(rt, 1, b"list") {
+            return list(rt);
         }
-        if is_word(1, b"--help") {
-            return help();
+        if is_word(rt, 1, b"--help") {
+            return help(rt);
         }
-        if is_word(1, b"--version") {
-            return tell(b"basis 1.0.0, of Zibrotka\n");
+        if is_word(rt, 1, b"--version") {
+            return tell(rt, b"basis 1.0.0, of Zibrotka\n");
         }
     }
-    usage(words)
+    usage(rt, words)
 }
 
 fn status_digit(status: Status) -> u8
@@ -179,15 +249,21 @@ fn status_digit(status: Status) -> u8
     }
 }
 
-// With `--status 3` as its last words the program writes the digit of its status to descriptor 3.
-fn main() {
-    let words = os::arg_count();
+fn exit_code(status: Status) -> ExitCode
+    ensures { exit_status result + 48 ≡ status_digit status }
+{
+    ExitCode::from(status_digit(status) - b'0')
+}
+
+// The exit status is 0, 1, 2 or 3. With `--status 3` as its last words the program writes the digit of its status to descriptor 3 instead, and ends with 0.
+fn main(rt: HostRuntime) -> ExitCode {
+    let words = word_count(&rt);
     if 2 < words {
-        if is_word(words - 2, b"--status") & is_word(words - 1, b"3") {
-            let text = [status_digit(run(words - 2))];
-            write_output(3, &text);
-            return;
+        if is_word(&rt, words - 2, b"--status") & is_word(&rt, words - 1, b"3") {
+            let text = [status_digit(run(&rt, words - 2))];
+            io::write_all(3, &text);
+            return ExitCode::SUCCESS;
         }
     }
-    run(words);
+    exit_code(run(&rt, words))
 }

@@ -1,1 +1,2 @@
 pub mod Movings
+pub mod Bytes

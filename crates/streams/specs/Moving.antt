@@ -1,6 +1,7 @@
--- How far bytes were moved by a descriptor.
+-- How far bytes were moved by a stream.
 use Prim.{Unit}
-use Rattle.std.specs.Prelude.{ℕ, ◌+◌, ◌<◌, ◌≤◌, Bool, true, false, ◌≡◌}
+use Rattle.std.specs.Prelude.{ℕ, ◌+◌, ◌<◌, ◌≤◌, Bool, true, false, ◌≡◌, List, Option, length, take}
+use Rattle.std.specs.Io.KnownBytes.{Consumes, IsAtEnd}
 use Rattle.streams.specs.declared.Moving.{Moving}
 use Rattle.streams.specs.declared.Input.{Input}
 use Rattle.streams.specs.declared.Input.TheVariants.{Bytes, Unread}
@@ -16,4 +17,10 @@ pub record Moved (moved : ℕ) (failed : Bool) (old new : Moving) : Type 0 where
 -- what was read stands in the list
 abbrev pub InputFits : ℕ → Input → Type 0
 InputFits room (Bytes n) = n ≤ room
-InputFits room Unread = Unit {0}
+InputFits room (Unread why) = Unit {0}
+
+-- Of a reader whose bytes are known, before and after: what was read are its next bytes, in their order, and it has none left where the list is not
+-- full. Where reading failed, those before the failure stand in the list.
+abbrev pub InputTaken : Option (List ℕ) → Option (List ℕ) → List ℕ → Input → Type 0
+InputTaken old new list (Bytes n) = Consumes old new (take n list) × (n < length list → IsAtEnd new)
+InputTaken old new list (Unread why) = (n : ℕ) × (n ≤ length list) × Consumes old new (take n list)

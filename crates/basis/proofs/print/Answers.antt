@@ -1,0 +1,55 @@
+-- Each piece leaves less to come, and the next one stands in the list. What was written and the piece are the beginning of a text.
+use Rattle.std.proofs.Common.{ℕ, ◌+◌, ◌<◌, List, refl, ap, ◌∙◌, arith, length, subst}
+use borrow.Author.Tests.{not-true}
+use Rattle.std.specs.Io.KnownBytes.{Appends}
+use lib.ListN.{length-drop}
+use Rattle.std.proofs.KnownBytes.{Appends-nil, Appends-kept}
+use Rattle.pages.specs.declared.Page.{Page}
+use Rattle.pages.specs.declared.Filled.{Filled}
+use Rattle.pages.specs.Pages.{to_come, Piece, Continues}
+use Rattle.basis.proofs.Writing.{written, to_the_end, on_ok}
+use Rattle.basis.proofs.print.Goals as goal
+
+-- the piece after a page, of what is to come after it
+next : (p : Page) (out : List ℕ) (r : Filled) → Continues out p r → Piece (to_come p) 0 out r
+next p out r more = more (to_come p) 0 (record { rest = refl; inside = omega arith })
+
+-- each piece leaves less to come
+less : (text out : List ℕ) (r : Filled) → Piece text 0 out r → length (to_come r.page) < length text
+less text out r piece = omega (arith, piece.some, piece.inside, ap length piece.next.rest, length-drop (0 + r.len) text)
+
+pub loop-piece-init : goal.loop-piece-init
+loop-piece-init g c =
+    record {
+      long = refl;
+      inside = c.requires.1;
+      ready = c.requires.2;
+      given = λ text first. (0, first, Appends-nil (g.W.Write.contents c.args.output.now));
+    }
+
+pub loop-piece-smaller : goal.loop-piece-smaller
+loop-piece-smaller g c = less _ _ _ (next _ _ _ c.fill_more-piece.ensures)
+
+pub loop-piece-preserved : goal.loop-piece-preserved
+loop-piece-preserved g c =
+    let piece : Piece (to_come c.loop-piece.piece.page) 0 c.fill_more-piece.new.out c.fill_more-piece.result =
+    next _ _ _ c.fill_more-piece.ensures in
+    let out = c.write_output-written in
+    record {
+      long = c.fill_more-piece.auto.out ∙ c.loop-piece.invariant.long;
+      inside = piece.fits;
+      ready = piece.ready;
+      given = λ text first.
+          let (place, at, before) = c.loop-piece.invariant.given text first in
+          (place + c.loop-piece.piece.len, c.fill_more-piece.ensures text (place + c.loop-piece.piece.len) at.next, written _ _ _ text _ place _ _ at before c.if-written-len.false out.ensures.fits out.ensures.given);
+    }
+
+pub returns-then-not-piece : goal.returns-then-not-piece
+returns-then-not-piece g c =
+    let text_written : (text : List ℕ) → Piece text 0 c.args.out.now c.args.first → Appends (g.W.Write.contents c.args.output.now) (g.W.Write.contents c.flush.new.self) text =
+    λ text first.
+    let (place, at, before) = c.loop-piece.invariant.given text first in
+    let out = c.write_output-written in
+    let all = written _ _ _ text _ place _ _ at before c.if-written-len.false out.ensures.fits out.ensures.given in
+    subst (Appends _ _) (to_the_end text _ place _ at (not-true _ c.if-not-piece.true)) (Appends-kept _ _ _ _ all c.flush.ensures.bytes) in
+    on_ok _ c.flush.result text_written
