@@ -125,7 +125,7 @@ returns c =
     let listed = c.before.before.before.before.before.before in
     let enough = listed.before in
     let judged = passed enough.before in
-    let many = counted enough in
+    let many = counted enough.before in
     ends _ (past_basis judged.before.before.before.before.prepare_basis-basis.ensures judged.before.before.before.if-number-ne0.false (past_weights _ _ _ _ (right judged) (past (no_room enough ∙ enough.if-states-n.false) none)))
     many (both (basis_written _ _ _ _ (basis judged) _ _ _ listed.write_states.ensures).1 c.before.before.write_dense.ensures) (basis judged).few
 

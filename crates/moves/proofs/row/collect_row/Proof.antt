@@ -95,8 +95,8 @@ push_move-m-requires c κs =
       s.requires.4,
       omega (arith, pointers.long, inside, s.requires.0),
       pointers.below at_loop.loop-k.k,
-      omega (arith, at_loop.loop-k.invariant.1, at_loop.loop-k.invariant.4, inside, pushed.0, s.requires.7),
-      at_loop.loop-k.invariant.1 ∙ pushed.0 ∙ s.requires.8 ∙ sym (at_loop.loop-k.invariant.2 ∙ pushed.1.0),
+      omega (arith, at_loop.loop-k.invariant.1, at_loop.loop-k.invariant.4, inside, pushed.columns, s.requires.7),
+      at_loop.loop-k.invariant.1 ∙ pushed.columns ∙ s.requires.8 ∙ sym (at_loop.loop-k.invariant.2 ∙ pushed.values),
     )
 
 overflow_step-k : tie.Need-overflow_step-k invariant-loop-k decreases-loop-k
@@ -104,7 +104,7 @@ overflow_step-k c =
     let at_loop = c.before.before.before.before.before.before.before.before.before.before.before.before.before.before.before.before in
     let few = (start at_loop).requires.0 in
     let inside = c.before.before.before.before.before.before.before.before.before.before.before.before.before.before.before.loop-k-test.true in
-    search rules
+    omega (arith, few, inside)
 
 loop-k-smaller : tie.Need-loop-k-smaller invariant-loop-k decreases-loop-k
 loop-k-smaller c = search rules

@@ -9,7 +9,7 @@ use Rattle.moves.proofs.row.push_move.Statement.{statement}
 use Rattle.moves.proofs.row.push_move.Tie as tie
 
 returns-then-not-taken : tie.Need-returns-then-not-taken
-returns-then-not-taken c = move_left _ _ _ _ _ _ _ _ (not-true _ c.if-not-taken.true)
+returns-then-not-taken c = move_left _ _ _ _ _ _ _ _ c.if-not-taken.true
 
 offset_bounds-pointers-k : tie.Need-offset_bounds-pointers-k
 offset_bounds-pointers-k c = search rules
@@ -50,7 +50,7 @@ shape_of-row_values c = search rules
 returns : tie.Need-returns
 returns c =
     let found = c.before.before.before.before.before.before.before.before.seek-place in
-    move_taken _ _ _ _ _ _ _ _ (not-false _ c.before.before.before.before.before.before.before.before.before.before.if-not-taken.false) _ _ _ _ found.ensures.0 c.before.before.before.before.push_entry.ensures c.before.before.before.before.before.before.before.smaller.ensures
+    move_taken _ _ _ _ _ _ _ _ c.before.before.before.before.before.before.before.before.before.before.if-not-taken.false _ _ _ _ found.ensures.0 c.before.before.before.before.push_entry.ensures c.before.before.before.before.before.before.before.smaller.ensures
 
 pub push_move_spec : {M : Type 1} → statement M
 push_move_spec =

@@ -40,7 +40,7 @@ loop-place-preserved c =
     let at_loop = c.before.before.before.before in
     let s = at_loop.before.before.args in
     let inside : at_loop.loop-place.place < s.n = omega arith in
-    let less : number_in s.words.now at_loop.loop-place.place + 1048576 < s.wanted = omega (arith, c.before.lower.ensures.0, ltb-true (c.before.lower.result + 1048576) s.wanted c.if-lower-wanted.true) in
+    let less : number_in s.words.now at_loop.loop-place.place + 1048576 < s.wanted = omega (arith, c.before.lower.ensures.0, c.if-lower-wanted.true) in
     (omega arith, sym (sought_next (number_in s.words.now) s.wanted at_loop.loop-place.place s.n inside less) ∙ at_loop.loop-place.invariant.1)
 
 returns-else-lower-wanted : tie.Need-returns-else-lower-wanted invariant-loop-place decreases-loop-place
@@ -48,7 +48,7 @@ returns-else-lower-wanted c =
     let at_loop = c.before.before.before.before in
     let s = at_loop.before.before.args in
     let inside : at_loop.loop-place.place < s.n = omega arith in
-    let not_less : s.wanted ≤ number_in s.words.now at_loop.loop-place.place + 1048576 = omega (arith, c.before.lower.ensures.0, ltb-false (c.before.lower.result + 1048576) s.wanted c.if-lower-wanted.false) in
+    let not_less : s.wanted ≤ number_in s.words.now at_loop.loop-place.place + 1048576 = omega (arith, c.before.lower.ensures.0, c.if-lower-wanted.false) in
     (sym (sought_here (number_in s.words.now) s.wanted at_loop.loop-place.place s.n inside not_less) ∙ at_loop.loop-place.invariant.1, at_loop.loop-place.invariant.0)
 
 returns-after-loop-place : tie.Need-returns-after-loop-place invariant-loop-place decreases-loop-place
