@@ -11,7 +11,7 @@ fn main() {
     let folder = oracle.join(named.as_deref().unwrap_or("../target/staticlib"));
     let library = folder.join("libzibrotka.a");
     println!("cargo:rerun-if-changed={}", library.display());
-    assert!(library.is_file(), "no {}: make it with `rt staticlib zibrotka`, or set ZIBROTKA_LIB to its folder", library.display());
+    assert!(library.is_file(), "no {}: make it with `./library`, or set ZIBROTKA_LIB to its folder", library.display());
     println!("cargo:rustc-link-search=native={}", folder.display());
     println!("cargo:rustc-link-lib=static=zibrotka");
 }

@@ -1,4 +1,5 @@
 // What a call answers that tells one number.
+#![tactic(auto)]
 
 pub mod expectation;
 

@@ -1,4 +1,6 @@
 // `basis list`: reads a sheet from standard input and prints its states, or the number of its refusal.
+#![tactic(auto)]
+
 ghost use Rattle.std.specs.Prelude.{◌≡◌, true, ◌≤◌, length};
 ghost use Rattle.pages.specs.Pages.{PageReady};
 ghost use Rattle.basis.specs.Status.{status_digit, Told};

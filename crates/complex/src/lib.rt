@@ -1,4 +1,5 @@
 // A small complex of vertices, edges and triangles, judged before anything rests on it.
+#![tactic(auto)]
 
 pub mod numbering;
 pub mod search;

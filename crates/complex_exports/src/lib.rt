@@ -1,4 +1,6 @@
 // What the exported functions on complexes, sheets and the refusals' sentences do.
+#![tactic(auto)]
+
 ghost use Rattle.triangles.specs.Indices.{indices_call};
 ghost use Rattle.pentachora.specs.Pentachora.{pentachora_call};
 ghost use Rattle.sheet.specs.Sheet.{reading_call};

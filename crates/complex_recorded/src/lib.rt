@@ -1,4 +1,6 @@
 // The calls on complexes, sheets, trees, loops and row lists, held against recorded answers: the number that each tells and the lists that it leaves.
+#![tactic(auto)]
+
 pub mod complex_cases;
 pub mod row_cases;
 

@@ -1,4 +1,6 @@
 // A cursor over the states: from one to the next, with the number of each.
+#![tactic(auto)]
+
 pub mod states;
 pub mod tables;
 

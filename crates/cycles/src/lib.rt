@@ -1,4 +1,6 @@
 // The paths in the spanning tree and the fundamental cycles, as tables of rows of 63 signs.
+#![tactic(auto)]
+
 ghost use Rattle.std.specs.Prelude.{◌≡◌, ◌≢◌, cond, ◌+◌, ◌*◌, ◌<◌, ◌≤◌, get_or, length, eqb, pos, negsuc};
 ghost use Rattle.std.proofs.Math.Seq.{paste};
 ghost use Rattle.complex.specs.Complex.{entries, complex_of};

@@ -1,4 +1,5 @@
 // How many entries the row lists of U(1) have.
+#![tactic(auto)]
 
 pub mod count;
 

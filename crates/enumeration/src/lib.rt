@@ -1,4 +1,5 @@
 // The list of all states of a complex.
+#![tactic(auto)]
 
 pub mod count;
 

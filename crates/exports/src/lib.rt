@@ -1,4 +1,6 @@
 // What the exported functions of every mode have in common: a sheet is opened, and an answer becomes one signed number.
+#![tactic(auto)]
+
 ghost use Rattle.std.specs.Prelude.{◌≡◌, ◌<◌, ◌^◌, pos, neg_ℤ, Float};
 ghost use Rattle.mathematics.specs.Calls.{Answered, none_lent};
 ghost use Rattle.answers.specs.Answer.{number_answer};

@@ -1,3 +1,4 @@
 // Gauss's law on a complex.
+#![tactic(auto)]
 
 pub mod spanning;

@@ -1,4 +1,6 @@
 // The row lists of a matrix, held as one record that borrows them.
+#![tactic(auto)]
+
 ghost use Rattle.std.specs.Prelude.{◌≡◌, length};
 ghost use Rattle.mathematics.specs.Calls.{Answered, none_lent};
 ghost use Rattle.matvec.specs.Product.{product_answer, product_call};

@@ -1,4 +1,5 @@
 // The basis as a list: the place of a configuration.
+#![tactic(auto)]
 
 pub mod index;
 pub mod search;

@@ -1,4 +1,5 @@
 // The product of the Kogut-Susskind Hamiltonian of U(1) with a vector, without the matrix.
+#![tactic(auto)]
 
 pub mod matvec;
 pub mod state_runs;

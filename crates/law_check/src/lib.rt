@@ -1,4 +1,6 @@
 // Whether a configuration obeys Gauss's law, and where it first does not.
+#![tactic(auto)]
+
 ghost use Rattle.std.specs.Prelude.{◌≡◌, [], ◌∷◌, ◌*◌, ◌<◌, ◌≤◌, pos, get_or, length};
 ghost use Rattle.complex.specs.Complex.{entries, simplices, complex_of, uncharged};
 ghost use Rattle.complex.specs.Search.{Ends};

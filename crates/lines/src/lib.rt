@@ -1,4 +1,6 @@
 // The lines that `basis list` prints, each written at a place of a lent list; a writer answers the place behind what it wrote.
+#![tactic(auto)]
+
 ghost use Rattle.std.specs.Prelude.{◌≡◌, ◌∷◌, [], ◌++◌, ◌+◌, ◌<◌, ◌≤◌, length, nat_abs};
 ghost use Rattle.lines.specs.Lines.{decimal, signed_text, value_text, state_line, counts_text, first_line, refused_line};
 ghost use Rattle.lines.specs.Put.{Put};

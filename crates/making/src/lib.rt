@@ -1,4 +1,6 @@
 // A sheet from flat lists of pairs and triples.
+#![tactic(auto)]
+
 ghost use Rattle.std.specs.Prelude.{◌≡◌};
 ghost use Rattle.mathematics.specs.Refusals.{first};
 ghost use Rattle.mathematics.specs.Calls.{Answered};

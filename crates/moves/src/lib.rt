@@ -1,4 +1,5 @@
 // The moves of all triangles on the states: where they take the state of a row, found by numbers that rise with the states.
+#![tactic(auto)]
 
 pub mod number;
 pub mod row;

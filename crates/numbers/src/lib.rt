@@ -1,4 +1,5 @@
 // Casts, comparisons and small sums of numbers, and the ends of an edge.
+#![tactic(auto)]
 
 pub mod sizes;
 

@@ -1,4 +1,6 @@
 // The text that `basis list` prints, a piece at a time into a lent list.
+#![tactic(auto)]
+
 pub mod states;
 
 ghost use Rattle.std.specs.Prelude.{◌≡◌, ◌∷◌, [], ◌≤◌, ◌<◌, length};

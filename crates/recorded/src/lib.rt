@@ -1,4 +1,5 @@
 // Numbers and lists in bytes, low byte first, and lists held against them.
+#![tactic(auto)]
 
 pub mod list;
 pub mod number;

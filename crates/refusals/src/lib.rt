@@ -1,4 +1,6 @@
 // The sentences of the refusals: what is wrong, for a person to read.
+#![tactic(auto)]
+
 ghost use Rattle.mathematics.specs.Calls.{Answered};
 ghost use Rattle.answers.specs.Answer.{number_answer};
 ghost use Rattle.refusals.specs.Sentences.{text_call, front_call};

@@ -1,4 +1,6 @@
 // Holds the port against a list of the Rust's answers on standard input, and prints how many cases differ.
+#![tactic(auto)]
+
 mod compare;
 mod told;
 mod walk;

@@ -1,4 +1,6 @@
 // What the exported functions on row lists do that are of no mode.
+#![tactic(auto)]
+
 ghost use Rattle.std.specs.Prelude.{◌≡◌};
 ghost use Rattle.matvec.specs.Product.{product_answer, product_call};
 ghost use Rattle.exports.specs.Exports.{outcome_told, zero_of, zero_told, Exported};

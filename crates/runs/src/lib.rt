@@ -1,4 +1,5 @@
 // The states of a record, by its tables: counted or written, run after run.
+#![tactic(auto)]
 
 pub mod edges;
 pub mod rows;

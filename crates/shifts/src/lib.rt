@@ -1,4 +1,6 @@
 // A shift of one edge.
+#![tactic(auto)]
+
 ghost use Rattle.std.specs.Prelude.{◌≡◌, ◌++◌, ◌<◌, ◌≤◌, pos, ◌+ℤ◌, length, set, drop, replicate};
 ghost use Rattle.complex.specs.Complex.{complex_of};
 ghost use Rattle.gauss_law.specs.Gauss.{within};

@@ -1,4 +1,6 @@
 // Reading and writing by a descriptor, to the end or to the first failure. Which bytes a call of the system moves no contract can say.
+#![tactic(auto)]
+
 ghost use Rattle.std.specs.Prelude.{◌≡◌, ◌+◌, ◌^◌, ◌<◌, ◌≤◌, length};
 ghost use Rattle.streams.specs.Moving.{Moved, InputFits};
 

@@ -1,4 +1,6 @@
 // How many entries the row lists of the two-valued truncation of SU(2) have.
+#![tactic(auto)]
+
 ghost use Rattle.mathematics.specs.Calls.{Answered, none_lent};
 ghost use Rattle.answers.specs.Answer.{number_answer};
 ghost use Rattle.complex.specs.Complex.{complex_of};

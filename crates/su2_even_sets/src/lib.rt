@@ -1,4 +1,6 @@
 // The closing edges of a complex and the loop of each.
+#![tactic(auto)]
+
 ghost use Rattle.std.specs.Prelude.{◌≡◌, [], ◌∷◌, cond, ◌<◌, ◌≤◌, eqb, length};
 ghost use Rattle.std.specs.Int.Bits.{bit_xor};
 ghost use Rattle.complex.specs.Complex.{complex_of};

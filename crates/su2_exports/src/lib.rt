@@ -1,4 +1,6 @@
 // What the exported functions of the two-valued mode do.
+#![tactic(auto)]
+
 ghost use Rattle.mathematics.specs.Calls.{none_lent};
 ghost use Rattle.matrices.specs.Coupling.{coupling_call, su2_params};
 ghost use Rattle.su2_masks.specs.Basis.{su2_basis_call, su2_counted_call};

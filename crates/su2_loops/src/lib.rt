@@ -1,4 +1,6 @@
 // The expectation of a Wilson loop in the two-valued mode: by the set of a path's edges, or by its passes modulo two.
+#![tactic(auto)]
+
 ghost use Rattle.std.specs.Prelude.{◌≡◌, ℕ, ◌<◌, ◌≤◌, get_or, length};
 ghost use Rattle.std.specs.Float.{binary64};
 ghost use Rattle.std.specs.Float.Ieee.{neg, of_int};

@@ -1,4 +1,5 @@
 // The even edge sets as masks: the list of all of them, and the place of one in it.
+#![tactic(auto)]
 
 pub mod count;
 pub mod flip;

@@ -1,4 +1,6 @@
 // The product of the two-valued Hamiltonian with a vector, without a matrix.
+#![tactic(auto)]
+
 ghost use Rattle.std.specs.Prelude.{◌≡◌, List, ◌++◌, map, ℕ, ◌+◌, ◌^◌, ◌<◌, ◌≤◌, get_or, length};
 ghost use Rattle.std.specs.Int.Bits.{bit_xor};
 ghost use Rattle.std.specs.Float.{binary64, nan};

@@ -1,4 +1,6 @@
 // The calls of the two-valued mode, held against what was recorded of them: the number that a call tells, and what its lists then begin with.
+#![tactic(auto)]
+
 pub mod cases;
 
 ghost use Rattle.std.specs.Prelude.{◌≡◌};

@@ -1,4 +1,6 @@
 // The edges of a triangle.
+#![tactic(auto)]
+
 ghost use Rattle.std.specs.Prelude.{◌≡◌, [], ◌∷◌, ◌*◌, ◌<◌};
 ghost use Rattle.complex.specs.Complex.{entries, complex_of};
 ghost use Rattle.complex.specs.Judge.{refusal};

@@ -1,4 +1,6 @@
 // What the exported functions of U(1) do.
+#![tactic(auto)]
+
 ghost use Rattle.std.specs.Prelude.{◌≡◌};
 ghost use Rattle.mathematics.specs.Calls.{none_lent};
 ghost use Rattle.law_check.specs.Law.{law_answer, law_call};

@@ -1,4 +1,6 @@
 // The Wilson loop along a path.
+#![tactic(auto)]
+
 ghost use Rattle.std.specs.Prelude.{◌≡◌, ◌||◌, ◌*◌, ◌^◌, ◌<◌, ◌≤◌, pos, negsuc, nat_abs, length};
 ghost use Rattle.mathematics.specs.Integers.{equal};
 ghost use Rattle.mathematics.specs.Tests.{every_entry};

@@ -1,4 +1,6 @@
 // The calls for C and other languages: numbers and slices in, one signed number out, the value or minus the refusal.
+#![tactic(auto)]
+
 ghost use Rattle.std.specs.Prelude.{◌≡◌};
 ghost use Rattle.mathematics.specs.Calls.{none_lent};
 ghost use Rattle.triangles.specs.Indices.{indices_call};

@@ -18,7 +18,7 @@ enum_known-answer c = search rules
 value-requires : tie.Need-value-requires
 unfolding pentachora_answer
 value-requires c κs =
-    let told = c.before.before.before.before.before.before.before.from_pentachorons-answer.ensures in
+    let told = c.from_pentachorons-answer.ensures in
     few_edges _ _ _ _ (rw (ap pentachora_answer c.in-Counts.is) at told)
 
 enum_known-answer-in-Refused-1 : tie.Need-enum_known-answer-in-Refused-1
@@ -36,7 +36,7 @@ shape_of-triangles-in-Counts c = search rules
 returns-in-Counts : tie.Need-returns-in-Counts
 unfolding pentachora_answer signed
 returns-in-Counts c =
-    let told = c.before.before.before.before.before.before.before.before.from_pentachorons-answer.ensures in
+    let told = c.from_pentachorons-answer.ensures in
     exports (second_ends (pentachora_call _ _ _ _) _ (rw (ap pentachora_answer c.in-Counts.is) at told)) (back64 _ c.value.type_inv ∙ c.value.ensures)
 
 shape_of-edges-in-Refused : tie.Need-shape_of-edges-in-Refused
@@ -48,7 +48,7 @@ shape_of-triangles-in-Refused c = search rules
 returns-in-Refused : tie.Need-returns-in-Refused
 unfolding pentachora_answer signed
 returns-in-Refused c =
-    let told = c.before.before.before.before.before.before.before.before.from_pentachorons-answer.ensures in
+    let told = c.from_pentachorons-answer.ensures in
     exports (second_refuses (pentachora_call _ _ _ _) _ (rw (ap pentachora_answer c.in-Refused.is) at told)) (back64 _ c.refused.type_inv ∙ c.refused.ensures)
 
 pub export_from_pentachorons_spec : {M : Type 1} → statement M

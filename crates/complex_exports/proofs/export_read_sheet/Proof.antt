@@ -23,7 +23,7 @@ refused-requires c κs = search rules
 
 returns-then-number-ne0 : tie.Need-returns-then-number-ne0
 unfolding stored reading_call signed
-returns-then-number-ne0 c = exports (refuses _ (read_tells c.before.before.open-opened.ensures) (ne_eqb _ 0 c.before.if-number-ne0.true)) (back64 _ c.refused.type_inv ∙ c.refused.ensures)
+returns-then-number-ne0 c = exports (refuses _ (read_tells c.before.open-opened.ensures) (ne_eqb _ 0 c.before.if-number-ne0.true)) (back64 _ c.refused.type_inv ∙ c.refused.ensures)
 
 -- the sheet is accepted, so that its counts are small
 few : (c : tie.Else-number-ne0) → Counts c.before.open-opened.result.sheet.complex.n_vertices c.before.open-opened.result.sheet.complex.n_edges c.before.open-opened.result.sheet.complex.n_triangles
@@ -36,23 +36,23 @@ triangles_long : (c : tie.Else-number-ne0) → length c.before.open-opened.resul
 triangles_long c = search rules
 
 overflow_mul-c : tie.Need-overflow_mul-c
-overflow_mul-c c = omega (arith, (few c.before.before.before.before.before).edges)
+overflow_mul-c c = omega (arith, (few c.before.before.before.before).edges)
 
 copy-requires : tie.Need-copy-requires
 copy-requires c κs =
-    let e = c.before.before.before.before.before.before in
-    let room : length e.before.before.before.args.edges.now ≡ 126 = search rules in
+    let e = c.before.before.before.before.before in
+    let room : length e.args.edges.now ≡ 126 = search rules in
     let k = (few e).edges in
     let long = edges_long e in
     (omega arith, omega arith)
 
 overflow_mul-c-2 : tie.Need-overflow_mul-c-2
-overflow_mul-c-2 c = omega (arith, (few c.before.before.before.before.before.before.before.before.before.before).triangles)
+overflow_mul-c-2 c = omega (arith, (few c.before.before.before.before.before.before.before.before).triangles)
 
 copy-requires-2 : tie.Need-copy-requires-2
 copy-requires-2 c κs =
-    let e = c.before.before.before.before.before.before.before.before.before.before.before in
-    let room : length e.before.before.before.args.triangles.now ≡ 768 = search rules in
+    let e = c.before.before.before.before.before.before.before.before.before in
+    let room : length e.args.triangles.now ≡ 768 = search rules in
     let k = (few e).triangles in
     let long = triangles_long e in
     (omega arith, omega arith)
@@ -60,13 +60,13 @@ copy-requires-2 c κs =
 returns : tie.Need-returns
 unfolding stored reading_call signed
 returns c =
-    let e = c.before.before.before.before.before.before.before.before.before.before.before.before in
-    let o = e.before.open-opened.ensures in
+    let e = c.before.before.before.before.before.before.before.before.before.before in
+    let o = e.open-opened.ensures in
     let is = o.holds (sym o.number ∙ e.if-number-ne0.false) in
     let k = few e in
     let es = edges_long e in
     let ts = triangles_long e in
-    exports (ends _ (rw e.if-number-ne0.false at (read_tells o)) refl (parts_written is _ _ c.before.before.before.before.before.copy.ensures c.copy-2.ensures (omega (arith, k.edges)) (omega (arith, k.triangles))) tt) refl
+    exports (ends _ (rw e.if-number-ne0.false at (read_tells o)) refl (parts_written is _ _ c.copy.ensures c.copy-2.ensures (omega (arith, k.edges)) (omega (arith, k.triangles))) tt) refl
 
 pub export_read_sheet_spec : {M : Type 1} → statement M
 export_read_sheet_spec =

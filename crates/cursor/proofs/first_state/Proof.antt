@@ -41,7 +41,7 @@ slice_bounds-interval-end : tie.Need-slice_bounds-interval-end invariant-loop-le
 slice_bounds-interval-end c = search rules
 
 interval-span-requires : tie.Need-interval-span-requires invariant-loop-left decreases-loop-left
-interval-span-requires c κs = let at_loop = c.before.before.before in
+interval-span-requires c κs = let at_loop = c.before.before in
     let s = (start at_loop).args in
     ready s.free.now s.cycles.now s.lambda s.n_free at_loop.loop-left.config at_loop.loop-left.left at_loop.loop-left.invariant.3 (omega arith)
 
@@ -49,7 +49,7 @@ shape_of-config-then-span : tie.Need-shape_of-config-then-span invariant-loop-le
 shape_of-config-then-span c = search rules
 
 returns-then-span : tie.Need-returns-then-span invariant-loop-left decreases-loop-left
-returns-then-span c = let at_loop = c.before.before.before.before.before.before in
+returns-then-span c = let at_loop = c.before.before.before.before.before in
     let s = (start at_loop).args in
     let free = s.free.now in
     let cycles = s.cycles.now in
@@ -74,7 +74,7 @@ returns-then-span c = let at_loop = c.before.before.before.before.before.before 
     }
 
 step-requires : tie.Need-step-requires invariant-loop-left decreases-loop-left
-step-requires c κs = let at_loop = c.before.before.before.before.before.before.before in
+step-requires c κs = let at_loop = c.before.before.before.before.before.before in
     let s = (start at_loop).args in
     step_may s.free.now s.cycles.now s.lambda s.n_free at_loop.loop-left.config at_loop.loop-left.left at_loop.loop-left.invariant.3 (omega arith)
 
@@ -85,7 +85,7 @@ loop-left-smaller : tie.Need-loop-left-smaller invariant-loop-left decreases-loo
 loop-left-smaller c = search rules
 
 loop-left-preserved : tie.Need-loop-left-preserved invariant-loop-left decreases-loop-left
-loop-left-preserved c = let at_loop = c.before.before.before.before.before.before.before.before.before in
+loop-left-preserved c = let at_loop = c.before.before.before.before.before.before.before.before in
     let s = (start at_loop).args in
     let free = s.free.now in
     let cycles = s.cycles.now in
@@ -98,9 +98,9 @@ loop-left-preserved c = let at_loop = c.before.before.before.before.before.befor
     let step = c.before.step in (
       omega arith,
       at_loop.loop-left.invariant.1,
-      step.auto.0 ∙ at_loop.loop-left.invariant.2,
-      walkable_next free cycles s.lambda s.n_free config left fit more step.new.0 step.ensures,
-      none_here free cycles s.lambda s.n_free config left fit more _ at_loop.loop-left.invariant.1 span.result span.ensures (λ z. omega (arith, passed.if-span.false)) step.new.0 step.ensures ∙ at_loop.loop-left.invariant.4,
+      step.auto.config ∙ at_loop.loop-left.invariant.2,
+      walkable_next free cycles s.lambda s.n_free config left fit more step.new.config step.ensures,
+      none_here free cycles s.lambda s.n_free config left fit more _ at_loop.loop-left.invariant.1 span.result span.ensures (λ z. omega (arith, passed.if-span.false)) step.new.config step.ensures ∙ at_loop.loop-left.invariant.4,
     )
 
 shape_of-config : tie.Need-shape_of-config invariant-loop-left decreases-loop-left
@@ -110,7 +110,7 @@ returns : tie.Need-returns invariant-loop-left decreases-loop-left
 returns c = let at_loop = c.before in
     let s = (start at_loop).args in
     let none : at_loop.loop-left.left ≡ 0 = omega arith in
-    let states = behind s.free.now s.cycles.now s.lambda s.n_free at_loop.loop-left.config s.config-1.now at_loop.loop-left.left s.blocks none at_loop.loop-left.invariant.4 in
+    let states = behind s.free.now s.cycles.now s.lambda s.n_free at_loop.loop-left.config s.config.now at_loop.loop-left.left s.blocks none at_loop.loop-left.invariant.4 in
     record {
       standing =
           record {

@@ -21,7 +21,7 @@ few s = s.requires.0.few
 step-requires : tie.Need-step-requires
 step-requires c κs =
     let s = c.before.args in
-    step_may s.free.now s.cycles.now s.lambda s.n_free s.config-1.now s.c.left c.before.requires.0.walkable c.before.requires.1
+    step_may s.free.now s.cycles.now s.lambda s.n_free s.config.now s.c.left c.before.requires.0.walkable c.before.requires.1
 
 overflow_sub-c : tie.Need-overflow_sub-c
 overflow_sub-c c = c.before.before.before.before.before.requires.1
@@ -41,9 +41,9 @@ first_state-requires c κs =
     let start = c.before.before.before.before.before.before.before in
     let s = start.args in
     let step = c.before.before.before.before.before.step in
-    let z = row (length s.config-1.now) s.cycles.now 0 in
-    let states = block_passed s.free.now s.cycles.now s.lambda s.n_free s.config-1.now s.c.left start.requires.0.walkable start.requires.1 step.new.0 step.ensures s.c.d s.c.to in
-    (walkable_next s.free.now s.cycles.now s.lambda s.n_free s.config-1.now s.c.left start.requires.0.walkable start.requires.1 step.new.0 step.ensures, numbers_on s.c.number (s.c.to - s.c.d) _ (block_rows s.config-1.now z s.c.d s.c.to) _ (rows_length s.config-1.now z s.c.d s.c.to) states start.requires.0.numbers)
+    let z = row (length s.config.now) s.cycles.now 0 in
+    let states = block_passed s.free.now s.cycles.now s.lambda s.n_free s.config.now s.c.left start.requires.0.walkable start.requires.1 step.new.config step.ensures s.c.d s.c.to in
+    (walkable_next s.free.now s.cycles.now s.lambda s.n_free s.config.now s.c.left start.requires.0.walkable start.requires.1 step.new.config step.ensures, numbers_on s.c.number (s.c.to - s.c.d) _ (block_rows s.config.now z s.c.d s.c.to) _ (rows_length s.config.now z s.c.d s.c.to) states start.requires.0.numbers)
 
 shape_of-config : tie.Need-shape_of-config
 shape_of-config c = search rules
@@ -54,17 +54,17 @@ returns c =
     let s = start.args in
     let step = c.before.before.before.before.before.before.before.step in
     let first = c.before.first_state in
-    let z = row (length s.config-1.now) s.cycles.now 0 in
-    let rows = block_rows s.config-1.now z s.c.d s.c.to in
+    let z = row (length s.config.now) s.cycles.now 0 in
+    let rows = block_rows s.config.now z s.c.d s.c.to in
     let states =
-    block_passed s.free.now s.cycles.now s.lambda s.n_free s.config-1.now s.c.left start.requires.0.walkable start.requires.1 step.new.0 step.ensures s.c.d s.c.to
+    block_passed s.free.now s.cycles.now s.lambda s.n_free s.config.now s.c.left start.requires.0.walkable start.requires.1 step.new.config step.ensures s.c.d s.c.to
     ∙ ap (λ l. rows ++ l) (sym first.ensures.states) in
     let numbered = first.ensures.numbered in
     record {
       standing = first.ensures.standing;
       states = states;
       numbered = numbered;
-      at = λ all at. at_passed s.free.now s.cycles.now s.lambda s.n_free all s.config-1.now s.c at rows _ first.result states (numbered ∙ ap (λ k. s.c.number + k) (sym (rows_length s.config-1.now z s.c.d s.c.to)));
+      at = λ all at. at_passed s.free.now s.cycles.now s.lambda s.n_free all s.config.now s.c at rows _ first.result states (numbered ∙ ap (λ k. s.c.number + k) (sym (rows_length s.config.now z s.c.d s.c.to)));
     }
 
 pub next_block_spec : {M : Type 1} → statement M

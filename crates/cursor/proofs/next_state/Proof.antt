@@ -28,7 +28,7 @@ returns-then-c c =
     let start = c.before.before.before.before.before in
     let s = start.args in
     let low = inside start in
-    let states = more_rows s.free.now s.cycles.now s.lambda s.n_free s.config-1.now s.c.left start.requires.0.walkable start.requires.1 s.c.d s.c.to low in
+    let states = more_rows s.free.now s.cycles.now s.lambda s.n_free s.config.now s.c.left start.requires.0.walkable start.requires.1 s.c.d s.c.to low in
     record {
       standing =
           record {
@@ -40,7 +40,7 @@ returns-then-c c =
           };
       states = states;
       numbered = refl;
-      at = λ all at. at_passed s.free.now s.cycles.now s.lambda s.n_free all s.config-1.now s.c at (_ ∷ []) _ _ states refl;
+      at = λ all at. at_passed s.free.now s.cycles.now s.lambda s.n_free all s.config.now s.c at (_ ∷ []) _ _ states refl;
     }
 
 next_block-requires : tie.Need-next_block-requires
@@ -58,7 +58,7 @@ returns c =
     let high : s.c.to ≤ s.c.d + 1 = omega arith in
     record {
       standing = next.ensures.standing;
-      states = next.ensures.states ∙ last_row s.config-1.now _ s.c.d s.c.to low high _;
+      states = next.ensures.states ∙ last_row s.config.now _ s.c.d s.c.to low high _;
       numbered = omega (arith, next.ensures.numbered);
       at = next.ensures.at;
     }

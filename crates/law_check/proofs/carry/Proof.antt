@@ -30,7 +30,6 @@ plus-more-requires c κs = search rules
 offset_bounds-sums-a-2 : tie.Need-offset_bounds-sums-a-2
 offset_bounds-sums-a-2 c = search rules
 
-
 offset_bounds-sums-b-2 : tie.Need-offset_bounds-sums-b-2
 offset_bounds-sums-b-2 c = search rules
 

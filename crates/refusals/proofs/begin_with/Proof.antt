@@ -24,7 +24,7 @@ returns : tie.Need-returns
 unfolding front_call number_answer
 returns c =
     let put = c.before.before.write_text.ensures in
-    ends _ (past (le-ltb _ _ c.before.before.before.before.if-list-text.false) none) (put.place ∙ zero-add _) (put.list-1 ∙ put_front _ _) tt
+    ends _ (past (le-ltb _ _ c.before.before.before.before.if-list-text.false) none) (put.place ∙ zero-add _) (put.list ∙ put_front _ _) tt
 
 pub begin_with_spec : {M : Type 1} → statement M
 begin_with_spec = tie.close (tie.spec returns-then-list-text write_text-requires shape_of-list returns)

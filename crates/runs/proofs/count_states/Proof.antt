@@ -15,13 +15,13 @@ slice_bounds-space-end c = search rules
 
 count_blocks-requires : tie.Need-count_blocks-requires
 count_blocks-requires c κs =
-    let s = c.before.before.before.before.before.before.before in
+    let s = c.before.before.before.before.before.before in
     rw (begin_part s.args.w) (s.requires.walkable, s.requires.runs)
 
 returns : tie.Need-returns
 unfolding states_of
 returns c =
-    let s = c.before.before.before.before.before.before.before.before.before in
+    let s = c.before.before.before.before.before.before.before.before in
     rw (begin_part s.args.w, s.requires.sized) at c.before.count_blocks.ensures
 
 pub count_states_spec : {M : Type 1} → statement M

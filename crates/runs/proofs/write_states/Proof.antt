@@ -32,7 +32,7 @@ slice_bounds-rows-end c = search rules
 write_blocks-requires : tie.Need-write_blocks-requires
 unfolding states_of
 write_blocks-requires c κs =
-    let s = c.before.before.before.before.before.before.before.before.before in
+    let s = c.before.before.before.before.before.before.before.before in
     let w = s.args.w in
     let fit = s.requires.0 in
     let zeros : length (take (w.n_edges - 0) (replicate 63 (pos 0))) ≡ w.n_edges = rw (sub-zero w.n_edges) (length-take-le w.n_edges (replicate 63 (pos 0)) (omega (arith, fit.edges))) in
@@ -44,7 +44,7 @@ shape_of-states c = search rules
 returns : tie.Need-returns
 unfolding states_of
 returns c =
-    let s = c.before.before.before.before.before.before.before.before.before.before.before.before.before in
+    let s = c.before.before.before.before.before.before.before.before.before.before.before.before in
     rw (begin_part s.args.w, s.requires.0.sized) at c.before.before.before.write_blocks.ensures
 
 pub write_states_spec : {M : Type 1} → statement M

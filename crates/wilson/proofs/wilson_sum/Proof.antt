@@ -149,9 +149,9 @@ states-preserved-then-not-take_step c =
     let out = step_leaves _ _ _ _ _ begun.requires.1 (edges_few _ _ _ _ begun.requires.0.basis) at_loop.loop-k.k _ u more (sym step.stays ∙ not-true _ (ap not c.if-not-take_step.true)) in
     rw same (
       omega arith,
-      at_states.states.inv.1,
+      at_states.states.invariant.1,
       ap length step.row_is ∙ shifted_length _ _ _ ∙ u.long,
-      λ complex basis. summed_left complex _ _ _ basis _ _ _ begun.requires.1 i _ _ (at_states.states.inv.3 complex basis) (rw (row_is complex _ _ _ basis i (omega arith)) at out),
+      λ complex basis. summed_left complex _ _ _ basis _ _ _ begun.requires.1 i _ _ (at_states.states.invariant.3 complex basis) (rw (row_is complex _ _ _ basis i (omega arith)) at out),
     )
 
 overflow_step-k : tie.Need-overflow_step-k invariant-loop-k decreases-loop-k invariant-states decreases-states
@@ -224,7 +224,7 @@ advance-from-requires : tie.Need-advance-from-requires invariant-loop-k decrease
 advance-from-requires c κs =
     let over = c.before.before in
     let begun = start (outer over.before) in
-    (rw (sub-zero begun.args.s.edges) (list_rows _ _ _ _ begun.requires.0.basis (config over) (config_long over)), (outer over.before).states.inv.1)
+    (rw (sub-zero begun.args.s.edges) (list_rows _ _ _ _ begun.requires.0.basis (config over) (config_long over)), (outer over.before).states.invariant.1)
 
 -- the place of what was reached
 found : (c : tie.After-advance-from invariant-loop-k decreases-loop-k invariant-states decreases-states) (complex : Complex) → Basis c.before.before.before complex → c.advance-from.result ≡ place complex (start (outer c.before.before.before.before)).args.s.lambda (config c.before.before.before)
@@ -234,7 +234,7 @@ found c complex basis =
     let begun = start at_states in
     let there = arrived over complex basis in
     (rw (sub-zero begun.args.s.edges) at c.advance-from.ensures) _ (place_ranked complex _ _ _ basis (config over) (config_long over))
-    (sought complex _ _ _ basis _ _ _ begun.requires.1 at_states.states.i _ _ (at_states.states.inv.3 complex basis) (inside over) there.0 (config over) there.1 (config_long over))
+    (sought complex _ _ _ basis _ _ _ begun.requires.1 at_states.states.i _ _ (at_states.states.invariant.3 complex basis) (inside over) there.0 (config over) there.1 (config_long over))
 
 slice_bounds-add_reached-count : tie.Need-slice_bounds-add_reached-count invariant-loop-k decreases-loop-k invariant-states decreases-states
 slice_bounds-add_reached-count c = search rules
@@ -277,7 +277,7 @@ states-preserved c =
       at_loop.loop-k.invariant.3.long,
       λ complex basis.
           let there = arrived over complex basis in
-          summed_more complex _ _ _ basis _ _ _ begun.requires.1 at_states.states.i _ _ (at_states.states.inv.3 complex basis) (inside over) there.0 (config over) there.1 (config_long over)
+          summed_more complex _ _ _ basis _ _ _ begun.requires.1 at_states.states.i _ _ (at_states.states.invariant.3 complex basis) (inside over) there.0 (config over) there.1 (config_long over)
           sought_out.advance-from.result (found sought_out complex basis) c.add_reached-total.result ((rw (sub-zero begun.args.s.edges) at c.add_reached-total.ensures) ∙ ap (λ (k : ℕ). with_product begun.args.list.now begun.args.s.states begun.args.amplitudes.now k sought_out.advance-from.result (config over) at_states.states.total) same),
     )
 

@@ -44,14 +44,14 @@ few c = c.loop-c.invariant.1.few
 first_state-c-requires : tie.Need-first_state-c-requires invariant-loop-c decreases-loop-c
 first_state-c-requires c κs =
     let s = c.before.args in
-    (c.before.requires.0, few_states s.free.now s.cycles.now s.lambda s.n_free s.config-1.now s.blocks c.before.requires.0)
+    (c.before.requires.0, few_states s.free.now s.cycles.now s.lambda s.n_free s.config.now s.blocks c.before.requires.0)
 
 loop-c-init : tie.Need-loop-c-init invariant-loop-c decreases-loop-c
 loop-c-init c =
     let s = c.before.before.before.args in
     let first = c.before.first_state-c in
     let numbered = first.ensures.numbered in
-    (refl, first.ensures.standing, at_first s.free.now s.cycles.now s.lambda s.n_free _ first.new.0 first.result refl numbered, omega arith)
+    (refl, first.ensures.standing, at_first s.free.now s.cycles.now s.lambda s.n_free _ first.new.config first.result refl numbered, omega arith)
 
 overflow_sub-c : tie.Need-overflow_sub-c invariant-loop-c decreases-loop-c
 overflow_sub-c c = let h = low c.before in omega arith
@@ -76,7 +76,7 @@ loop-c-preserved c =
     let at_loop = c.before.before.before.before.before.before in
     let s = (start at_loop).args in
     let next = c.before.next_block-c in
-    (next.auto.1.0 ∙ at_loop.loop-c.invariant.0, next.ensures.standing, next.ensures.at _ at_loop.loop-c.invariant.2, omega (arith, next.ensures.numbered, at_loop.loop-c.invariant.3))
+    (next.auto.config ∙ at_loop.loop-c.invariant.0, next.ensures.standing, next.ensures.at _ at_loop.loop-c.invariant.2, omega (arith, next.ensures.numbered, at_loop.loop-c.invariant.3))
 
 overflow_sub-place-2 : tie.Need-overflow_sub-place-2 invariant-loop-c decreases-loop-c
 overflow_sub-place-2 c = search rules
@@ -124,7 +124,7 @@ add-requires c κs =
     let made = c.before.before in
     let at_loop = loop_of made in
     let s = (start at_loop).args in
-    let r = row_ready s.free.now s.cycles.now s.lambda s.n_free at_loop.loop-c.config at_loop.loop-c.c.left at_loop.loop-c.inv.1.walkable (more at_loop) in
+    let r = row_ready s.free.now s.cycles.now s.lambda s.n_free at_loop.loop-c.config at_loop.loop-c.c.left at_loop.loop-c.invariant.1.walkable (more at_loop) in
     let h = low at_loop in
     let f = few at_loop in
     rw (times made) (record { sized = r.sized; values = r.values; times = omega arith; signs = r.signs })
@@ -132,7 +132,7 @@ add-requires c κs =
 shape_of-config : tie.Need-shape_of-config invariant-loop-c decreases-loop-c
 shape_of-config c =
     let at_loop = c.before.before.before.before.before.before.before.before.before.before in
-    c.before.add.auto.0 ∙ at_loop.loop-c.invariant.0 ∙ at_loop.before.before.first_state-c.auto.0
+    c.before.add.auto.config ∙ at_loop.loop-c.invariant.0 ∙ at_loop.before.before.first_state-c.auto.config
 
 returns : tie.Need-returns invariant-loop-c decreases-loop-c
 returns c =
@@ -140,11 +140,11 @@ returns c =
     let at_loop = loop_of made in
     let s = (start at_loop).args in
     let first = at_loop.before.before.first_state-c in
-    let standing = at_loop.loop-c.inv.1 in
+    let standing = at_loop.loop-c.invariant.1 in
     let here = at_loop.loop-c.c in
     (rw (times made) at c.before.add.ensures)
     ∙ row_is s.free.now s.cycles.now s.lambda s.n_free at_loop.loop-c.config here.left standing.walkable (more at_loop) (here.d + (s.place - here.number))
-    ∙ sym (found s.free.now s.cycles.now s.lambda s.n_free _ at_loop.loop-c.config here at_loop.loop-c.inv.2 standing (more at_loop) s.place at_loop.loop-c.inv.3 (omega arith))
+    ∙ sym (found s.free.now s.cycles.now s.lambda s.n_free _ at_loop.loop-c.config here at_loop.loop-c.invariant.2 standing (more at_loop) s.place at_loop.loop-c.invariant.3 (omega arith))
     ∙ ap (λ l. get_or l s.place []) first.ensures.states
 
 pub find_state_spec : {M : Type 1} → statement M

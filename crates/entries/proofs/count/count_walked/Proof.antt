@@ -117,7 +117,7 @@ row_here : (c : Row) → c.fill_row.new.row ≡ get_or (whole (loop_of c)) (loop
 row_here c =
     let at_loop = loop_of c in
     let s = (start at_loop).args in
-    c.fill_row.ensures ∙ row_is s.free.now s.cycles.now s.lambda s.n_free at_loop.loop-here.config _ at_loop.loop-here.inv.2.walkable (more c) at_loop.loop-here.here.d ∙ (here_is at_loop (more c)).1
+    c.fill_row.ensures ∙ row_is s.free.now s.cycles.now s.lambda s.n_free at_loop.loop-here.config _ at_loop.loop-here.invariant.2.walkable (more c) at_loop.loop-here.here.d ∙ (here_is at_loop (more c)).1
 
 row_countable : (c : Row) → Countable (start (loop_of c)).args.lambda c.fill_row.new.row (start (loop_of c)).args.all.now (start (loop_of c)).args.n
 row_countable c =
@@ -135,7 +135,7 @@ overflow_add-total c =
     let at_loop = loop_of filled in
     let below = (here_is at_loop (more filled)).0 in
     let few = (start at_loop).requires.1.few in
-    let bound : at_loop.loop-here.total + c.count_row-total.result ≤ 600000000 = omega (arith, below, few, ap length (whole_is at_loop), at_loop.loop-here.inv.5, c.count_row-total.ensures.1) in
+    let bound : at_loop.loop-here.total + c.count_row-total.result ≤ 600000000 = omega (arith, below, few, ap length (whole_is at_loop), at_loop.loop-here.invariant.5, c.count_row-total.ensures.1) in
     search rules
 
 next_state-here-requires : tie.Need-next_state-here-requires invariant-loop-here decreases-loop-here
@@ -153,13 +153,13 @@ loop-here-preserved c =
     let a = (start at_loop).args in
     let f = row_entries a.lambda a.all.now a.n in
     let number = at_loop.loop-here.here.number in (
-      next.auto.1.0 ∙ at_loop.loop-here.inv.0,
-      filled.fill_row.auto.0 ∙ at_loop.loop-here.inv.1,
+      next.auto.1.0 ∙ at_loop.loop-here.invariant.0,
+      filled.fill_row.auto.0 ∙ at_loop.loop-here.invariant.1,
       next.ensures.standing,
-      next.ensures.at _ at_loop.loop-here.inv.3,
-      ap₂ (λ a b. a + b) at_loop.loop-here.inv.4 (counted.ensures.0 ∙ ap f (row_here filled)) ∙ sym (over_next f (whole at_loop) number (here_is at_loop (more filled)).0)
+      next.ensures.at _ at_loop.loop-here.invariant.3,
+      ap₂ (λ a b. a + b) at_loop.loop-here.invariant.4 (counted.ensures.0 ∙ ap f (row_here filled)) ∙ sym (over_next f (whole at_loop) number (here_is at_loop (more filled)).0)
           ∙ ap (λ k. over_states f (take k (whole at_loop))) (sym next.ensures.numbered),
-      omega (arith, at_loop.loop-here.inv.5, counted.ensures.1, next.ensures.numbered),
+      omega (arith, at_loop.loop-here.invariant.5, counted.ensures.1, next.ensures.numbered),
     )
 
 shape_of-config : tie.Need-shape_of-config invariant-loop-here decreases-loop-here

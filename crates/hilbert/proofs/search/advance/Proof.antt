@@ -80,7 +80,7 @@ past_row c p r =
 returns-then-not-row_before : tie.Need-returns-then-not-row_before invariant-loop-place decreases-loop-place
 returns-then-not-row_before c p r h =
     let at_loop = loop_of c.before in
-    omega (arith, at_loop.loop-place.inv.1 p r h, ltb-false at_loop.loop-place.place p (past_row c.before p r ∙ not-true _ (ap not c.if-not-row_before.true)))
+    omega (arith, at_loop.loop-place.invariant.1 p r h, ltb-false at_loop.loop-place.place p (past_row c.before p r ∙ not-true _ (ap not c.if-not-row_before.true)))
 
 overflow_add-place : tie.Need-overflow_add-place invariant-loop-place decreases-loop-place
 overflow_add-place c = search rules

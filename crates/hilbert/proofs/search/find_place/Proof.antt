@@ -99,8 +99,8 @@ loop-low-preserved-then-row_before : tie.Need-loop-low-preserved-then-row_before
 loop-low-preserved-then-row_before c =
     let at_loop = loop_of c.before in (
       omega arith,
-      at_loop.loop-low.inv.1,
-      λ p r. (omega (arith, ltb-true (middle at_loop) p (past_middle c.before p r ∙ c.if-row_before.true)), (at_loop.loop-low.inv.2 p r).1),
+      at_loop.loop-low.invariant.1,
+      λ p r. (omega (arith, ltb-true (middle at_loop) p (past_middle c.before p r ∙ c.if-row_before.true)), (at_loop.loop-low.invariant.2 p r).1),
     )
 
 loop-low-smaller : tie.Need-loop-low-smaller invariant-loop-low decreases-loop-low
@@ -111,7 +111,7 @@ loop-low-preserved c =
     let at_loop = loop_of c.before in (
       omega arith,
       omega arith,
-      λ p r. ((at_loop.loop-low.inv.2 p r).0, ltb-false (middle at_loop) p (past_middle c.before p r ∙ c.if-row_before.false)),
+      λ p r. ((at_loop.loop-low.invariant.2 p r).0, ltb-false (middle at_loop) p (past_middle c.before p r ∙ c.if-row_before.false)),
     )
 
 returns : tie.Need-returns invariant-loop-low decreases-loop-low

@@ -49,18 +49,18 @@ abbrev up_turn : Up → Turn
 up_turn c = c.before.before.before
 
 bounds-parents-x-then-parents-y : tie.Need-bounds-parents-x-then-parents-y invariant-loop-x decreases-loop-x
-bounds-parents-x-then-parents-y c = let turn = c.before.before.before.before.before in first_fits (start turn).requires.0 (apart turn)
+bounds-parents-x-then-parents-y c = let turn = c.before.before.before.before in first_fits (start turn).requires.0 (apart turn)
 
 byte-requires : tie.Need-byte-requires invariant-loop-x decreases-loop-x
 byte-requires c κs = tt
 
 across-x-requires : tie.Need-across-x-requires invariant-loop-x decreases-loop-x
 across-x-requires c κs =
-    let up = c.before.before.before.before in
+    let up = c.before.before.before in
     rw c.byte.ensures (first_edge (start (up_turn up)).requires.0 (apart (up_turn up)) up.if-parents-y.true)
 
 abbrev up_from : tie.After-across-x invariant-loop-x decreases-loop-x → Up
-up_from c = c.before.before.before.before.before
+up_from c = c.before.before.before.before
 
 climbed : (c : tie.After-across-x invariant-loop-x decreases-loop-x)
     → let turn = up_turn (up_from c) in FirstClimbs (start turn).args.c (start turn).args.parents (at_loop turn).loop-x.x (at_loop turn).loop-x.y c.across-x.result
@@ -73,7 +73,7 @@ loop-x-smaller-then-parents-y c = let q = (climbed c).shorter in omega arith
 
 loop-x-preserved-then-parents-y : tie.Need-loop-x-preserved-then-parents-y invariant-loop-x decreases-loop-x
 loop-x-preserved-then-parents-y c =
-    let inv = (at_loop (up_turn (up_from c))).loop-x.inv in
+    let inv = (at_loop (up_turn (up_from c))).loop-x.invariant in
     let q = (climbed c).shorter in
     ((climbed c).below, inv.1, omega (arith, inv.2))
 
@@ -85,18 +85,18 @@ abbrev down_turn : Down → Turn
 down_turn c = c.before.before.before
 
 bounds-parents-y-else-parents-y : tie.Need-bounds-parents-y-else-parents-y invariant-loop-x decreases-loop-x
-bounds-parents-y-else-parents-y c = let turn = c.before.before.before.before.before in second_fits (start turn).requires.0 (apart turn)
+bounds-parents-y-else-parents-y c = let turn = c.before.before.before.before in second_fits (start turn).requires.0 (apart turn)
 
 byte-requires-else-parents-y : tie.Need-byte-requires-else-parents-y invariant-loop-x decreases-loop-x
 byte-requires-else-parents-y c κs = tt
 
 across-y-requires : tie.Need-across-y-requires invariant-loop-x decreases-loop-x
 across-y-requires c κs =
-    let down = c.before.before.before.before in
+    let down = c.before.before.before in
     rw c.byte-else-parents-y.ensures (second_edge (start (down_turn down)).requires.0 (apart (down_turn down)) down.if-parents-y.false)
 
 abbrev down-from : tie.After-across-y invariant-loop-x decreases-loop-x → Down
-down-from c = c.before.before.before.before.before
+down-from c = c.before.before.before.before
 
 reached : (c : tie.After-across-y invariant-loop-x decreases-loop-x)
     → let turn = down_turn (down-from c) in SecondClimbs (start turn).args.c (start turn).args.parents (at_loop turn).loop-x.x (at_loop turn).loop-x.y c.across-y.result
@@ -109,7 +109,7 @@ loop-x-smaller c = let q = (reached c).shorter in omega arith
 
 loop-x-preserved : tie.Need-loop-x-preserved invariant-loop-x decreases-loop-x
 loop-x-preserved c =
-    let inv = (at_loop (down_turn (down-from c))).loop-x.inv in
+    let inv = (at_loop (down_turn (down-from c))).loop-x.invariant in
     let q = (reached c).shorter in
     (inv.0, (reached c).below, omega (arith, inv.2))
 

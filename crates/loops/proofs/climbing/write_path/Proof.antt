@@ -83,10 +83,10 @@ byte-requires : tie.Need-byte-requires invariant-loop-x decreases-loop-x
 byte-requires c κs = tt
 
 direction-requires : tie.Need-direction-requires invariant-loop-x decreases-loop-x
-direction-requires c κs = rw c.byte.ensures (up_edge c.before.before.before.before)
+direction-requires c κs = rw c.byte.ensures (up_edge c.before.before.before)
 
 abbrev up-directed : tie.After-direction invariant-loop-x decreases-loop-x → Up
-up-directed c = c.before.before.before.before.before
+up-directed c = c.before.before.before.before
 
 bounds-directions-front : tie.Need-bounds-directions-front invariant-loop-x decreases-loop-x
 bounds-directions-front c = let r = room (up_turn (up-directed c)) in omega (arith, r.some, r.directions)
@@ -95,10 +95,10 @@ byte-requires-then-parents-y : tie.Need-byte-requires-then-parents-y invariant-l
 byte-requires-then-parents-y c κs = tt
 
 across-x-requires : tie.Need-across-x-requires invariant-loop-x decreases-loop-x
-across-x-requires c κs = rw c.byte-then-parents-y.ensures (up_edge (up-directed c.before.before.before))
+across-x-requires c κs = rw c.byte-then-parents-y.ensures (up_edge (up-directed c.before.before))
 
 abbrev up_from : tie.After-across-x invariant-loop-x decreases-loop-x → Up
-up_from c = up-directed c.before.before.before.before
+up_from c = up-directed c.before.before.before
 
 overflow_add-front : tie.Need-overflow_add-front invariant-loop-x decreases-loop-x
 overflow_add-front c = let r = room (up_turn (up_from c)) in search rules
@@ -120,13 +120,13 @@ way_up c = back8 c.direction.result c.direction.type_inv ∙ (rw c.before.byte.e
 
 loop-x-preserved-then-parents-y : tie.Need-loop-x-preserved-then-parents-y invariant-loop-x decreases-loop-x
 loop-x-preserved-then-parents-y c =
-    let inv = (at_loop (up_turn (up_from c))).loop-x.inv in
+    let inv = (at_loop (up_turn (up_from c))).loop-x.invariant in
     let q = (climbed c).shorter in (
       (climbed c).below,
       inv.1,
       omega (arith, inv.2),
       front_filled edge_of _ _ _ _ _ _ _ _ refl (rw (climbed c).path_is at inv.3),
-      front_filled direction_of _ _ _ _ _ _ _ _ (way_up c.before.before.before.before) (rw (climbed c).path_is at inv.4),
+      front_filled direction_of _ _ _ _ _ _ _ _ (way_up c.before.before.before) (rw (climbed c).path_is at inv.4),
     )
 
 -- ---- the second was
@@ -146,10 +146,10 @@ byte-requires-else-parents-y : tie.Need-byte-requires-else-parents-y invariant-l
 byte-requires-else-parents-y c κs = tt
 
 across-y-requires : tie.Need-across-y-requires invariant-loop-x decreases-loop-x
-across-y-requires c κs = rw c.byte-else-parents-y.ensures (down_edge c.before.before.before.before)
+across-y-requires c κs = rw c.byte-else-parents-y.ensures (down_edge c.before.before.before)
 
 abbrev down-from : tie.After-across-y invariant-loop-x decreases-loop-x → Down
-down-from c = c.before.before.before.before.before
+down-from c = c.before.before.before.before
 
 overflow_sub-back : tie.Need-overflow_sub-back invariant-loop-x decreases-loop-x
 overflow_sub-back c = let r = room (down_turn (down-from c)) in omega (arith, r.some)
@@ -161,7 +161,7 @@ byte-requires-else-parents-y-2 : tie.Need-byte-requires-else-parents-y-2 invaria
 byte-requires-else-parents-y-2 c κs = tt
 
 direction-requires-else-parents-y : tie.Need-direction-requires-else-parents-y invariant-loop-x decreases-loop-x
-direction-requires-else-parents-y c κs = rw c.byte-else-parents-y-2.ensures (down_edge (down-from c.before.before.before))
+direction-requires-else-parents-y c κs = rw c.byte-else-parents-y-2.ensures (down_edge (down-from c.before.before))
 
 abbrev down-directed : tie.After-direction-else-parents-y invariant-loop-x decreases-loop-x → tie.After-across-y invariant-loop-x decreases-loop-x
 down-directed c = c.before.before.before
@@ -187,13 +187,13 @@ way_down c = back8 c.direction-else-parents-y.result c.direction-else-parents-y.
 last_place : (c : tie.After-across-y invariant-loop-x decreases-loop-x)
     → let turn = down_turn (down-from c) in
     (at_loop turn).loop-x.back - 1 ≡ (at_loop turn).loop-x.front + length (path (complex_of (start turn).args.c) (at_loop turn).loop-x.x c.across-y.result)
-last_place c = let q = (reached c).shorter in omega (arith, (at_loop (down_turn (down-from c))).loop-x.inv.2)
+last_place c = let q = (reached c).shorter in omega (arith, (at_loop (down_turn (down-from c))).loop-x.invariant.2)
 
 loop-x-preserved : tie.Need-loop-x-preserved invariant-loop-x decreases-loop-x
 loop-x-preserved c =
     let d = reached (down-directed c) in
     let k = last_place (down-directed c) in
-    let inv = (at_loop (down_turn (down-from (down-directed c)))).loop-x.inv in (
+    let inv = (at_loop (down_turn (down-from (down-directed c)))).loop-x.invariant in (
       inv.0,
       d.below,
       k,

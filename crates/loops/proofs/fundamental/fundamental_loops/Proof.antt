@@ -29,7 +29,7 @@ accepted : (c : tie.Else-number-ne0) → refusal (complex_of c.before.before.bef
 accepted c = sym c.before.judge-number.ensures ∙ c.if-number-ne0.false
 
 spanned : (c : tie.After-search-tree) → Spanned c.before.before.before.before.before.before.args.c c.search-tree.result
-spanned c = searched_spanned _ _ (accepted c.before.before.before) c.search-tree.ensures
+spanned c = searched_spanned _ _ (accepted c.before.before) c.search-tree.ensures
 
 parented : (c : tie.After-tree_parents-parents) → Parented c.before.before.before.before.before.before.before.before.args.c c.tree_parents-parents.result
 parented c = noted_parented _ _ (spanned c.before.before) _ c.tree_parents-parents.ensures

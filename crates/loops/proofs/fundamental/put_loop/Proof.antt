@@ -12,16 +12,16 @@ use Rattle.loops.proofs.fundamental.put_loop.Statement.{statement}
 use Rattle.loops.proofs.fundamental.put_loop.Tie as tie
 
 edge_start-a-requires : tie.Need-edge_start-a-requires
-edge_start-a-requires c κs = let few = edges_few c.before.before.requires.0 in omega (arith, c.before.before.before.requires.1)
+edge_start-a-requires c κs = let few = edges_few c.before.before.requires.0 in omega (arith, c.before.before.requires.1)
 
 edge_end-b-requires : tie.Need-edge_end-b-requires
-edge_end-b-requires c κs = let few = edges_few c.before.before.before.before.requires.0 in omega (arith, c.before.before.before.before.before.before.requires.1)
+edge_end-b-requires c κs = let few = edges_few c.before.before.before.before.requires.0 in omega (arith, c.before.before.before.before.requires.1)
 
 abbrev start : tie.After-edge_end-b → tie.Start
 start c = c.before.before.before.before.before
 
-read : (c : tie.After-edge_end-b) → EndsRead (start c).args.c (start c).args.f c.before.before.before.edge_start-a.result c.edge_end-b.result
-read c = record { inside = (start c).requires.1; first = c.before.before.before.edge_start-a.ensures; second = c.edge_end-b.ensures }
+read : (c : tie.After-edge_end-b) → EndsRead (start c).args.c (start c).args.f c.before.before.edge_start-a.result c.edge_end-b.result
+read c = record { inside = (start c).requires.1; first = c.before.before.edge_start-a.ensures; second = c.edge_end-b.ensures }
 
 path_length-count-requires : tie.Need-path_length-count-requires
 path_length-count-requires c κs = let e = ends_inside (start c).requires.0 (read c) in ((start c).requires.0, e.0, e.1)

@@ -45,7 +45,7 @@ next : (c : tie.After-loop_length-total invariant-loop-j decreases-loop-j)
 next c =
     let pre = (start c.before).requires in
     let count = steps_count (next_free pre.0 pre.1 (read c.before)) in
-    (omega (arith, (at_loop c.before).loop-j.inv.2, c.loop_length-total.ensures), steps_fit pre.0 pre.1 (omega arith))
+    (omega (arith, (at_loop c.before).loop-j.invariant.2, c.loop_length-total.ensures), steps_fit pre.0 pre.1 (omega arith))
 
 overflow_add-total : tie.Need-overflow_add-total invariant-loop-j decreases-loop-j
 overflow_add-total c = let n = next c in search rules

@@ -99,13 +99,13 @@ row_here : (c : Row) → c.fill_row.new.row ≡ state_here (start (loop_of c)).a
 row_here c =
     let at_loop = loop_of c in
     let s = (start at_loop).args in
-    c.fill_row.ensures ∙ row_is s.free.now s.cycles.now s.lambda s.n_free at_loop.loop-here.config _ at_loop.loop-here.inv.4.walkable (more c) at_loop.loop-here.here.d
+    c.fill_row.ensures ∙ row_is s.free.now s.cycles.now s.lambda s.n_free at_loop.loop-here.config _ at_loop.loop-here.invariant.4.walkable (more c) at_loop.loop-here.here.d
 
 room : (c : Row) → (loop_of c).loop-here.len + length (state_line (loop_of c).loop-here.here.number c.fill_row.new.row) ≤ length (loop_of c).loop-here.out
 room c =
     let at_loop = loop_of c in
     let s = (start at_loop).args in
-    let short = line_short s.free.now s.cycles.now s.lambda s.n_free at_loop.loop-here.config at_loop.loop-here.here at_loop.loop-here.inv.4 (more c) in
+    let short = line_short s.free.now s.cycles.now s.lambda s.n_free at_loop.loop-here.config at_loop.loop-here.here at_loop.loop-here.invariant.4 (more c) in
     omega (arith, ap (λ r. length (state_line at_loop.loop-here.here.number r)) (row_here c))
 
 write_state_line-len-requires : tie.Need-write_state_line-len-requires invariant-loop-here decreases-loop-here
@@ -126,12 +126,12 @@ loop-here-preserved c =
     let written = c.before.before.before.before.before.write_state_line-len in
     let next = c.before.next_state-here in
     let number = at_loop.loop-here.here.number in (
-      written.auto.0 ∙ at_loop.loop-here.inv.0,
-      next.auto.1.0 ∙ at_loop.loop-here.inv.1,
-      filled.fill_row.auto.0 ∙ at_loop.loop-here.inv.2,
+      written.auto.0 ∙ at_loop.loop-here.invariant.0,
+      next.auto.1.0 ∙ at_loop.loop-here.invariant.1,
+      filled.fill_row.auto.0 ∙ at_loop.loop-here.invariant.2,
       ends_inside (state_line number filled.fill_row.new.row) _ _ _ _ (room filled) written.ensures,
       next.ensures.standing,
-      line_more _ _ _ _ _ number _ _ filled.fill_row.new.row _ _ (room filled) at_loop.loop-here.inv.5 next.ensures.states (row_here filled) next.ensures.numbered written.ensures,
+      line_more _ _ _ _ _ number _ _ filled.fill_row.new.row _ _ (room filled) at_loop.loop-here.invariant.5 next.ensures.states (row_here filled) next.ensures.numbered written.ensures,
       λ z. absurd (omega (arith, written.ensures.place, line_some number filled.fill_row.new.row)),
     )
 

@@ -37,7 +37,7 @@ loop-i-smaller : tie.Need-loop-i-smaller invariant-loop-i decreases-loop-i
 loop-i-smaller c = search rules
 
 loop-i-preserved : tie.Need-loop-i-preserved invariant-loop-i decreases-loop-i
-loop-i-preserved c = read_next 8 float_of _ nan c.before.before.loop-i.invariant (search rules) c.Float-at.ensures
+loop-i-preserved c = read_next 8 float_of _ nan c.before.before.loop-i.invariant (search rules) c.float_at.ensures
 
 shape_of-out : tie.Need-shape_of-out invariant-loop-i decreases-loop-i
 shape_of-out c = c.before.loop-i.invariant.long

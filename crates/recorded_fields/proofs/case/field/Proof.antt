@@ -9,7 +9,7 @@ use Rattle.recorded_fields.proofs.case.field.Statement.{statement}
 use Rattle.recorded_fields.proofs.case.field.Tie as tie
 
 -- where the field ends
-ends : (c : tie.After-place-begin) → c.place-begin.result-1 + 2 + size c.before.before.args.list.now c.place-begin.result-1 ≤ length c.before.before.args.list.now
+ends : (c : tie.After-place-begin) → c.place-begin.result + 2 + size c.args.list.now c.place-begin.result ≤ length c.args.list.now
 ends c = rw c.place-begin.ensures (field_inside _ _ _ c.before.before.requires.0 c.before.before.requires.1)
 
 place-begin-requires : tie.Need-place-begin-requires
@@ -37,9 +37,9 @@ returns : tie.Need-returns
 unfolding field
 returns c =
     let w = c.before in
-    let begin = w.before.place-begin.result-1 in
-    let bytes = w.size_at.result-1 in
-    let list = w.before.before.before.args.list.now in
+    let begin = w.before.place-begin.result in
+    let bytes = w.size_at.result in
+    let list = c.args.list.now in
     let long : begin + 2 + bytes - (begin + 2) ≡ bytes = omega arith in
     (rw (long, w.size_at.ensures.0, w.before.place-begin.ensures), rw long (omega (arith, length-take bytes (drop (begin + 2) list), w.size_at.ensures.1)))
 

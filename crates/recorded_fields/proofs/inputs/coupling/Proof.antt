@@ -18,7 +18,7 @@ float_at-requires-3 c κs = search rules
 
 returns : tie.Need-returns
 unfolding case_at coupling_of
-returns c = rw (c.before.before.Float-at.ensures, c.before.float_at-2.ensures, c.float_at-3.ensures, c.before.before.before.field-bytes.ensures.0)
+returns c = rw (c.before.before.float_at.ensures, c.before.float_at-2.ensures, c.float_at-3.ensures, c.before.before.before.field-bytes.ensures.0)
 
 pub coupling_spec : {M : Type 1} → statement M
 coupling_spec =

@@ -30,7 +30,7 @@ test : (c : tie.After-within invariant-loop-q decreases-loop-q)
 test c =
     let at_loop = c.before.before.before.before.before.before in
     let s = at_loop.before.args in
-    sym (c.within.ensures ∙ ap (λ x. leb (nat_abs x) s.lambda) (back32 _ c.before.Within-arg.given ∙ ap (λ e. get_or s.config.now e (pos 0)) c.before.before.byte.ensures))
+    sym (c.within.ensures ∙ ap (λ x. leb (nat_abs x) s.lambda) (back32 _ c.before.within-arg-1.given ∙ ap (λ e. get_or s.config.now e (pos 0)) c.before.before.byte.ensures))
 
 loop-q-init : tie.Need-loop-q-init invariant-loop-q decreases-loop-q
 loop-q-init c = (omega arith, λ i h. absurd (omega arith))

@@ -22,7 +22,7 @@ loop-left-init : tie.Need-loop-left-init invariant-loop-left decreases-loop-left
 loop-left-init c =
     let s = c.args in
     let none : s.number - s.number ≡ 0 = omega arith in
-    rw none (refl, omega arith, omega arith, refl, nothing_raised s.cycle.now s.states-1.now s.at (s.at - s.back))
+    rw none (refl, omega arith, omega arith, refl, nothing_raised s.cycle.now s.states.now s.at (s.at - s.back))
 
 smaller-more-requires : tie.Need-smaller-more-requires invariant-loop-left decreases-loop-left
 smaller-more-requires c κs = tt
@@ -62,7 +62,7 @@ raise-requires c κs =
     let sized = c.before.before in
     let left = at_loop.loop-left.left in
     rw (part_is sized, at_loop.loop-left.invariant.2)
-    (may_raise_more s.cycle.now s.states-1.now at_loop.loop-left.states s.at s.back s.number (s.number - left) sized.smaller-more.result start.requires.0 (omega (arith, (few sized).1, at_loop.loop-left.invariant.1)) at_loop.loop-left.invariant.4 at_loop.loop-left.invariant.3)
+    (may_raise_more s.cycle.now s.states.now at_loop.loop-left.states s.at s.back s.number (s.number - left) sized.smaller-more.result start.requires.0 (omega (arith, (few sized).1, at_loop.loop-left.invariant.1)) at_loop.loop-left.invariant.4 at_loop.loop-left.invariant.3)
 
 overflow_mul-place : tie.Need-overflow_mul-place invariant-loop-left decreases-loop-left
 overflow_mul-place c = let h = part_room c.before.before.before.before in search rules
@@ -77,7 +77,7 @@ overflow_add-place c =
     let h = part_room sized in
     let place = at_loop.loop-left.invariant.2 in
     let fewer : s.number - at_loop.loop-left.left ≤ s.number = omega arith in
-    let inside : at_loop.loop-left.place ≤ length s.states-1.now = omega (arith, place, start.requires.0.room, repeated_long y s.number, mul-le-mul_right (length y) fewer) in
+    let inside : at_loop.loop-left.place ≤ length s.states.now = omega (arith, place, start.requires.0.room, repeated_long y s.number, mul-le-mul_right (length y) fewer) in
     search rules
 
 overflow_sub-left : tie.Need-overflow_sub-left invariant-loop-left decreases-loop-left
@@ -103,8 +103,8 @@ loop-left-preserved c =
       refl,
       omega (arith, at_loop.loop-left.invariant.1),
       omega (arith, at_loop.loop-left.invariant.2, add-mul done more (length u)),
-      raise.auto.0 ∙ at_loop.loop-left.invariant.3,
-      raised_more u s.states-1.now at_loop.loop-left.states s.at s.back s.number done more start.requires.0 (omega (arith, (few sized).1, at_loop.loop-left.invariant.1)) at_loop.loop-left.invariant.4 raise.new.0 made,
+      raise.auto.states ∙ at_loop.loop-left.invariant.3,
+      raised_more u s.states.now at_loop.loop-left.states s.at s.back s.number done more start.requires.0 (omega (arith, (few sized).1, at_loop.loop-left.invariant.1)) at_loop.loop-left.invariant.4 raise.new.states made,
     )
 
 shape_of-states : tie.Need-shape_of-states invariant-loop-left decreases-loop-left

@@ -54,8 +54,8 @@ slice_bounds-write_row-end-in-loop-i c = search rules
 
 write_row-requires : tie.Need-write_row-requires invariant-loop-i decreases-loop-i
 write_row-requires c κs =
-    let at_loop = c.before.before.before.before in
-    let s = at_loop.before in
+    let at_loop = c.before.before.before in
+    let s = at_loop in
     let z = s.args.cycle.now in
     let more = room at_loop (omega arith) in
     let long = length-replicate (length z) (pos 0) in
@@ -64,7 +64,7 @@ write_row-requires c κs =
     (zeros_addable z s.requires.0, omega arith, fits)
 
 overflow_add-place : tie.Need-overflow_add-place invariant-loop-i decreases-loop-i
-overflow_add-place c = let more = room c.before.before.before.before.before.before (omega arith) in search rules
+overflow_add-place c = let more = room c.before.before.before.before.before (omega arith) in search rules
 
 overflow_add-i : tie.Need-overflow_add-i invariant-loop-i decreases-loop-i
 overflow_add-i c = search rules
@@ -74,8 +74,8 @@ loop-i-smaller c = search rules
 
 loop-i-preserved : tie.Need-loop-i-preserved invariant-loop-i decreases-loop-i
 loop-i-preserved c =
-    let at_loop = c.before.before.before.before.before.before in
-    let s = at_loop.before in
+    let at_loop = c.before.before.before.before.before in
+    let s = at_loop in
     let z = s.args.cycle.now in
     let i = at_loop.loop-i.i in
     let more = room at_loop (omega arith) in
@@ -85,7 +85,7 @@ loop-i-preserved c =
       refl,
       omega arith,
       omega arith,
-      wrote.auto.0 ∙ at_loop.loop-i.invariant.3,
+      wrote.auto.states ∙ at_loop.loop-i.invariant.3,
       wrote.ensures ∙ ap (λ (l : List ℤ). put at_loop.loop-i.beside at_loop.loop-i.place (with_cycle l (pos 1) z)) (zeros_are at_loop)
           ∙ ap (put at_loop.loop-i.beside at_loop.loop-i.place) (added_to_zeros z)
           ∙ repeated_more z (replicate 256 (pos 0)) at_loop.loop-i.beside i at_loop.loop-i.place at_loop.loop-i.invariant.4 size few,

@@ -56,7 +56,7 @@ module _ (c : Chosen) (some : c.before.larger-low.result < c.smaller-high.result
       + (start.args.span.to - c.smaller-high.result) * length start.args.config.now ≡ (start.args.span.to - start.args.span.from) * length start.args.config.now
   parts =
       let s = start.args in
-      first_room s.config.now s.first.now s.second.now start.requires.0 start.requires.1 s.states-1.now s.at s.last start.requires.4 s.span.from s.span.to c.before.larger-low.result c.smaller-high.result over among some under ends start.requires.2 start.requires.3
+      first_room s.config.now s.first.now s.second.now start.requires.0 start.requires.1 s.states.now s.at s.last start.requires.4 s.span.from s.span.to c.before.larger-low.result c.smaller-high.result over among some under ends start.requires.2 start.requires.3
 
   low_high : (c.smaller-high.result - start.args.span.from) * length start.args.config.now
       ≡ (c.before.larger-low.result - start.args.span.from) * length start.args.config.now + (c.smaller-high.result - c.before.larger-low.result) * length start.args.config.now
@@ -112,8 +112,8 @@ overflow_mul-end c =
     let bound = start.requires.2 in
     let enough = start.requires.3 in
     let sizes = parts chosen some in
-    let back = back_is s.config.now s.first.now s.second.now start.requires.0 start.requires.1 s.states-1.now s.at s.last start.requires.4 s.span.from s.span.to chosen.before.larger-low.result chosen.smaller-high.result (over chosen some) (among chosen some) some (under chosen some) (ends chosen some) bound enough in
-    let inside = before_at s.config.now s.first.now s.second.now start.requires.0 start.requires.1 s.states-1.now s.at s.last start.requires.4 s.span.from s.span.to chosen.before.larger-low.result chosen.smaller-high.result (over chosen some) (among chosen some) some (under chosen some) (ends chosen some) bound enough in
+    let back = back_is s.config.now s.first.now s.second.now start.requires.0 start.requires.1 s.states.now s.at s.last start.requires.4 s.span.from s.span.to chosen.before.larger-low.result chosen.smaller-high.result (over chosen some) (among chosen some) some (under chosen some) (ends chosen some) bound enough in
+    let inside = before_at s.config.now s.first.now s.second.now start.requires.0 start.requires.1 s.states.now s.at s.last start.requires.4 s.span.from s.span.to chosen.before.larger-low.result chosen.smaller-high.result (over chosen some) (among chosen some) some (under chosen some) (ends chosen some) bound enough in
     search rules
 
 overflow_sub-high : tie.Need-overflow_sub-high
@@ -130,7 +130,7 @@ raise_rows-requires c κs =
     let sizes = parts chosen some in
     let wrote = c.before.before.write_rows-2 in
     let some_rows : 1 ≤ s.rows = omega (arith, c.before.before.before.before.if-rows-eq0.false) in
-    (middle_may s.config.now s.first.now s.second.now start.requires.0 start.requires.1 s.states-1.now s.at s.last start.requires.4 s.span.from s.span.to chosen.before.larger-low.result chosen.smaller-high.result (over chosen some) (among chosen some) some (under chosen some) (ends chosen some) bound enough wrote.new.0 wrote.ensures wrote.auto.0, start.requires.5, some_rows, rw start.requires.1.sized start.requires.7)
+    (middle_may s.config.now s.first.now s.second.now start.requires.0 start.requires.1 s.states.now s.at s.last start.requires.4 s.span.from s.span.to chosen.before.larger-low.result chosen.smaller-high.result (over chosen some) (among chosen some) some (under chosen some) (ends chosen some) bound enough wrote.new.states wrote.ensures wrote.auto.states, start.requires.5, some_rows, rw start.requires.1.sized start.requires.7)
 
 overflow_sub-high-2 : tie.Need-overflow_sub-high-2
 overflow_sub-high-2 c = search rules
@@ -168,7 +168,7 @@ write_rows-requires-3 c κs =
     let bound = start.requires.2 in
     let enough = start.requires.3 in
     let sizes = parts chosen some in
-    (start.requires.0, bound, omega (arith, sizes, low_high chosen some, c.before.before.raise_rows.auto.0, c.before.before.before.before.before.write_rows-2.auto.0), start.requires.6)
+    (start.requires.0, bound, omega (arith, sizes, low_high chosen some, c.before.before.raise_rows.auto.states, c.before.before.before.before.before.write_rows-2.auto.states), start.requires.6)
 
 shape_of-states : tie.Need-shape_of-states
 shape_of-states c = search rules
@@ -185,7 +185,7 @@ returns c =
     let one = c.before.before.before.before.before.before.before.write_rows-2 in
     let two = c.before.before.before.before.raise_rows in
     let three = c.before.write_rows-3 in
-    all_written s.config.now s.first.now s.second.now start.requires.0 start.requires.1 s.states-1.now s.at s.last start.requires.4 s.span.from s.span.to chosen.before.larger-low.result chosen.smaller-high.result (over chosen some) (among chosen some) some (under chosen some) (ends chosen some) bound enough one.new.0 one.ensures one.auto.0 two.new.0 two.ensures three.new.0 three.ensures
+    all_written s.config.now s.first.now s.second.now start.requires.0 start.requires.1 s.states.now s.at s.last start.requires.4 s.span.from s.span.to chosen.before.larger-low.result chosen.smaller-high.result (over chosen some) (among chosen some) some (under chosen some) (ends chosen some) bound enough one.new.states one.ensures one.auto.states two.new.states two.ensures three.new.states three.ensures
 
 pub write_beside_spec : {M : Type 1} → statement M
 write_beside_spec =

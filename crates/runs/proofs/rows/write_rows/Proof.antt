@@ -29,20 +29,20 @@ start_of c = c.before.before.before.before.before
 
 -- what stands in the list
 same : (c : Loop) → length c.loop-d.states ≡ length (start_of c).args.states.now
-same c = c.loop-d.invariant.4 ∙ c.before.before.write_row.auto.0
+same c = c.loop-d.invariant.4 ∙ c.before.before.write_row.auto.states
 
 so_far : (c : Loop) → c.loop-d.states ≡ put (start_of c).args.states.now (start_of c).args.at (flatten (block_rows (start_of c).args.config.now (start_of c).args.cycle.now (start_of c).args.span.from c.loop-d.d))
 so_far c =
     let s = (start_of c).args in
     let wrote = c.before.before.write_row in
-    c.loop-d.invariant.5 s.states-1.now wrote.auto.0 (wrote.ensures ∙ ap (put s.states-1.now s.at) (first_row s.config.now s.cycle.now s.span.from))
+    c.loop-d.invariant.5 s.states.now wrote.auto.states (wrote.ensures ∙ ap (put s.states.now s.at) (first_row s.config.now s.cycle.now s.span.from))
 
 returns-then-to-from : tie.Need-returns-then-to-from invariant-loop-d decreases-loop-d
 unfolding flatten
 returns-then-to-from c =
     let s = c.before.args in
     let none : s.span.to - s.span.from ≡ 0 = omega arith in
-    rw (rows_none s.config.now s.cycle.now s.span.from s.span.to none) (sym (put_none s.states-1.now s.at))
+    rw (rows_none s.config.now s.cycle.now s.span.from s.span.to none) (sym (put_none s.states.now s.at))
 
 write_row-requires : tie.Need-write_row-requires invariant-loop-d decreases-loop-d
 write_row-requires c κs =
@@ -77,7 +77,7 @@ raise-requires c κs =
     let start = start_of at_loop in
     let s = start.args in
     rw start.requires.3
-    (row_may s.config.now s.cycle.now start.requires.0 s.states-1.now at_loop.loop-d.states s.at s.span.from s.span.to at_loop.loop-d.d at_loop.loop-d.place at_loop.loop-d.invariant.1 (omega arith) start.requires.1 start.requires.2 (same at_loop) at_loop.loop-d.invariant.3 (so_far at_loop))
+    (row_may s.config.now s.cycle.now start.requires.0 s.states.now at_loop.loop-d.states s.at s.span.from s.span.to at_loop.loop-d.d at_loop.loop-d.place at_loop.loop-d.invariant.1 (omega arith) start.requires.1 start.requires.2 (same at_loop) at_loop.loop-d.invariant.3 (so_far at_loop))
 
 overflow_add-place-in-loop-d : tie.Need-overflow_add-place-in-loop-d invariant-loop-d decreases-loop-d
 overflow_add-place-in-loop-d c =
@@ -109,9 +109,9 @@ loop-d-preserved c =
       omega arith,
       omega arith,
       omega (arith, at_loop.loop-d.invariant.3, row_after s.span.from d (length s.config.now) (omega arith)),
-      raise.auto.0 ∙ at_loop.loop-d.invariant.4,
+      raise.auto.states ∙ at_loop.loop-d.invariant.4,
       λ old long is. row_written s.config.now s.cycle.now start.requires.0 old at_loop.loop-d.states s.at s.span.from s.span.to d at_loop.loop-d.place low (omega arith) start.requires.1
-          (omega (arith, start.requires.2, long, at_loop.before.before.write_row.auto.0)) (at_loop.loop-d.invariant.4 ∙ long) at_loop.loop-d.invariant.3 (at_loop.loop-d.invariant.5 old long is) _ made,
+          (omega (arith, start.requires.2, long, at_loop.before.before.write_row.auto.states)) (at_loop.loop-d.invariant.4 ∙ long) at_loop.loop-d.invariant.3 (at_loop.loop-d.invariant.5 old long is) _ made,
     )
 
 shape_of-states : tie.Need-shape_of-states invariant-loop-d decreases-loop-d
@@ -122,7 +122,7 @@ returns c =
     let at_loop = c.before in
     let s = (start_of at_loop).args in
     let all : at_loop.loop-d.d ≡ s.span.to = omega arith in
-    so_far at_loop ∙ ap (λ d. put s.states-1.now s.at (flatten (block_rows s.config.now s.cycle.now s.span.from d))) all
+    so_far at_loop ∙ ap (λ d. put s.states.now s.at (flatten (block_rows s.config.now s.cycle.now s.span.from d))) all
 
 pub write_rows_spec : {M : Type 1} → statement M
 write_rows_spec =

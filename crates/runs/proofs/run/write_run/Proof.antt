@@ -54,7 +54,7 @@ row_second c high k few =
 -- the interval of the block, and the room for its rows
 module _ (c : tie.After-span_over-block invariant-loop-i decreases-loop-i) where
   abbrev loop_of : Loop
-  loop_of = c.before.before.before
+  loop_of = c.before.before
 
   abbrev now_of : tie.Start invariant-loop-i decreases-loop-i
   now_of = start loop_of
@@ -65,8 +65,8 @@ module _ (c : tie.After-span_over-block invariant-loop-i decreases-loop-i) where
   spans : SpanOfBlock now_of.args.lambda now_of.args.width (with_cycle now_of.args.config.now (pos loop_of.loop-i.i) now_of.args.second.now) now_of.args.first.now c.span_over-block.result
   spans =
       let s = now_of.args in
-      block_spans s.lambda s.width s.config.now s.first.now s.second.now s.span.to now_of.requires.1 s.moved.now s.n_moved now_of.requires.3 s.span now_of.requires.2 loop_of.loop-i.i loop_of.loop-i.inv.1 high
-      c.span_over-block.result (rw (added_none loop_of.loop-i.row s.second.now, loop_of.loop-i.inv.4) at c.span_over-block.ensures)
+      block_spans s.lambda s.width s.config.now s.first.now s.second.now s.span.to now_of.requires.1 s.moved.now s.n_moved now_of.requires.3 s.span now_of.requires.2 loop_of.loop-i.i loop_of.loop-i.invariant.1 high
+      c.span_over-block.result (rw (added_none loop_of.loop-i.row s.second.now, loop_of.loop-i.invariant.4) at c.span_over-block.ensures)
 
   abbrev states_to : ℕ → List (List ℤ)
   states_to i = run_states now_of.args.lambda now_of.args.width now_of.args.config.now now_of.args.first.now now_of.args.second.now now_of.args.span.from i
@@ -74,19 +74,19 @@ module _ (c : tie.After-span_over-block invariant-loop-i decreases-loop-i) where
   more : length (states_to (loop_of.loop-i.i + 1)) ≡ loop_of.loop-i.count + (c.span_over-block.result.to - c.span_over-block.result.from)
   more =
       let s = now_of.args in
-      count_next s.lambda s.width s.config.now s.first.now s.second.now s.span.from loop_of.loop-i.i loop_of.loop-i.inv.1 c.span_over-block.result spans ∙ ap (λ k. k + (c.span_over-block.result.to - c.span_over-block.result.from)) (sym loop_of.loop-i.inv.6)
+      count_next s.lambda s.width s.config.now s.first.now s.second.now s.span.from loop_of.loop-i.i loop_of.loop-i.invariant.1 c.span_over-block.result spans ∙ ap (λ k. k + (c.span_over-block.result.to - c.span_over-block.result.from)) (sym loop_of.loop-i.invariant.6)
 
   all_room : now_of.args.at + length (states_to (loop_of.loop-i.i + 1)) * length now_of.args.config.now ≤ length now_of.args.states.now
   all_room =
       let s = now_of.args in
       let enough = now_of.requires.7 in
-      let among = count_among s.lambda s.width s.config.now s.first.now s.second.now s.span.from loop_of.loop-i.i loop_of.loop-i.inv.1 c.span_over-block.result spans s.span.to high in
+      let among = count_among s.lambda s.width s.config.now s.first.now s.second.now s.span.from loop_of.loop-i.i loop_of.loop-i.invariant.1 c.span_over-block.result spans s.span.to high in
       omega (arith, mul-le-mul_right (length s.config.now) among)
 
   block_room : now_of.args.at + loop_of.loop-i.count * length now_of.args.config.now + (c.span_over-block.result.to - c.span_over-block.result.from) * length now_of.args.config.now ≤ length loop_of.loop-i.states
   block_room =
       let m = length now_of.args.config.now in
-      omega (arith, all_room, ap (λ k. k * m) more, add-mul loop_of.loop-i.count (c.span_over-block.result.to - c.span_over-block.result.from) m, loop_of.loop-i.inv.5)
+      omega (arith, all_room, ap (λ k. k * m) more, add-mul loop_of.loop-i.count (c.span_over-block.result.to - c.span_over-block.result.from) m, loop_of.loop-i.invariant.5)
 
 returns-then-to-from : tie.Need-returns-then-to-from invariant-loop-i decreases-loop-i
 unfolding flatten
@@ -94,7 +94,7 @@ returns-then-to-from c =
     let s = c.before.args in
     let none : s.span.to - s.span.from ≡ 0 = omega arith in
     let empty = between_none (λ i. block s.lambda s.width (with_cycle s.config.now (pos i) s.second.now) s.first.now) s.span.from s.span.to none in
-    record { count = sym (ap length empty); list = rw empty (sym (put_none s.states-1.now s.at)) }
+    record { count = sym (ap length empty); list = rw empty (sym (put_none s.states.now s.at)) }
 
 fill_row-requires : tie.Need-fill_row-requires invariant-loop-i decreases-loop-i
 fill_row-requires c κs =
@@ -115,17 +115,17 @@ loop-i-init c =
       refl,
       omega arith,
       omega arith,
-      fill.auto.0 ∙ start.requires.0,
+      fill.auto.row ∙ start.requires.0,
       fill.ensures,
       refl,
       sym (ap length empty),
-      rw empty (sym (put_none s.states-1.now s.at)),
-      rw (empty, first_place) (none_behind s.states-1.now s.at _ s.first.now (omega arith)),
+      rw empty (sym (put_none s.states.now s.at)),
+      rw (empty, first_place) (none_behind s.states.now s.at _ s.first.now (omega arith)),
     )
 
 span_over-block-requires : tie.Need-span_over-block-requires invariant-loop-i decreases-loop-i
 span_over-block-requires c κs =
-    let at_loop = c.before.before in
+    let at_loop = c.before in
     let st = start at_loop in
     let s = st.args in
     let fit = st.requires.1 in
@@ -139,25 +139,25 @@ span_over-block-requires c κs =
     )
 
 overflow_mul-count : tie.Need-overflow_mul-count invariant-loop-i decreases-loop-i
-overflow_mul-count c = let h = block_room c.before in let same = c.before.before.before.before.loop-i.invariant.5 in search rules
+overflow_mul-count c = let h = block_room c.before in let same = c.before.before.before.loop-i.invariant.5 in search rules
 
 overflow_add-at : tie.Need-overflow_add-at invariant-loop-i decreases-loop-i
-overflow_add-at c = let h = block_room c.before in let same = c.before.before.before.before.loop-i.invariant.5 in search rules
+overflow_add-at c = let h = block_room c.before in let same = c.before.before.before.loop-i.invariant.5 in search rules
 
 write_beside-requires : tie.Need-write_beside-requires invariant-loop-i decreases-loop-i
 write_beside-requires c κs =
-    let sp = c.before.before in
+    let sp = c.before in
     let at_loop = loop_of sp in
     let st = start at_loop in
     let few : sp.span_over-block.result.to ≤ 1048576 = omega (arith, (spans sp).bound, st.requires.1.wide) in
-    (row_first at_loop (high sp), row_second at_loop (high sp) 0 (omega arith), few, rw at_loop.loop-i.inv.3 (block_room sp), rw at_loop.loop-i.inv.6 at_loop.loop-i.inv.8, st.requires.4, st.requires.5, rw at_loop.loop-i.inv.3 st.requires.6)
+    (row_first at_loop (high sp), row_second at_loop (high sp) 0 (omega arith), few, rw at_loop.loop-i.invariant.3 (block_room sp), rw at_loop.loop-i.invariant.6 at_loop.loop-i.invariant.8, st.requires.4, st.requires.5, rw at_loop.loop-i.invariant.3 st.requires.6)
 
 size-count-requires : tie.Need-size-count-requires invariant-loop-i decreases-loop-i
 size-count-requires c κs = tt
 
 overflow_add-count : tie.Need-overflow_add-count invariant-loop-i decreases-loop-i
 overflow_add-count c =
-    let sp = c.before.before.before.before.before in
+    let sp = c.before.before.before.before in
     let st = now_of sp in
     let s = st.args in
     omega (
@@ -168,10 +168,10 @@ overflow_add-count c =
     )
 
 add-requires : tie.Need-add-requires invariant-loop-i decreases-loop-i
-add-requires c κs = let sp = c.before.before.before.before.before.before in row_second (loop_of sp) (high sp) 1 (omega arith)
+add-requires c κs = let sp = c.before.before.before.before.before in row_second (loop_of sp) (high sp) 1 (omega arith)
 
 overflow_add-i : tie.Need-overflow_add-i invariant-loop-i decreases-loop-i
-overflow_add-i c = let few = (start c.before.before.before.before.before.before.before.before.before.before.before).requires.1.few in search rules
+overflow_add-i c = let few = (start c.before.before.before.before.before.before.before.before.before).requires.1.few in search rules
 
 loop-i-smaller : tie.Need-loop-i-smaller invariant-loop-i decreases-loop-i
 loop-i-smaller c = search rules
@@ -179,7 +179,7 @@ loop-i-smaller c = search rules
 loop-i-preserved : tie.Need-loop-i-preserved invariant-loop-i decreases-loop-i
 loop-i-preserved c =
     let sized = c.before.before.before in
-    let sp = sized.before.before.before.before.before in
+    let sp = sized.before.before.before.before in
     let at_loop = loop_of sp in
     let st = start at_loop in
     let s = st.args in
@@ -188,22 +188,22 @@ loop-i-preserved c =
     let wrote = sized.before.before.write_beside in
     let moved = c.before.add in
     let p = sp.span_over-block.result in
-    let row_is = moved.ensures ∙ ap (λ l. with_cycle l (pos 1) y) at_loop.loop-i.inv.4 ∙ once_more s.config.now y i in
+    let row_is = moved.ensures ∙ ap (λ l. with_cycle l (pos 1) y) at_loop.loop-i.invariant.4 ∙ once_more s.config.now y i in
     let m = length s.config.now in
     let after =
     wrote.ensures
-    ∙ ap (λ k. put at_loop.loop-i.states (s.at + k * m) (flatten (block_rows at_loop.loop-i.row s.first.now p.from p.to))) at_loop.loop-i.inv.6
-    ∙ ap (λ l. put at_loop.loop-i.states (s.at + length (states_to sp i) * m) (flatten (block_rows l s.first.now p.from p.to))) at_loop.loop-i.inv.4 in (
+    ∙ ap (λ k. put at_loop.loop-i.states (s.at + k * m) (flatten (block_rows at_loop.loop-i.row s.first.now p.from p.to))) at_loop.loop-i.invariant.6
+    ∙ ap (λ l. put at_loop.loop-i.states (s.at + length (states_to sp i) * m) (flatten (block_rows l s.first.now p.from p.to))) at_loop.loop-i.invariant.4 in (
       refl,
-      omega (arith, at_loop.loop-i.inv.1),
+      omega (arith, at_loop.loop-i.invariant.1),
       omega (arith, high sp),
-      moved.auto.0 ∙ at_loop.loop-i.inv.3,
+      moved.auto.config ∙ at_loop.loop-i.invariant.3,
       row_is,
-      wrote.auto.0 ∙ at_loop.loop-i.inv.5,
+      wrote.auto.states ∙ at_loop.loop-i.invariant.5,
       omega (arith, more sp, sized.size-count.ensures),
-      next_written s.lambda s.width s.config.now s.first.now y s.span.from i at_loop.loop-i.inv.1 p (spans sp) (length s.config.now) s.at refl s.states-1.now (all_room sp) at_loop.loop-i.states wrote.new.0 at_loop.loop-i.inv.7 after,
+      next_written s.lambda s.width s.config.now s.first.now y s.span.from i at_loop.loop-i.invariant.1 p (spans sp) (length s.config.now) s.at refl s.states.now (all_room sp) at_loop.loop-i.states wrote.new.states at_loop.loop-i.invariant.7 after,
       rw (row_is, once_less s.config.now y i)
-          (rows_behind s.lambda s.width s.config.now s.first.now y s.span.from i at_loop.loop-i.inv.1 p (spans sp) (length s.config.now) s.at refl s.states-1.now (all_room sp) at_loop.loop-i.states wrote.new.0 at_loop.loop-i.inv.7 after),
+          (rows_behind s.lambda s.width s.config.now s.first.now y s.span.from i at_loop.loop-i.invariant.1 p (spans sp) (length s.config.now) s.at refl s.states.now (all_room sp) at_loop.loop-i.states wrote.new.states at_loop.loop-i.invariant.7 after),
     )
 
 shape_of-states : tie.Need-shape_of-states invariant-loop-i decreases-loop-i

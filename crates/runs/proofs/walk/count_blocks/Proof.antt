@@ -82,13 +82,13 @@ loop-left-init c =
       c.before.before.before.before.before.before.before.before.before.width-n.ensures,
       c.before.before.before.before.before.before.before.before.run_width-wide.ensures,
       refl,
-      first_part free cycles s.lambda s.n_free s.config-1.now s.blocks fit,
-      second_part free cycles s.lambda s.n_free s.config-1.now s.blocks fit,
+      first_part free cycles s.lambda s.n_free s.config.now s.blocks fit,
+      second_part free cycles s.lambda s.n_free s.config.now s.blocks fit,
       fit,
       start.requires.1,
-      edges_here free cycles s.lambda s.n_free s.config-1.now s.blocks fit c.before.before.before.before.before.edges_of-still.ensures,
-      edges_here free cycles s.lambda s.n_free s.config-1.now s.blocks fit c.before.before.before.edges_of-side.ensures,
-      edges_here free cycles s.lambda s.n_free s.config-1.now s.blocks fit c.before.edges_of-moved.ensures,
+      edges_here free cycles s.lambda s.n_free s.config.now s.blocks fit c.before.before.before.before.before.edges_of-still.ensures,
+      edges_here free cycles s.lambda s.n_free s.config.now s.blocks fit c.before.before.before.edges_of-side.ensures,
+      edges_here free cycles s.lambda s.n_free s.config.now s.blocks fit c.before.edges_of-moved.ensures,
       omega arith,
     )
 
@@ -107,101 +107,101 @@ run_is c = c.smaller-run.ensures ∙ ap (min c.before.before.loop-left.left) c.b
 
 run_span-span-requires : tie.Need-run_span-span-requires invariant-loop-left decreases-loop-left
 run_span-span-requires c κs =
-    let at_loop = c.before.before.before.before.before in
+    let at_loop = c.before.before.before.before in
     let s = (start at_loop).args in
     let i = at_loop.loop-left.invariant in
-    let more : 0 < at_loop.loop-left.left = c.before.before.before.before.loop-left-test.true in
-    let small = c.before.before.before in
+    let more : 0 < at_loop.loop-left.left = c.before.before.before.loop-left-test.true in
+    let small = c.before.before in
     span_asks s.free.now s.cycles.now s.lambda s.n_free at_loop.loop-left.config at_loop.loop-left.left i.6 i.7 more small.smaller-run.result (run_is small) _ _ i.4 i.5 _ _ _ _ i.8 i.9
 
 count_run-count-requires : tie.Need-count_run-count-requires invariant-loop-left decreases-loop-left
 count_run-count-requires c κs =
-    let at_loop = c.before.before.before.before.before.before.before.before in
+    let at_loop = c.before.before.before.before.before.before in
     let s = (start at_loop).args in
     let i = at_loop.loop-left.invariant in
-    let more : 0 < at_loop.loop-left.left = c.before.before.before.before.before.before.before.loop-left-test.true in
-    let small = c.before.before.before.before.before.before in
-    let sp = c.before.before.run_span-span in
-    (rw i.1 (turn_fits s.free.now s.cycles.now s.lambda s.n_free at_loop.loop-left.config at_loop.loop-left.left i.6 i.7 more small.smaller-run.result (run_is small) _ _ i.4 i.5 _ _ _ _ i.8 i.9 sp.result sp.ensures), turn_inside s.free.now s.cycles.now s.lambda s.n_free at_loop.loop-left.config at_loop.loop-left.left i.6 i.7 more small.smaller-run.result (run_is small) _ _ i.4 i.5 _ _ _ _ i.8 i.9 sp.result sp.ensures, i.10)
+    let more : 0 < at_loop.loop-left.left = c.before.before.before.before.before.loop-left-test.true in
+    let small = c.before.before in
+    let sp = c.before.run_span-span in
+    (rw i.1 (turn_fits s.free.now s.cycles.now s.lambda s.n_free at_loop.loop-left.config at_loop.loop-left.left i.6 i.7 more small.smaller-run.result (run_is small.before.before) _ _ i.4 i.5 _ _ _ _ i.8 i.9 sp.result sp.ensures), turn_inside s.free.now s.cycles.now s.lambda s.n_free at_loop.loop-left.config at_loop.loop-left.left i.6 i.7 more small.smaller-run.result (run_is small.before.before) _ _ i.4 i.5 _ _ _ _ i.8 i.9 sp.result sp.ensures, i.10)
 
 -- the states of the run are among all
 counted : (c : tie.After-count_run-count invariant-loop-left decreases-loop-left)
-    → c.before.before.before.before.before.before.before.before.before.loop-left.count + c.count_run-count.result ≤ length (walked_states (start c.before.before.before.before.before.before.before.before.before).args.free.now (row (length (start c.before.before.before.before.before.before.before.before.before).args.config.now) (start c.before.before.before.before.before.before.before.before.before).args.cycles.now) (start c.before.before.before.before.before.before.before.before.before).args.lambda (start c.before.before.before.before.before.before.before.before.before).args.n_free (start c.before.before.before.before.before.before.before.before.before).args.config.now (start c.before.before.before.before.before.before.before.before.before).args.blocks)
+    → c.before.before.before.before.before.before.before.loop-left.count + c.count_run-count.result ≤ length (walked_states (start c.before.before.before.before.before.before.before).args.free.now (row (length (start c.before.before.before.before.before.before.before).args.config.now) (start c.before.before.before.before.before.before.before).args.cycles.now) (start c.before.before.before.before.before.before.before).args.lambda (start c.before.before.before.before.before.before.before).args.n_free (start c.before.before.before.before.before.before.before).args.config.now (start c.before.before.before.before.before.before.before).args.blocks)
 counted c =
-    let at_loop = c.before.before.before.before.before.before.before.before.before in
+    let at_loop = c.before.before.before.before.before.before.before in
     let s = (start at_loop).args in
     let i = at_loop.loop-left.invariant in
-    let more : 0 < at_loop.loop-left.left = c.before.before.before.before.before.before.before.before.loop-left-test.true in
-    let small = c.before.before.before.before.before.before.before in
-    let sp = c.before.before.before.run_span-span in
+    let more : 0 < at_loop.loop-left.left = c.before.before.before.before.before.before.loop-left-test.true in
+    let small = c.before.before.before.before.before in
+    let sp = c.before.before.run_span-span in
     let made = rw i.1 at c.count_run-count.ensures in
     omega (arith, i.11, made, turn_counts s.free.now s.cycles.now s.lambda s.n_free at_loop.loop-left.config at_loop.loop-left.left i.6 i.7 more small.smaller-run.result (run_is small) _ _ i.4 i.5 _ _ _ _ i.8 i.9 sp.result sp.ensures _ refl)
 
 overflow_add-count : tie.Need-overflow_add-count invariant-loop-left decreases-loop-left
 overflow_add-count c =
-    let at_loop = c.before.before.before.before.before.before.before.before.before in
+    let at_loop = c.before.before.before.before.before.before.before in
     let s = (start at_loop).args in
     let i = at_loop.loop-left.invariant in
-    let more : 0 < at_loop.loop-left.left = c.before.before.before.before.before.before.before.before.loop-left-test.true in
+    let more : 0 < at_loop.loop-left.left = c.before.before.before.before.before.before.loop-left-test.true in
     let small = c.before.before.before.before.before.before.before in
-    let sp = c.before.before.before.run_span-span in
-    omega (arith, counted c, states_counted s.free.now s.cycles.now s.lambda s.n_free s.config-1.now s.blocks (start at_loop).requires.0)
+    let sp = c.before.before.run_span-span in
+    omega (arith, counted c, states_counted s.free.now s.cycles.now s.lambda s.n_free s.config.now s.blocks (start at_loop).requires.0)
 
 step-requires : tie.Need-step-requires invariant-loop-left decreases-loop-left
 step-requires c κs =
+    let at_loop = c.before.before.before.before.before.before.before.before in
+    let s = (start at_loop).args in
+    let i = at_loop.loop-left.invariant in
+    let more : 0 < at_loop.loop-left.left = c.before.before.before.before.before.before.before.loop-left-test.true in
+    let small = c.before.before.before.before.before.before in
+    step_may s.free.now s.cycles.now s.lambda s.n_free at_loop.loop-left.config at_loop.loop-left.left i.6 i.7 more small.smaller-run.result (run_is small) _ _ i.4 i.5 _ _ _ _ i.8 i.9
+
+overflow_sub-left : tie.Need-overflow_sub-left invariant-loop-left decreases-loop-left
+overflow_sub-left c =
     let at_loop = c.before.before.before.before.before.before.before.before.before.before in
     let s = (start at_loop).args in
     let i = at_loop.loop-left.invariant in
     let more : 0 < at_loop.loop-left.left = c.before.before.before.before.before.before.before.before.before.loop-left-test.true in
     let small = c.before.before.before.before.before.before.before.before in
-    step_may s.free.now s.cycles.now s.lambda s.n_free at_loop.loop-left.config at_loop.loop-left.left i.6 i.7 more small.smaller-run.result (run_is small) _ _ i.4 i.5 _ _ _ _ i.8 i.9
-
-overflow_sub-left : tie.Need-overflow_sub-left invariant-loop-left decreases-loop-left
-overflow_sub-left c =
-    let at_loop = c.before.before.before.before.before.before.before.before.before.before.before.before in
-    let s = (start at_loop).args in
-    let i = at_loop.loop-left.invariant in
-    let more : 0 < at_loop.loop-left.left = c.before.before.before.before.before.before.before.before.before.before.before.loop-left-test.true in
-    let small = c.before.before.before.before.before.before.before.before.before.before in
     (fewer_left s.free.now s.cycles.now s.lambda s.n_free at_loop.loop-left.config at_loop.loop-left.left i.6 i.7 more small.smaller-run.result (run_is small) _ _ i.4 i.5 _ _ _ _ i.8 i.9).0
 
 loop-left-smaller : tie.Need-loop-left-smaller invariant-loop-left decreases-loop-left
 loop-left-smaller c =
-    let at_loop = c.before.before.before.before.before.before.before.before.before.before.before.before in
+    let at_loop = c.before.before.before.before.before.before.before.before.before.before in
     let s = (start at_loop).args in
     let i = at_loop.loop-left.invariant in
-    let more : 0 < at_loop.loop-left.left = c.before.before.before.before.before.before.before.before.before.before.before.loop-left-test.true in
-    let small = c.before.before.before.before.before.before.before.before.before.before in
+    let more : 0 < at_loop.loop-left.left = c.before.before.before.before.before.before.before.before.before.loop-left-test.true in
+    let small = c.before.before.before.before.before.before.before.before in
     (fewer_left s.free.now s.cycles.now s.lambda s.n_free at_loop.loop-left.config at_loop.loop-left.left i.6 i.7 more small.smaller-run.result (run_is small) _ _ i.4 i.5 _ _ _ _ i.8 i.9).1
 
 loop-left-preserved : tie.Need-loop-left-preserved invariant-loop-left decreases-loop-left
 loop-left-preserved c =
-    let at_loop = c.before.before.before.before.before.before.before.before.before.before.before.before in
+    let at_loop = c.before.before.before.before.before.before.before.before.before.before in
     let s = (start at_loop).args in
     let i = at_loop.loop-left.invariant in
-    let more : 0 < at_loop.loop-left.left = c.before.before.before.before.before.before.before.before.before.before.before.loop-left-test.true in
-    let small = c.before.before.before.before.before.before.before.before.before.before in
+    let more : 0 < at_loop.loop-left.left = c.before.before.before.before.before.before.before.before.before.loop-left-test.true in
+    let small = c.before.before.before.before.before.before.before.before in
     let free = s.free.now in
     let cycles = s.cycles.now in
     let config = at_loop.loop-left.config in
     let left = at_loop.loop-left.left in
     let run = small.smaller-run.result in
-    let sp = c.before.before.before.before.before.before.run_span-span in
+    let sp = c.before.before.before.before.before.run_span-span in
     let count = rw i.1 at c.before.before.before.count_run-count.ensures in
     let step = c.before.step in
-    let same = step.auto.0 in (
+    let same = step.auto.config in (
       omega (arith, i.0),
       i.1,
       i.2,
       same ∙ i.3,
       rw same i.4,
       rw same i.5,
-      walkable_run free cycles s.lambda s.n_free config left i.6 i.7 more run (run_is small) step.new.0 step.ensures,
-      runs_next free cycles s.lambda s.n_free config left i.6 i.7 more run (run_is small) step.new.0 step.ensures,
+      walkable_run free cycles s.lambda s.n_free config left i.6 i.7 more run (run_is small) step.new.config step.ensures,
+      runs_next free cycles s.lambda s.n_free config left i.6 i.7 more run (run_is small) step.new.config step.ensures,
       rw same i.8,
       rw same i.9,
       rw same i.10,
-      omega (arith, i.11, count, turn_counts s.free.now s.cycles.now s.lambda s.n_free at_loop.loop-left.config at_loop.loop-left.left i.6 i.7 more small.smaller-run.result (run_is small) _ _ i.4 i.5 _ _ _ _ i.8 i.9 sp.result sp.ensures step.new.0 step.ensures),
+      omega (arith, i.11, count, turn_counts s.free.now s.cycles.now s.lambda s.n_free at_loop.loop-left.config at_loop.loop-left.left i.6 i.7 more small.smaller-run.result (run_is small) _ _ i.4 i.5 _ _ _ _ i.8 i.9 sp.result sp.ensures step.new.config step.ensures),
     )
 
 shape_of-config : tie.Need-shape_of-config invariant-loop-left decreases-loop-left

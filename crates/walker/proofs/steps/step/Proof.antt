@@ -144,8 +144,6 @@ overflow_add-j-in-loop-j c = search rules
 slice_bounds-add-count-in-loop-j : tie.Need-slice_bounds-add-count-in-loop-j invariant-loop-j decreases-loop-j
 slice_bounds-add-count-in-loop-j c = search rules
 
-
-
 add-requires-in-loop-j : tie.Need-add-requires-in-loop-j invariant-loop-j decreases-loop-j
 add-requires-in-loop-j c κs =
     let at_loop = c.before.before.before.before.before.before.before.before in

@@ -7,7 +7,7 @@ use Rattle.walker.proofs.tables.prepare.Statement.{statement}
 use Rattle.walker.proofs.tables.prepare.Tie as tie
 
 spanned : (c : tie.After-search-tree) → Spanned c.before.before.args.c c.search-tree.result
-spanned c = searched_spanned _ _ c.before.before.before.requires.0 c.search-tree.ensures
+spanned c = searched_spanned _ _ c.before.before.requires.0 c.search-tree.ensures
 
 search-tree-requires : tie.Need-search-tree-requires
 search-tree-requires c κs = accepted_searchable _ c.before.requires.0
@@ -54,7 +54,7 @@ returns c =
     let s = start made in
     let free = made.before.before.before.free_edges-free in
     let cycles = made.fundamental_cycles-cycles in
-    tables_walk s.args.c s.requires.0 s.args.lambda s.requires.1 free.result free.ensures cycles.result cycles.ensures c.before.begin.new.config c.before.begin.auto.0 c.before.begin.ensures
+    tables_walk s.args.c s.requires.0 s.args.lambda s.requires.1 free.result free.ensures cycles.result cycles.ensures c.before.begin.new.config c.before.begin.auto.config c.before.begin.ensures
 
 pub prepare_spec : {M : Type 1} → statement M
 prepare_spec =
