@@ -1,8 +1,11 @@
 use Prim.Native.Nat.{ℕ, ◌+◌, ◌-◌, ◌^◌, ◌<◌, ◌≤◌}
 use mathlib.Core.List.{List, flat_map}
 use mathlib.Core.Path.{◌≡◌, refl, sym, ◌∙◌}
+use native.Mathlib.Nat.{le_of_lt}
 use native.Mathlib.Omega.{arith}
 use lib.Bits.{bit_xor, xor_lt}
+use Rattle.std.proofs.Common.{Fits, w32}
+use Rattle.std.proofs.Math.Facts.{Fits-below}
 use lib.ListN.{length, length-set, take}
 use Rattle.mathematics.specs.Counting.{below}
 use Rattle.rows.specs.Entries.{pairs}
@@ -81,13 +84,14 @@ overflow_add-i c =
     let inside = c.before.before.before.before.before.before.before.before.before.before.before.before.before.before.before.before.before.before.loop-i-test.true in
     search rules
 
+-- by what the flips go from one row to the next is small
+xor_fits : (x y : ℕ) → x < 2 ^ 21 → y < 2 ^ 21 → Fits w32 (bit_xor x y)
+xor_fits x y a b = Fits-below {n = 2097152} tt (le_of_lt (xor_lt 21 x y a b))
+
 overflow_cast-i : tie.Need-overflow_cast-i invariant-loop-i decreases-loop-i
 overflow_cast-i c =
-    let at_loop = c.before.before.before.before.before.before.before.before.before.before.before.before.before.before.before.before.before.before.before in
-    let i = at_loop.loop-i.i in
-    let inside : i < 2 ^ 20 = omega (arith, at_loop.before.before.before.before.before.before.before.requires.few, c.before.before.before.before.before.before.before.before.before.before.before.before.before.before.before.before.before.before.loop-i-test.true) in
-    let low : bit_xor i (i + 1) < 2 ^ 21 = xor_lt 21 i (i + 1) (omega arith) (omega arith) in
-    search rules
+    let inside : c.loop-i.i < 2 ^ 20 = omega (arith, c.requires.few, c.loop-i-test.true) in
+    search (rules, xor_fits)
 
 flip_row-requires : tie.Need-flip_row-requires invariant-loop-i decreases-loop-i
 flip_row-requires c κs =
