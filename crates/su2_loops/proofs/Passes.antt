@@ -21,7 +21,7 @@ use Rattle.matrices.specs.Coupling.{float_of}
 use Rattle.gauss_law.specs.Listing.{limit}
 use Rattle.su2_even_sets.specs.EvenSets.{chosen, su2_states}
 use Rattle.su2_masks.specs.Basis.{su2_tests}
-use Rattle.su2_loops.specs.Loop.{names, passes, passes_oddly, counted_met, sign_of, su2_expectation, counted_expectation, path_right, loop_tests, expectation_call, su2_loop_call, su2_passes_call}
+use Rattle.su2_loops.specs.Loop.{names, passes, passes_oddly, counted_met, sign_of, counted_expectation, path_right, loop_tests, expectation_call, su2_loop_call, su2_passes_call}
 use Rattle.su2_loops.specs.Passes.{PassesKnown}
 use Rattle.su2_loops.proofs.Parity.{remainder_is}
 use Rattle.su2_loops.proofs.Paths.{passes_append}

@@ -1,4 +1,4 @@
-use Prim.Native.Nat.{◌*◌, ◌%◌, ◌^◌, ◌≤◌}
+use Prim.Native.Nat.{◌≤◌}
 use mathlib.Core.Path.{◌≡◌, refl, sym, ◌∙◌}
 use native.Mathlib.Omega.{arith}
 use borrow.Author.Tests.{ne_eqb}
