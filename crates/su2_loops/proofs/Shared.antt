@@ -19,7 +19,7 @@ use Rattle.complex.specs.Complex.{Complex}
 use Rattle.complex.specs.Judge.{Accepted}
 use Rattle.su2_even_sets.specs.EvenSets.{chosen, su2_states}
 use Rattle.su2_even_sets.proofs.EvenLists.{even_complete}
-use Rattle.su2_loops.specs.Loop.{counted_met, sign_of, counted_sum, counted_expectation, mask_sum}
+use Rattle.su2_loops.specs.Loop.{met, sign_of, su2_loop_sum, su2_expectation, names, counted_met, counted_sum, counted_expectation, expectation_call, su2_loop_call, mask_sum}
 
 -- ---- bit by bit
 and_half : (x y : ℕ) → bit_and x y / 2 ≡ bit_and (x / 2) (y / 2)
@@ -83,3 +83,19 @@ module _ (c : Complex) (accepted : Accepted c) (vector : List Float) (mask : ℕ
   pub sum_told : (n : ℕ) (x : Float) → x ≡ mask_sum vector states mask n → n ≡ length (su2_states c) → x ≡ counted_expectation c vector (chosen mask)
   unfolding counted_expectation
   sum_told n x is number = is ∙ ap (mask_sum vector states mask) number ∙ sum_is (length (su2_states c)) (omega arith)
+
+-- ---- the loop of the edge set: it is told by the edges that the path names
+module _ (c : Complex) (vector : List Float) (path : List ℕ) where
+  named_sum : (n : ℕ) → counted_sum c vector (names path) n ≡ su2_loop_sum c vector path n
+  unfolding counted_sum su2_loop_sum counted_met met names
+  named_sum zero = refl
+  named_sum (suc i) =
+      ap (λ (x : Float). add binary64 x (mul binary64 (mul binary64 (get_or vector i nan) (get_or vector i nan)) (sign_of (met c path (get_or (su2_states c) i 0))))) (named_sum i)
+
+  named_expectation : counted_expectation c vector (names path) ≡ su2_expectation c vector path
+  unfolding counted_expectation su2_expectation
+  named_expectation = named_sum (length (su2_states c))
+
+  pub named_call : (work : List ℕ) → expectation_call c vector path (names path) work ≡ su2_loop_call c vector path work
+  unfolding su2_loop_call
+  named_call work = ap (λ (value : Float). record (expectation_call c vector path (names path) work) { value = value }) named_expectation

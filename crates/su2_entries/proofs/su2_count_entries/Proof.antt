@@ -1,4 +1,4 @@
-use Prim.Native.Nat.{◌*◌, ◌%◌, ◌^◌, ◌≤◌}
+use Prim.Native.Nat.{ℕ, ◌*◌, ◌%◌, ◌^◌, ◌≤◌}
 use mathlib.Core.Path.{◌≡◌, refl, sym, ◌∙◌}
 use native.Mathlib.Omega.{arith}
 use borrow.Author.Tests.{ne_eqb}
@@ -25,15 +25,12 @@ good c = sym c.before.judge-number.ensures ∙ c.if-number-ne0.false
 loops : (c : tie.After-closing_loops-f) → LoopsOf (complex_of c.before.before.before.args.c) c.closing_loops-f.result
 loops c = loops_of _ (good c.before) _ c.closing_loops-f.ensures
 
-few : (c : tie.Else-count-gt20) → c.before.closing_loops-f.result.count ≤ 20
-few c = omega arith
-
-few_triangles : (c : tie.Else-count-gt20) → c.before.before.before.before.args.c.n_triangles ≤ 256
-few_triangles c = rw (triangles_long c.before.before.before.before.args.c) at (loops c.before).accepted.few_triangles
+few_triangles : (c : tie.After-closing_loops-f) → c.before.before.before.args.c.n_triangles ≤ 256
+few_triangles c = rw (triangles_long c.before.before.before.args.c) at (loops c).accepted.few_triangles
 
 -- the number of states, as the code makes it
-number : (c : tie.Else-count-gt20) → 1 * 2 ^ c.before.closing_loops-f.result.count % 2 ^ 64 ≡ 2 ^ c.before.closing_loops-f.result.count
-number c = power_shifted c.before.closing_loops-f.result.count (omega (arith, few c))
+number : (n : ℕ) → n ≤ 20 → 1 * 2 ^ n % 2 ^ 64 ≡ 2 ^ n
+number n few = power_shifted n (omega arith)
 
 judge-number-requires : tie.Need-judge-number-requires
 judge-number-requires c κs = search rules
@@ -45,29 +42,27 @@ returns-then-number-ne0 c = refuses _ (record_refuses _ c.before.judge-number.en
 closing_loops-f-requires : tie.Need-closing_loops-f-requires
 closing_loops-f-requires c κs = search rules
 
-returns-then-count-gt20 : tie.Need-returns-then-count-gt20
-unfolding su2_entries_call number_answer
-returns-then-count-gt20 c = refuses _ (limit_refuses (good c.before.before) (loops c.before) c.if-count-gt20.true _) refl
-
 overflow_shl-n : tie.Need-overflow_shl-n
 overflow_shl-n c = search rules
 
 overflow_add-entries : tie.Need-overflow_add-entries
-overflow_add-entries c = let most = few_triangles c.before in search rules
+overflow_add-entries c = let most = few_triangles c.before.before in search rules
 
 overflow_mul-entries : tie.Need-overflow_mul-entries
 overflow_mul-entries c =
-    let product = entries_few _ _ (few_triangles c.before) (few c.before) in
+    let few : c.closing_loops-f.result.count ≤ 20 = omega arith in
+    let product = entries_few _ _ (few_triangles c.before.before) few in
     let most = product.0 in
     let some = product.1 in
-    rw (number c.before) (search rules)
+    rw (number _ few) (search rules)
 
 overflow_sub-entries : tie.Need-overflow_sub-entries
 overflow_sub-entries c =
-    let product = entries_few _ _ (few_triangles c.before) (few c.before) in
+    let few : c.closing_loops-f.result.count ≤ 20 = omega arith in
+    let product = entries_few _ _ (few_triangles c.before.before) few in
     let most = product.0 in
     let some = product.1 in
-    rw (number c.before) (search rules)
+    rw (number _ few) (search rules)
 
 returns : tie.Need-returns
 unfolding su2_entries_call number_answer entries_number
@@ -75,16 +70,19 @@ returns c =
     let small = c.before in
     let right = good small.before.before in
     let of = loops small.before in
-    ends (su2_entries_call _) (past_masks right of (few small) none)
-    (rw (number small, triangles_long small.before.before.before.before.args.c, states_number _ _ of))
+    let few : c.closing_loops-f.result.count ≤ 20 = omega arith in
+    ends (su2_entries_call _) (past_masks right of few none)
+    (rw (number _ few, triangles_long small.before.before.before.before.args.c, states_number _ _ of))
     refl
     (record {
       few_triangles = of.accepted.few_triangles;
-      few = (masks_known right of (few small)).few;
+      few = (masks_known right of few).few;
       every = λ p w h. lengths.entries_number _ of.accepted p h w;
     })
 
+-- the answer where the limit is passed stands here, as its name has the limit in it
 pub su2_count_entries_spec : {M : Type 1} → statement M
+unfolding su2_entries_call number_answer
 su2_count_entries_spec =
     tie.close
-    (tie.spec judge-number-requires returns-then-number-ne0 closing_loops-f-requires returns-then-count-gt20 overflow_shl-n overflow_add-entries overflow_mul-entries overflow_sub-entries returns)
+    (tie.spec judge-number-requires returns-then-number-ne0 closing_loops-f-requires (λ c. refuses _ (limit_refuses (good c.before.before) (loops c.before) (omega arith) _) refl) overflow_shl-n overflow_add-entries overflow_mul-entries overflow_sub-entries returns)

@@ -95,7 +95,7 @@ write_masks-requires : tie.Need-write_masks-requires
 write_masks-requires c κs =
     let enough = c.before.before.before in
     let small = enough.before.before.before in
-    ((loops small).keeps.loops-1.long, few small, rw (← (states_number _ _ (loops small))) (room enough))
+    ((loops small).keeps.loops.long, few small, rw (← (states_number _ _ (loops small))) (room enough))
 
 counted_mask-mask-requires : tie.Need-counted_mask-mask-requires
 counted_mask-mask-requires c κs =
@@ -105,11 +105,11 @@ counted_mask-mask-requires c κs =
 
 mask_sum-requires : tie.Need-mask_sum-requires
 mask_sum-requires c κs =
-    let masks = c.before.before.before.before in
+    let masks = c.before.before.before in
     let enough = masks.before.before.before.before in
     let right = enough.before in
     let n = number right.before.before in
-    (rw (n, (loop_fits _ _ _ _ (passed right)).0) (omega arith), rw n (omega (arith, room enough, masks.write_masks.auto.0)))
+    (rw (n, (loop_fits _ _ _ _ (passed right)).0) (omega arith), rw n (omega (arith, room enough, masks.write_masks.auto.states)))
 
 shape_of-states : tie.Need-shape_of-states
 shape_of-states c = search rules
@@ -117,7 +117,7 @@ shape_of-states c = search rules
 returns : tie.Need-returns
 unfolding expectation_answer
 returns c =
-    let marked = c.before.before in
+    let marked = c.before in
     let masks = marked.before.before.before in
     let enough = masks.before.before.before.before in
     let right = enough.before in

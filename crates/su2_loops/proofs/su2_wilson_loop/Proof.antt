@@ -1,4 +1,5 @@
-use Rattle.su2_loops.specs.Loop.{su2_loop_call, counting}
+use Rattle.su2_loops.specs.Loop.{counting}
+use Rattle.su2_loops.proofs.Shared.{named_call}
 use borrow.Author.Rules.{rules}
 use Rattle.su2_loops.proofs.su2_wilson_loop.Statement.{statement}
 use Rattle.su2_loops.proofs.su2_wilson_loop.Tie as tie
@@ -10,8 +11,8 @@ shape_of-states : tie.Need-shape_of-states
 shape_of-states c = search rules
 
 returns : tie.Need-returns
-unfolding su2_loop_call counting
-returns c = c.before.before.loop_expectation.ensures
+unfolding counting
+returns c = rw named_call at c.loop_expectation.ensures
 
 pub su2_wilson_loop_spec : {M : Type 1} → statement M
 su2_wilson_loop_spec = tie.close (tie.spec loop_expectation-requires shape_of-states returns)

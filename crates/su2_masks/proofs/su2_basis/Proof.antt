@@ -1,4 +1,4 @@
-use Prim.Native.Nat.{◌*◌, ◌%◌, ◌^◌, ◌≤◌}
+use Prim.Native.Nat.{ℕ, ◌*◌, ◌%◌, ◌^◌, ◌≤◌}
 use mathlib.Core.Path.{◌≡◌, refl, sym, ◌∙◌}
 use native.Mathlib.Omega.{arith}
 use borrow.Author.Tests.{ne_eqb, lt-ltb, le-ltb}
@@ -22,12 +22,9 @@ good c = sym c.before.judge-number.ensures ∙ c.if-number-ne0.false
 loops : (c : tie.After-closing_loops-f) → LoopsOf (complex_of c.before.before.before.before.args.c) c.closing_loops-f.result
 loops c = loops_of _ (good c.before) _ c.closing_loops-f.ensures
 
-few : (c : tie.Else-n-gt20) → c.before.closing_loops-f.result.count ≤ 20
-few c = omega arith
-
 -- the number of states, as the code makes it
-number : (c : tie.Else-n-gt20) → 1 * 2 ^ c.before.closing_loops-f.result.count % 2 ^ 64 ≡ 2 ^ c.before.closing_loops-f.result.count
-number c = power_shifted c.before.closing_loops-f.result.count (omega (arith, few c))
+number : (n : ℕ) → n ≤ 20 → 1 * 2 ^ n % 2 ^ 64 ≡ 2 ^ n
+number n few = power_shifted n (omega arith)
 
 judge-number-requires : tie.Need-judge-number-requires
 judge-number-requires c κs = search rules
@@ -39,10 +36,6 @@ returns-then-number-ne0 c = refuses _ (record_refuses _ c.before.judge-number.en
 closing_loops-f-requires : tie.Need-closing_loops-f-requires
 closing_loops-f-requires c κs = search rules
 
-returns-then-n-gt20 : tie.Need-returns-then-n-gt20
-unfolding su2_basis_call number_answer
-returns-then-n-gt20 c = refuses _ (limit_refuses (good c.before.before) (loops c.before) c.if-n-gt20.true _) refl
-
 overflow_shl-count : tie.Need-overflow_shl-count
 overflow_shl-count c = search rules
 
@@ -51,12 +44,13 @@ unfolding su2_basis_call number_answer
 returns-then-states-count c =
     let small = c.before in
     let of = loops small.before in
-    refuses _ (past_masks (good small.before.before) of (few small) (here (rw (states_number _ _ of) (lt-ltb _ _ (rw (number small) at c.if-states-count.true))))) refl
+    let few : c.closing_loops-f.result.count ≤ 20 = omega arith in
+    refuses _ (past_masks (good small.before.before) of few (here (rw (states_number _ _ of) (lt-ltb _ _ (rw (number _ few) at c.if-states-count.true))))) refl
 
 write_masks-requires : tie.Need-write_masks-requires
 write_masks-requires c κs =
-    let small = c.before.before.before.before in
-    (small.before.closing_loops-f.ensures.loops.long, few small, rw (number small) at c.before.before.before.if-states-count.false)
+    let few : c.closing_loops-f.result.count ≤ 20 = omega arith in
+    (c.closing_loops-f.ensures.loops.long, few, rw (number _ few) at c.if-states-count.false)
 
 shape_of-states : tie.Need-shape_of-states
 shape_of-states c = search rules
@@ -65,13 +59,15 @@ returns : tie.Need-returns
 unfolding su2_basis_call number_answer
 returns c =
     let small = c.before.before.before.before.before.before.before in
-    let enough = c.before.before.before.before.before.before in
     let right = good small.before.before in
     let of = loops small.before in
-    ends _ (past_masks right of (few small) (past (rw (states_number _ _ of) (le-ltb _ _ (rw (number small) at enough.if-states-count.false))) none))
-    (number small ∙ sym (states_number _ _ of)) (masks_written right of _ _ c.before.before.write_masks.ensures) (masks_known right of (few small))
+    let few : c.closing_loops-f.result.count ≤ 20 = omega arith in
+    ends _ (past_masks right of few (past (rw (states_number _ _ of) (le-ltb _ _ (rw (number _ few) at c.if-states-count.false))) none))
+    (number _ few ∙ sym (states_number _ _ of)) (masks_written right of _ _ c.write_masks.ensures) (masks_known right of few)
 
+-- the answer where the limit is passed stands here, as its name has the limit in it
 pub su2_basis_spec : {M : Type 1} → statement M
+unfolding su2_basis_call number_answer
 su2_basis_spec =
     tie.close
-    (tie.spec judge-number-requires returns-then-number-ne0 closing_loops-f-requires returns-then-n-gt20 overflow_shl-count returns-then-states-count write_masks-requires shape_of-states returns)
+    (tie.spec judge-number-requires returns-then-number-ne0 closing_loops-f-requires (λ c. refuses _ (limit_refuses (good c.before.before) (loops c.before) (omega arith) _) refl) overflow_shl-count returns-then-states-count write_masks-requires shape_of-states returns)

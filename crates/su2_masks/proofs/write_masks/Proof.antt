@@ -66,7 +66,7 @@ loop-j-preserved c =
     let old = set start.args.states.now 0 0 in
     let j = turn.before.loop-j.j in
     let made = rw (turn.before.loop-j.invariant.1, turn.before.loop-j.invariant.3) at c.before.before.double.ensures in
-    (omega arith, twice turn, c.before.before.double.auto.0 ∙ turn.before.loop-j.invariant.2, made ∙ masks_more start.args.loops.now old j (rw length-set (room turn).0))
+    (omega arith, twice turn, c.before.before.double.auto.states ∙ turn.before.loop-j.invariant.2, made ∙ masks_more start.args.loops.now old j (rw length-set (room turn).0))
 
 shape_of-states : tie.Need-shape_of-states invariant-loop-j decreases-loop-j
 shape_of-states c = c.before.loop-j.invariant.2 ∙ length-set c.before.before.before.args.states.now 0 0

@@ -59,7 +59,7 @@ abbrev too_short : tie.Else-count-gt20 → Bool
 too_short c =
     let a = (at-start c).args in
     let n = length (su2_states (complex_of a.c)) in
-    ltb (length a.states-1.now) n || ltb (length a.res.now) n
+    ltb (length a.states.now) n || ltb (length a.res.now) n
 
 not_short : (c : tie.Else-states-n) → too_short c.before.before.before.before ≡ false
 not_short c = rw (number c.before.before.before.before) at c.if-states-n.false
@@ -106,11 +106,11 @@ write_masks-requires : tie.Need-write_masks-requires
 write_masks-requires c κs =
     let enough = c.before.before.before in
     let small = enough.before.before.before.before in
-    ((loops small).keeps.loops-1.long, few small, rw (← (states_number _ _ (loops small))) (long_enough _ _ _ (not_short enough)).0)
+    ((loops small).keeps.loops.long, few small, rw (← (states_number _ _ (loops small))) (long_enough _ _ _ (not_short enough)).0)
 
 write_product-requires : tie.Need-write_product-requires
 write_product-requires c κs =
-    let masks = c.before.before.before.before in
+    let masks = c.before.before.before in
     let enough = masks.before.before.before.before in
     let right = enough.before in
     let small = right.before.before.before in (
@@ -134,7 +134,7 @@ shape_of-res c = search rules
 returns : tie.Need-returns
 unfolding su2_product_call number_answer
 returns c =
-    let masks = c.before.before.before.before.before.before.before in
+    let masks = c.before.before.before.before.before.before in
     let enough = masks.before.before.before.before in
     let right = enough.before in
     let small = right.before.before.before in
@@ -142,7 +142,7 @@ returns c =
     let of = loops small in
     ends _ (past_masks fine of (few small) (past_vector _ _ _ _ _ _ (passed right) (past (not_short enough) none)))
     (number small)
-    (both (masks_written fine of _ _ masks.write_masks.ensures) c.before.before.write_product.ensures)
+    (both (masks_written fine of _ _ masks.write_masks.ensures) c.write_product.ensures)
     (masks_known fine of (few small)).few
 
 pub su2_hamiltonian_matvec_spec : {M : Type 1} → statement M

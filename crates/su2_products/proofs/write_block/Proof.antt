@@ -22,7 +22,7 @@ write_electric-requires c κs = let fits = c.before.before.before.before.before.
 loop-t-init : tie.Need-loop-t-init invariant-loop-t decreases-loop-t
 loop-t-init c =
     let written = c.before.before.write_electric in
-    (omega arith, refl, no_triangle _ _ _ _ _ _ _ c.before.before.before.before.before.before.before.before.before.args.block.now written.ensures written.auto.0)
+    (omega arith, refl, no_triangle _ _ _ _ _ _ _ c.before.before.before.before.before.before.before.before.before.args.block.now written.ensures written.auto.block)
 
 -- the function's beginning, from its loop
 abbrev begun : tie.At-loop-t invariant-loop-t decreases-loop-t → tie.Start invariant-loop-t decreases-loop-t
@@ -48,7 +48,7 @@ add_flips-requires c κs =
     let at_loop = c.before.before.before.before in
     let fits = (begun at_loop).requires in
     let a = (begun at_loop).args in
-    let same : length at_loop.loop-t.block ≡ length a.block-1.now = at_loop.loop-t.invariant.1 ∙ at_loop.before.before.before.write_electric.auto.0 in
+    let same : length at_loop.loop-t.block ≡ length a.block.now = at_loop.loop-t.invariant.1 ∙ at_loop.before.before.before.write_electric.auto.block in
     (rw same fits.vector_long, λ i h. fits.within i at_loop.loop-t.t (rw same at h) (omega arith))
 
 overflow_step-t : tie.Need-overflow_step-t invariant-loop-t decreases-loop-t
@@ -62,17 +62,17 @@ loop-t-preserved c =
     let at_loop = c.before.before.before.before.before.before.before in
     let added = c.before.before.add_flips in
     let inv = at_loop.loop-t.invariant in
-    (omega arith, added.auto.0 ∙ inv.1, next_triangle _ _ _ _ _ _ at_loop.loop-t.t _ at_loop.loop-t.block _ inv.2 inv.1 added.ensures)
+    (omega arith, added.auto.block ∙ inv.1, next_triangle _ _ _ _ _ _ at_loop.loop-t.t _ at_loop.loop-t.block _ inv.2 inv.1 added.ensures)
 
 shape_of-block : tie.Need-shape_of-block invariant-loop-t decreases-loop-t
-shape_of-block c = c.before.loop-t.invariant.1 ∙ c.before.before.before.before.write_electric.auto.0
+shape_of-block c = c.before.loop-t.invariant.1 ∙ c.before.before.before.before.write_electric.auto.block
 
 returns : tie.Need-returns invariant-loop-t decreases-loop-t
 returns c =
     let at_loop = c.before in
     let a = (begun at_loop).args in
     let past : at_loop.loop-t.t ≡ a.n_triangles = omega arith in
-    let same = at_loop.before.before.before.write_electric.auto.0 in
+    let same = at_loop.before.before.before.write_electric.auto.block in
     rw (past, same) at at_loop.loop-t.invariant.2
 
 pub write_block_spec : {M : Type 1} → statement M

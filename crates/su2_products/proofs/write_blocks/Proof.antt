@@ -76,7 +76,7 @@ loop-from-preserved c =
     let inv = at_loop.loop-from.invariant in
     let written = c.before.before.write_block in
     let rises : at_loop.loop-from.from ≤ cut.smaller-to.result = omega (arith, (ends cut).0) in
-    ((ends cut).1, same_len_mid {X = Float} at_loop.loop-from.from (cut.smaller-to.result - at_loop.loop-from.from) at_loop.loop-from.res written.new.0 written.auto.0 ∙ inv.1, next_begun _ _ _ _ _ _ rises (room cut) inv.2 written.ensures)
+    ((ends cut).1, same_len_mid {X = Float} at_loop.loop-from.from (cut.smaller-to.result - at_loop.loop-from.from) at_loop.loop-from.res written.new.block written.auto.block ∙ inv.1, next_begun _ _ _ _ _ _ rises (room cut) inv.2 written.ensures)
 
 shape_of-res : tie.Need-shape_of-res invariant-loop-from decreases-loop-from
 shape_of-res c = c.before.loop-from.invariant.1

@@ -27,7 +27,7 @@ write_blocks-requires c κs =
     let start = made.before.before.before.before.before.before.before in
     let tables = made.write_tables in (
       few_states start.requires.0,
-      rw (← (triangles_long start.args.c)) (block_fits start.requires.0 tables.ensures _ start.requires.2.0 start.requires.2.1 (omega (arith, tables.auto.0)) (omega (arith, tables.auto.1.0)) start.args.vector.now refl),
+      rw (← (triangles_long start.args.c)) (block_fits start.requires.0 tables.ensures _ start.requires.2.0 start.requires.2.1 (omega (arith, tables.auto.places)) (omega (arith, tables.auto.terms)) start.args.vector.now refl),
       start.requires.0.long,
     )
 

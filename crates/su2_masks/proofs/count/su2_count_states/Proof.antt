@@ -1,4 +1,4 @@
-use Prim.Native.Nat.{◌*◌, ◌%◌, ◌^◌, ◌≤◌}
+use Prim.Native.Nat.{◌≤◌}
 use mathlib.Core.Path.{◌≡◌, refl, sym, ◌∙◌}
 use native.Mathlib.Omega.{arith}
 use borrow.Author.Tests.{ne_eqb}
@@ -22,9 +22,6 @@ good c = sym c.before.judge-number.ensures ∙ c.if-number-ne0.false
 loops : (c : tie.After-closing_loops-f) → LoopsOf (complex_of c.before.before.before.args.c) c.closing_loops-f.result
 loops c = loops_of _ (good c.before) _ c.closing_loops-f.ensures
 
-few : (c : tie.Else-n-gt20) → c.before.closing_loops-f.result.count ≤ 20
-few c = omega arith
-
 judge-number-requires : tie.Need-judge-number-requires
 judge-number-requires c κs = search rules
 
@@ -35,10 +32,6 @@ returns-then-number-ne0 c = refuses _ (record_refuses _ c.before.judge-number.en
 closing_loops-f-requires : tie.Need-closing_loops-f-requires
 closing_loops-f-requires c κs = search rules
 
-returns-then-n-gt20 : tie.Need-returns-then-n-gt20
-unfolding su2_counted_call number_answer
-returns-then-n-gt20 c = refuses _ (limit_refuses (good c.before.before) (loops c.before) c.if-n-gt20.true _) refl
-
 overflow_shl-count : tie.Need-overflow_shl-count
 overflow_shl-count c = search rules
 
@@ -47,9 +40,12 @@ unfolding su2_counted_call number_answer
 returns c =
     let right = good c.before.before in
     let of = loops c.before in
-    ends (su2_counted_call _) (past_masks right of (few c) none) (power_shifted _ (omega (arith, few c)) ∙ sym (states_number _ _ of)) refl (masks_known right of (few c))
+    let few : c.closing_loops-f.result.count ≤ 20 = omega arith in
+    ends (su2_counted_call _) (past_masks right of few none) (power_shifted _ (omega arith) ∙ sym (states_number _ _ of)) refl (masks_known right of few)
 
+-- the answer where the limit is passed stands here, as its name has the limit in it
 pub su2_count_states_spec : {M : Type 1} → statement M
+unfolding su2_counted_call number_answer
 su2_count_states_spec =
     tie.close
-    (tie.spec judge-number-requires returns-then-number-ne0 closing_loops-f-requires returns-then-n-gt20 overflow_shl-count returns)
+    (tie.spec judge-number-requires returns-then-number-ne0 closing_loops-f-requires (λ c. refuses _ (limit_refuses (good c.before.before) (loops c.before) (omega arith) _) refl) overflow_shl-count returns)

@@ -50,7 +50,7 @@ loop-i-preserved c =
     let i = at_loop.loop-i.i in
     let added = c.before.before.add_entry in (
       omega arith,
-      added.auto.0 ∙ at_loop.loop-i.invariant.1,
+      added.auto.h ∙ at_loop.loop-i.invariant.1,
       λ f old m.
           let room : n * n ≤ length old = rw (← m.long) start.requires.1 in
           rw (added.ensures, c.before.before.before.mask_energy.ensures)

@@ -40,7 +40,7 @@ loop-i-preserved c =
     let i = at_loop.loop-i.i in
     let added = c.before.before.add_entry in (
       omega arith,
-      added.auto.0 ∙ at_loop.loop-i.invariant.1,
+      added.auto.h ∙ at_loop.loop-i.invariant.1,
       λ f old m.
           let room : n * n ≤ length old = rw (← m.long) start.requires.1 in
           rw added.ensures (passed_more f (λ j. bit_xor j start.args.k) (λ j. start.args.x) n old at_loop.loop-i.h i (at_loop.loop-i.invariant.2 f old m) room (omega arith) (start.requires.2 i (omega arith))),

@@ -84,7 +84,7 @@ loop-t-preserved c =
     let args = (start looping).args in
     let w = weight args.given args.weights.now in (
       omega arith,
-      added.add_flips.auto.0 ∙ at_loop.loop-t.invariant.1,
+      added.add_flips.auto.h ∙ at_loop.loop-t.invariant.1,
       λ complex matrix sides many old m.
           let number : at_loop.loop-t.t < length complex.triangles = rw many (omega arith) in
           let place = placed.triangle_place-place.ensures complex _ matrix.loops (own_sides complex _ sides _ _ number placed.before.sides_at.ensures) in

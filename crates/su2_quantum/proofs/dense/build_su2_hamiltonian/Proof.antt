@@ -108,16 +108,16 @@ write_masks-requires : tie.Need-write_masks-requires
 write_masks-requires c κs =
     let enough = c.before.before.before in
     let small = enough.before.before.before.before in
-    ((loops small).keeps.loops-1.long, few small, (room enough).0)
+    ((loops small).keeps.loops.long, few small, (room enough).0)
 
 write_matrix-requires : tie.Need-write_matrix-requires
 write_matrix-requires c κs =
-    let enough = c.before.before.before.before.before.before.before.before in
+    let enough = c.before.before.before.before.before.before.before in
     let right = enough.before in
     let small = right.before.before.before in (
       record { loops = loops small; few = few small; states = number small; long = rw (number small) (room enough).1 },
       weights_fit _ _ _ _ (weighed right),
-      (_, rw (masks_are _ _ (loops small)) at c.before.before.before.before.write_masks.ensures),
+      (_, rw (masks_are _ _ (loops small)) at c.before.before.before.write_masks.ensures),
     )
 
 shape_of-states : tie.Need-shape_of-states
@@ -129,14 +129,14 @@ shape_of-res c = search rules
 returns : tie.Need-returns
 unfolding su2_dense_call number_answer
 returns c =
-    let enough = c.before.before.before.before.before.before.before.before.before.before.before in
+    let enough = c.before.before.before.before.before.before.before.before.before.before in
     let right = enough.before in
     let small = right.before.before.before in
     let fine = good small.before.before in
     let of = loops small in
     ends _ (past_masks fine of (few small) (past_weights _ _ _ _ (weighed right) (past (rw (states_number _ _ of) (not_short enough)) none)))
     (number small ∙ sym (states_number _ _ of))
-    (both (masks_written fine of _ _ c.before.before.before.before.before.before.before.write_masks.ensures) c.before.before.write_matrix.ensures)
+    (both (masks_written fine of _ _ c.write_masks.ensures) c.write_matrix.ensures)
     (masks_known fine of (few small)).few
 
 pub build_su2_hamiltonian_spec : {M : Type 1} → statement M

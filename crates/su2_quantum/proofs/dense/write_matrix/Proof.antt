@@ -19,12 +19,12 @@ clear_matrix-requires c κs = let start = c.before.before.before.before in (rows
 add_energies-requires : tie.Need-add_energies-requires
 add_energies-requires c κs =
     let start = c.before.before.before.before.before.before.before.before in
-    (rows_few _ _ _ _ start.requires.0, rw c.before.before.before.clear_matrix.auto.0 start.requires.0.long, long start)
+    (rows_few _ _ _ _ start.requires.0, rw c.before.before.before.clear_matrix.auto.h start.requires.0.long, long start)
 
 add_triangles-requires : tie.Need-add_triangles-requires
 add_triangles-requires c κs =
     let start = c.before.before.before.before.before.before.before.before.before.before.before.before in
-    rw (c.before.before.before.add_energies.auto.0, c.before.before.before.before.before.before.before.clear_matrix.auto.0) (start.requires.0, start.requires.1)
+    rw (c.before.before.before.add_energies.auto.h, c.before.before.before.before.before.before.before.clear_matrix.auto.h) (start.requires.0, start.requires.1)
 
 shape_of-h : tie.Need-shape_of-h
 shape_of-h c = search rules

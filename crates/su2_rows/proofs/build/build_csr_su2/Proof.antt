@@ -143,11 +143,11 @@ write_masks-requires : tie.Need-write_masks-requires
 write_masks-requires c κs =
     let enough = c.before.before.before in
     let small = enough.before.before.before.before.before in
-    ((loops small).keeps.loops-1.long, few small, (room enough).0)
+    ((loops small).keeps.loops.long, few small, (room enough).0)
 
 write_lists-requires : tie.Need-write_lists-requires
 write_lists-requires c κs =
-    let masks = c.before.before.before.before.before.before in
+    let masks = c.before.before.before.before.before in
     let enough = masks.before.before.before.before in
     let right = enough.before.before in
     let small = right.before.before.before in (
@@ -180,7 +180,7 @@ returns : tie.Need-returns
 unfolding su2_rows_call number_answer
 returns c =
     let lists = c.before.before.before.before.before.before in
-    let masks = lists.before.before.before.before.before.before.before in
+    let masks = lists.before.before.before.before.before.before in
     let enough = masks.before.before.before.before in
     let right = enough.before.before in
     let small = right.before.before.before in

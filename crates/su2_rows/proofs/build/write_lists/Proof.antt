@@ -24,7 +24,7 @@ write_rows-requires : tie.Need-write_rows-requires
 write_rows-requires c κs =
     let made = c.before.before.before.before.before.before.before in
     let start = made.before.before.before.before.before.before.before.before in
-    rw (← (triangles_long start.args.c)) (rows_fit _ _ _ _ _ _ _ start.requires.0 _ _ _ made.write_tables.ensures _ start.requires.2.0 start.requires.2.1 (omega (arith, made.write_tables.auto.0)) (omega (arith, made.write_tables.auto.1.0)))
+    rw (← (triangles_long start.args.c)) (rows_fit _ _ _ _ _ _ _ start.requires.0 _ _ _ made.write_tables.ensures _ start.requires.2.0 start.requires.2.1 (omega (arith, made.write_tables.auto.places)) (omega (arith, made.write_tables.auto.terms)))
 
 shape_of-starts : tie.Need-shape_of-starts
 shape_of-starts c = search rules

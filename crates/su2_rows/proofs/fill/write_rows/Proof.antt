@@ -1,8 +1,11 @@
 use Prim.Native.Nat.{ℕ, ◌+◌, ◌-◌, ◌^◌, ◌<◌, ◌≤◌}
 use mathlib.Core.List.{List, flat_map}
 use mathlib.Core.Path.{◌≡◌, refl, sym, ◌∙◌}
+use native.Mathlib.Nat.{le_of_lt}
 use native.Mathlib.Omega.{arith}
 use lib.Bits.{bit_xor, xor_lt}
+use Rattle.std.proofs.Common.{Fits, w32}
+use Rattle.std.proofs.Math.Facts.{Fits-below}
 use lib.ListN.{length, length-set, take}
 use Rattle.mathematics.specs.Counting.{below}
 use Rattle.rows.specs.Entries.{pairs}
@@ -56,12 +59,12 @@ slice_bounds-add_row-end-in-loop-i c = search rules
 add_row-at-requires : tie.Need-add_row-at-requires invariant-loop-i decreases-loop-i
 unfolding table_entries
 add_row-at-requires c κs =
-    let at_loop = c.before.before.before.before.before.before.before.before.before.before in
+    let at_loop = c.before.before.before.before.before.before.before.before in
     let inv = at_loop.loop-i.invariant in
     let start = at_loop.before.before.before.before.before.before.before in
     let pre = start.requires in
-    let inside : at_loop.loop-i.i < start.args.n = c.before.before.before.before.before.before.before.before.before.loop-i-test.true in
-    let energy = c.before.before.before.before.before.before.before.mask_energy-diagonal.ensures in
+    let inside : at_loop.loop-i.i < start.args.n = c.before.before.before.before.before.before.before.loop-i-test.true in
+    let energy = c.before.before.before.before.before.mask_energy-diagonal.ensures in
     let differ = rw (← energy) at (pre.fit.differ at_loop.loop-i.i inside) in
     let fits = rw (← energy, ← inv.2, ← inv.3) at (fits_at pre.fit at_loop.loop-i.i at_loop.loop-i.at inside inv.6) in (
       omega (arith, pre.few, inside),
@@ -77,24 +80,25 @@ add_row-at-requires c κs =
 overflow_add-i : tie.Need-overflow_add-i invariant-loop-i decreases-loop-i
 overflow_add-i c =
     let at_loop = c.before.before.before.before.before.before.before.before.before.before.before.before.before.before.before.before.before.before.before.before.before in
-    let few = at_loop.before.before.before.before.before.before.before.requires.few in
-    let inside = c.before.before.before.before.before.before.before.before.before.before.before.before.before.before.before.before.before.before.before.before.loop-i-test.true in
+    let few = at_loop.before.before.before.before.before.requires.few in
+    let inside = c.before.before.before.before.before.before.before.before.before.before.before.before.before.before.before.before.before.before.loop-i-test.true in
     search rules
+
+-- by what the flips go from one row to the next is small
+xor_fits : (x y : ℕ) → x < 2 ^ 21 → y < 2 ^ 21 → Fits w32 (bit_xor x y)
+xor_fits x y a b = Fits-below {n = 2097152} tt (le_of_lt (xor_lt 21 x y a b))
 
 overflow_cast-i : tie.Need-overflow_cast-i invariant-loop-i decreases-loop-i
 overflow_cast-i c =
-    let at_loop = c.before.before.before.before.before.before.before.before.before.before.before.before.before.before.before.before.before.before.before.before.before in
-    let i = at_loop.loop-i.i in
-    let inside : i < 2 ^ 20 = omega (arith, at_loop.before.before.before.before.before.before.before.requires.few, c.before.before.before.before.before.before.before.before.before.before.before.before.before.before.before.before.before.before.before.before.loop-i-test.true) in
-    let low : bit_xor i (i + 1) < 2 ^ 21 = xor_lt 21 i (i + 1) (omega arith) (omega arith) in
-    search rules
+    let inside : c.loop-i.i < 2 ^ 20 = omega (arith, c.requires.few, c.loop-i-test.true) in
+    search (rules, xor_fits)
 
 flip_row-requires : tie.Need-flip_row-requires invariant-loop-i decreases-loop-i
 flip_row-requires c κs =
-    let at_loop = c.before.before.before.before.before.before.before.before.before.before.before.before.before.before.before.before.before.before.before.before.before in
+    let at_loop = c.before.before.before.before.before.before.before.before.before.before.before.before.before.before.before.before.before.before.before in
     let inv = at_loop.loop-i.invariant in
     let pre = at_loop.before.before.before.before.before.before.before.requires in
-    (omega (arith, pre.places_long, inv.8), inv.8 ∙ pre.same_long ∙ sym inv.9, inv.11 c.before.before.before.before.before.before.before.before.before.before.before.before.before.before.before.before.before.before.before.before.loop-i-test.true)
+    (omega (arith, pre.places_long, inv.8), inv.8 ∙ pre.same_long ∙ sym inv.9, inv.11 c.before.before.before.before.before.before.before.before.before.before.before.before.before.before.before.before.before.before.loop-i-test.true)
 
 overflow_step-i : tie.Need-overflow_step-i invariant-loop-i decreases-loop-i
 overflow_step-i c = search rules
@@ -105,24 +109,24 @@ loop-i-smaller c = search rules
 loop-i-preserved : tie.Need-loop-i-preserved invariant-loop-i decreases-loop-i
 unfolding table_entries
 loop-i-preserved c =
-    let at_loop = c.before.before.before.before.before.before.before.before.before.before.before.before.before.before.before.before.before.before.before.before.before.before.before.before.before.before in
+    let at_loop = c.before.before.before.before.before.before.before.before.before.before.before.before.before.before.before.before.before.before.before.before.before.before.before.before in
     let inv = at_loop.loop-i.invariant in
     let start = at_loop.before.before.before.before.before.before.before in
-    let inside : at_loop.loop-i.i < start.args.n = c.before.before.before.before.before.before.before.before.before.before.before.before.before.before.before.before.before.before.before.before.before.before.before.before.before.loop-i-test.true in
+    let inside : at_loop.loop-i.i < start.args.n = c.before.before.before.before.before.before.before.before.before.before.before.before.before.before.before.before.before.before.before.before.before.before.before.loop-i-test.true in
     let added = c.before.before.before.before.before.before.before.before.before.before.before.before.before.before.before.add_row-at in
     let flipped = c.before.before.before.before.flip_row in
-    let row = rw c.before.before.before.before.before.before.before.before.before.before.before.before.before.before.before.before.before.before.before.before.before.before.before.mask_energy-diagonal.ensures at (same_added inv.10 _ _ added.ensures) in (
+    let row = rw c.before.before.before.before.before.before.before.before.before.before.before.before.before.before.before.before.before.before.before.before.before.mask_energy-diagonal.ensures at (same_added inv.10 _ _ added.ensures) in (
       omega (arith, inside),
-      added.auto.1.1.1.1.1.1.1.1.0 ∙ inv.1,
-      added.auto.1.1.1.1.1.1.1.1.1.0 ∙ inv.2,
-      added.auto.1.1.1.1.1.1.1.1.1.1.0 ∙ inv.3,
-      added.auto.0 ∙ inv.4,
-      added.auto.1.0 ∙ inv.5,
+      added.auto.starts ∙ inv.1,
+      added.auto.columns ∙ inv.2,
+      added.auto.values ∙ inv.3,
+      added.auto.row_columns ∙ inv.4,
+      added.auto.row_values ∙ inv.5,
       added_next start.requires.fit at_loop.loop-i.i at_loop.loop-i.at inside inv.6 _ row.is _ _ _ _ _ _ _ row.appended,
       λ old long none.
           added_written start.requires.fit at_loop.loop-i.i at_loop.loop-i.at inside inv.6 _ row.is _ _ _ _ _ _ _ row.appended old start.args.columns.now start.args.values.now (omega (arith, long, length-set start.args.starts.now 0 0, start.requires.starts_fit)) refl refl (inv.7 old long none),
-      flipped.auto.0 ∙ inv.8,
-      flipped.auto.1.0 ∙ inv.9,
+      flipped.auto.flips ∙ inv.8,
+      flipped.auto.terms ∙ inv.9,
       flips_next start.args.places.now start.args.terms.now _ at_loop.loop-i.i (at_loop.loop-i.i + 1) inv.10 flipped.ensures,
       λ more. sorted_differ flipped.ensures,
     )

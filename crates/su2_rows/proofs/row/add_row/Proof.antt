@@ -15,10 +15,10 @@ start c = c.before.before.before.before.before.before.before.before.before.befor
 
 -- the entries that are found: there is room for them, and how many there are
 long : (c : tie.After-collect_row-found) → length c.collect_row-found.new.row_columns ≡ length c.collect_row-found.new.row_values
-long c = c.collect_row-found.auto.0 ∙ (start c).requires.2 ∙ sym c.collect_row-found.auto.1.0
+long c = c.collect_row-found.auto.row_columns ∙ (start c).requires.2 ∙ sym c.collect_row-found.auto.row_values
 
 room : (c : tie.After-collect_row-found) → c.collect_row-found.result ≤ length c.collect_row-found.new.row_columns
-room c = omega (arith, c.collect_row-found.ensures.1, (start c).requires.1, c.collect_row-found.auto.0)
+room c = omega (arith, c.collect_row-found.ensures.1, (start c).requires.1, c.collect_row-found.auto.row_columns)
 
 count : (c : tie.After-collect_row-found) → c.collect_row-found.result ≡ length (diagonal_first (start c).args.i (start c).args.diagonal (take (start c).args.n (pairs (start c).args.flips.now (start c).args.terms.now)))
 count c =
@@ -35,12 +35,12 @@ sort_row-requires c κs =
 
 append_row-requires : tie.Need-append_row-requires
 append_row-requires c κs =
-    let sorted = c.before.before.before.before.before.before.before.before.before.sort_row in
-    let found = c.before.before.before.before.before.before.before.before.before.before.before.before.before.before.before.before in
+    let sorted = c.before.before.before.before.before.before.before.sort_row in
+    let found = c.before.before.before.before.before.before.before.before.before.before.before.before.before.before in
     let pre = (start found).requires in
     let many = count found in (
-      omega (arith, room found, sorted.auto.0),
-      sorted.auto.0 ∙ long found ∙ sym sorted.auto.1.0,
+      omega (arith, room found, sorted.auto.columns),
+      sorted.auto.columns ∙ long found ∙ sym sorted.auto.values,
       pre.5,
       rw many pre.7.columns_fit,
       rw many pre.7.values_fit,
@@ -64,10 +64,10 @@ shape_of-values c = search rules
 
 returns : tie.Need-returns
 returns c =
-    let sorted = c.before.before.before.before.before.before.before.before.before.before.before.before.before.before.before.before.sort_row in
-    let found = c.before.before.before.before.before.before.before.before.before.before.before.before.before.before.before.before.before.before.before.before.before.before.before.collect_row-found in
+    let sorted = c.before.before.before.before.before.before.before.before.before.before.before.before.before.before.sort_row in
+    let found = c.before.before.before.before.before.before.before.before.before.before.before.before.before.before.before.before.before.before.before.before.before.collect_row-found in
     record {
-      row = take found.result (pairs sorted.new.0 sorted.new.1.0);
+      row = take found.result (pairs sorted.new.columns sorted.new.values);
       is = rw found.ensures.0 at sorted.ensures.sorted;
       appended = c.before.before.before.before.before.before.append_row.ensures;
     }

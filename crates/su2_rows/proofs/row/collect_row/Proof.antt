@@ -48,7 +48,7 @@ push_entry-m-requires-in-loop-t c κs =
     let inv = at_loop.loop-t.invariant in
     let kept = at_loop.before.before.before.before.before.push_entry-m.auto in
     let pre = at_loop.before.before.before.before.before.before.before.before.before.before.before.before.before.requires in
-    (omega (arith, inv.1, inv.4, kept.0, pre.1, c.before.before.before.before.loop-t-test.true), inv.1 ∙ kept.0 ∙ pre.2 ∙ sym (inv.2 ∙ kept.1.0))
+    (omega (arith, inv.1, inv.4, kept.columns, pre.1, c.before.before.before.before.loop-t-test.true), inv.1 ∙ kept.columns ∙ pre.2 ∙ sym (inv.2 ∙ kept.values))
 
 overflow_step-t : tie.Need-overflow_step-t invariant-loop-t decreases-loop-t
 overflow_step-t c = search rules
@@ -63,7 +63,7 @@ loop-t-preserved c =
     let added = c.before.before.before.before.push_entry-m-in-loop-t in
     let start = at_loop.before.before.before.before.before.before.before.before.before.before.before.before.before in
     let inside : at_loop.loop-t.t < length start.args.flips.now = omega (arith, start.requires.3, c.before.before.before.before.before.before.before.before.before.loop-t-test.true) in
-    (omega arith, added.auto.0 ∙ inv.1, added.auto.1.0 ∙ inv.2, triangle_pushed _ _ _ _ _ _ _ _ _ start.requires.4 inside inv.3 added.ensures, omega (arith, inv.4, pushed_few added.ensures))
+    (omega arith, added.auto.columns ∙ inv.1, added.auto.values ∙ inv.2, triangle_pushed _ _ _ _ _ _ _ _ _ start.requires.4 inside inv.3 added.ensures, omega (arith, inv.4, pushed_few added.ensures))
 
 shape_of-row_columns : tie.Need-shape_of-row_columns invariant-loop-t decreases-loop-t
 shape_of-row_columns c = search rules

@@ -18,7 +18,7 @@ abbrev entries : tie.Start → List (ℕ × Float)
 entries c = take c.args.n (pairs c.args.flips.now c.args.terms.now)
 
 are_flipped : (c : tie.After-flip_columns) → take (start c).args.n (pairs c.flip_columns.new.flips (start c).args.terms.now) ≡ flipped_entries (start c).args.by (entries (start c))
-are_flipped c = flipped_are _ _ _ _ _ (start c).requires.0 c.flip_columns.auto.0 (start c).requires.1 c.flip_columns.ensures
+are_flipped c = flipped_are _ _ _ _ _ (start c).requires.0 c.flip_columns.auto.flips (start c).requires.1 c.flip_columns.ensures
 
 flip_columns-requires : tie.Need-flip_columns-requires
 flip_columns-requires c κs = search rules
@@ -27,7 +27,7 @@ sort_row-requires : tie.Need-sort_row-requires
 sort_row-requires c κs =
     let flipped = c.before.before.before.before in
     let pre = (start flipped).requires in
-    let long = flipped.flip_columns.auto.0 in
+    let long = flipped.flip_columns.auto.flips in
     (omega (arith, pre.0, long), long ∙ pre.1, rw (are_flipped flipped) (flipped_differ (start flipped).args.by (entries (start flipped)) pre.2))
 
 shape_of-flips : tie.Need-shape_of-flips

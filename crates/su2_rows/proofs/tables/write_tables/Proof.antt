@@ -47,7 +47,7 @@ terms_room : (c : tie.In-loop-t invariant-loop-t decreases-loop-t) → c.before.
 terms_room c = omega (arith, small c, c.before.loop-t.invariant.2, (begun c).requires.4)
 
 sides_at-requires : tie.Need-sides_at-requires invariant-loop-t decreases-loop-t
-sides_at-requires c κs = small c.before
+sides_at-requires c κs = omega (arith, small c.before)
 
 -- its edges
 of : (c : tie.After-sides_at invariant-loop-t decreases-loop-t) → SidesOf (complex_of (begun c.before.before).args.c) c.before.before.before.loop-t.t c.sides_at.result
