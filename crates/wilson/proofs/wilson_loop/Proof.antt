@@ -141,10 +141,10 @@ returns : tie.Need-returns
 unfolding wilson_call expectation_answer
 returns c =
     let listed = c.before.before.before in
-    let enough = listed.before.before in
-    let right = enough in
-    let b = basis (judged (measured right.before.before)) in
-    ends _ (judged_so_far right.before.before (past (shortage right.before ∙ le-ltb _ _ enough.if-states-n.false) none))
+    let enough = c.before.before.before.before.before.before in
+    let right = c.before.before.before.before.before.before.before in
+    let b = basis (judged (measured right)) in
+    ends _ (judged_so_far right (past (shortage right ∙ le-ltb _ _ enough.if-states-n.false) none))
     (c.wilson_sum.ensures _ (basis_listed _ _ _ _ b _ _ _ listed.write_states.ensures _ refl))
     (basis_written _ _ _ _ b _ _ _ listed.write_states.ensures).1 tt
 

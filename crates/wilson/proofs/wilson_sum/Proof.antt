@@ -253,7 +253,7 @@ add_reached-total-requires c κs =
     let over = c.before.before.before in
     let begun = start (outer over.before) in
     let basis = begun.requires.0.basis in
-    let same : over.loop-k.i ≡ (outer over.before).states.i = over.loop-k.invariant.0 in
+    let same : over.before.loop-k.i ≡ (outer over.before).states.i = over.before.loop-k.invariant.0 in
     rw (sub-zero begun.args.s.edges, config_long over) (basis.few, edges_few _ _ _ _ basis, list_long _ _ _ _ basis, begun.requires.0.one_each, omega arith)
 
 overflow_step-i-in-states : tie.Need-overflow_step-i-in-states invariant-loop-k decreases-loop-k invariant-states decreases-states
@@ -264,10 +264,10 @@ states-smaller c = search rules
 
 states-preserved : tie.Need-states-preserved invariant-loop-k decreases-loop-k invariant-states decreases-states
 states-preserved c =
-    let sought_out = c.before in
-    let over = sought_out.before in
-    let at_loop = over in
-    let at_states = outer at_loop.before.before.before in
+    let sought_out = c.before.before in
+    let over = sought_out.before.before in
+    let at_loop = over.before in
+    let at_states = outer at_loop in
     let begun = start at_states in
     let same : at_loop.loop-k.i ≡ at_states.states.i = at_loop.loop-k.invariant.0 in
     let own = begun.requires.0.basis in

@@ -122,12 +122,12 @@ shape_of-res c = search rules
 returns : tie.Need-returns
 unfolding u1_dense_call number_answer
 returns c =
-    let listed = c.before.before.before.before.before.before in
-    let enough = listed.before in
+    let listed = c.before.before.before.before.before in
+    let enough = c.before.before.before.before.before.before.before in
     let judged = passed enough.before in
     let many = counted enough.before in
-    ends _ (past_basis judged.before.before.before.before.prepare_basis-basis.ensures judged.before.before.before.if-number-ne0.false (past_weights _ _ _ _ (right judged) (past (no_room enough ∙ enough.if-states-n.false) none)))
-    many (both (basis_written _ _ _ _ (basis judged) _ _ _ listed.write_states.ensures).1 c.before.before.write_dense.ensures) (basis judged).few
+    ends _ (past_basis c.prepare_basis-basis.ensures c.if-number-ne0.false (past_weights _ _ _ _ (right judged) (past (no_room enough.before ∙ enough.if-states-n.false) none)))
+    many (both (basis_written _ _ _ _ (basis judged) _ _ _ listed.write_states.ensures).1 c.write_dense.ensures) (basis judged).few
 
 pub build_hamiltonian_spec : {M : Type 1} → statement M
 build_hamiltonian_spec =

@@ -142,11 +142,11 @@ returns : tie.Need-returns
 unfolding u1_product_call number_answer
 returns c =
     let listed = c.before.before.before.before.before.before.before in
-    let enough = listed in
-    let fit = enough in
-    let counting = listing fit.before.before.before.before in
-    ends _ (past_basis counting.before.before.before.prepare_basis-basis.ensures counting.before.before.if-number-ne0.false (past_vector _ _ _ _ _ _ (right fit.before.before.before.before) (past (no_room fit.before.before ∙ enough.if-states-n.false) none)))
-    (counted counting) (both (basis_written _ _ _ _ (basis counting) _ _ _ listed.write_states.ensures).1 c.before.before.write_product.ensures) (basis counting).few
+    let enough = c.before.before.before.before.before.before.before.before.before in
+    let fit = c.before.before.before.before.before.before.before.before.before.before.before in
+    let counting = listing fit in
+    ends _ (past_basis c.prepare_basis-basis.ensures c.if-number-ne0.false (past_vector _ _ _ _ _ _ (right fit) (past (no_room fit ∙ enough.if-states-n.false) none)))
+    (counted counting) (both (basis_written _ _ _ _ (basis counting) _ _ _ listed.write_states.ensures).1 c.write_product.ensures) (basis counting).few
 
 pub hamiltonian_matvec_spec : {M : Type 1} → statement M
 hamiltonian_matvec_spec =
