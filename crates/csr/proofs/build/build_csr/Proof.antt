@@ -153,13 +153,13 @@ number c = c.write_states.ensures.count ∙ sym c.before.before.before.before.be
 
 write_lists-requires : tie.Need-write_lists-requires
 write_lists-requires c κs =
-    let listed = c.before.before.before.before.before.before.before in
-    let enough = listed.before.before.before in
-    let seen = enough.before.before in
+    let listed = c.before.before.before.before.before.before in
+    let enough = c.before.before.before.before.before.before.before.before.before in
+    let seen = c.before.before.before.before.before.before.before.before.before.before.before in
     let passed = judged seen in
     let space = room enough in (
       basis_listed _ _ _ _ (basis passed) _ _ _ listed.write_states.ensures _ refl,
-      seen.before.before.all_sides-all.ensures,
+      c.all_sides-all.ensures,
       rw (basis passed).walks.count (can passed).candidates,
       weights_fit _ _ _ _ (right passed),
       omega (arith, number listed, space.1),
@@ -182,13 +182,12 @@ shape_of-values c = search rules
 returns : tie.Need-returns
 unfolding csr_call number_answer
 returns c =
-    let listed = c.before.before.before.before.before.before.before.before.before.before.before.before.before.before in
-    let enough = listed.before.before.before in
-    let seen = enough.before.before in
+    let listed = c.before.before.before.before.before.before.before.before.before.before.before.before.before in
+    let enough = c.before.before.before.before.before.before.before.before.before.before.before.before.before.before.before.before in
+    let seen = c.before.before.before.before.before.before.before.before.before.before.before.before.before.before.before.before.before.before in
     let passed = judged seen in
-    let written = c.before.before.before.before.before.before.write_lists.ensures in
-    ends _ (past_basis passed.before.before.before.before.prepare_basis-basis.ensures passed.before.before.before.if-number-ne0.false (past_weights _ _ _ _ (right passed) (past (no_room seen ∙ enough.if-states-n.false) none)))
-    (told seen) (lists_are (basis_written _ _ _ _ (basis passed) _ _ _ listed.write_states.ensures).1 (number listed ∙ counted seen) written) (record { few = (basis passed).few; once = no_column_twice _ (basis passed).walks.accepted _ })
+    ends _ (past_basis c.prepare_basis-basis.ensures c.if-number-ne0.false (past_weights _ _ _ _ (right passed) (past (no_room seen ∙ enough.if-states-n.false) none)))
+    (told seen) (lists_are (basis_written _ _ _ _ (basis passed) _ _ _ listed.write_states.ensures).1 (number listed ∙ counted seen) c.write_lists.ensures) (record { few = (basis passed).few; once = no_column_twice _ (basis passed).walks.accepted _ })
 
 pub build_csr_spec : {M : Type 1} → statement M
 build_csr_spec =

@@ -39,7 +39,7 @@ abbrev walk : Numbers → Walk
 walk c =
     let a = (start c).args in
     let moves = c.before.before.before.before.write_moves.new in
-    walk_of a.all.now moves.1.1.1.1.1.1.1.1.1.0 moves.1.1.1.1.1.1.1.1.1.1.0 (2 * a.c.n_triangles) a.s.lambda c.write_numbers.new.words a.s.states a.list.now a.s.edges a.p.electric
+    walk_of a.all.now moves.keys moves.terms (2 * a.c.n_triangles) a.s.lambda c.write_numbers.new.words a.s.states a.list.now a.s.edges a.p.electric
 
 is : (c : Numbers) → WalkOf (the_complex c) (start c).args.s.lambda (start c).args.p (weight (start c).args.given (start c).args.weights.now) (start c).args.free.now (walk c)
 is c =

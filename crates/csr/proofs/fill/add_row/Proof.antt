@@ -9,7 +9,7 @@ use Rattle.csr.proofs.fill.add_row.Statement.{statement}
 use Rattle.csr.proofs.fill.add_row.Tie as tie
 
 abbrev start : tie.After-find_row-count → tie.Start
-start c = c.before.before.before.before.before.before.before.before.before.before.before
+start c = c.before.before.before.before.before.before.before.before.before.before
 
 columns_long : (c : tie.After-find_row-count) → length c.find_row-count.new.row_columns ≡ length (start c).args.row_columns.now
 columns_long c = c.find_row-count.auto.row_columns
@@ -28,17 +28,17 @@ find_row-count-requires c κs = search rules
 
 copy_row-requires : tie.Need-copy_row-requires
 copy_row-requires c κs =
-    let found = c.before.before.before.before.before.before.before.before.before.before in
-    (inside found, omega (arith, inside found, same found), (fits found).0, (fits found).1)
+    let found = c.before.before in
+    (inside found.before.before.before.before.before.before, omega (arith, inside found.before.before.before.before.before.before, same found.before.before.before.before.before.before), (fits found.before.before.before.before.before.before).0, (fits found.before.before.before.before.before.before).1)
 
 set_length-requires : tie.Need-set_length-requires
 set_length-requires c κs =
-    let found = c.before.before.before.before.before.before.before.before.before.before.before.before.before.before.before.before in
+    let found = c.before.before.before.before.before.before.before.before.before.before.before.before.before.before in
     let pre = (start found).requires in
     (omega (arith, pre.2, pre.3), pre.8, omega (arith, found.find_row-count.ensures.1, pre.0.moves_few))
 
 overflow_add-result : tie.Need-overflow_add-result
-overflow_add-result c = let h = fits c.before.before.before.before.before.before.before.before.before.before.before.before.before.before.before.before.before.before.before in search rules
+overflow_add-result c = let h = fits c.before.before.before.before.before.before.before.before.before.before.before.before.before.before.before.before.before in search rules
 
 shape_of-words : tie.Need-shape_of-words
 shape_of-words c = search rules
@@ -60,7 +60,7 @@ shape_of-values c = search rules
 
 returns : tie.Need-returns
 returns c =
-    let found = c.before.before.before.before.before.before.before.before.before.before.before.before.before.before.before.before.before.before.before in
+    let found = c.before.before.before.before.before.before.before.before.before.before.before.before.before.before.before.before.before in
     row_done _ _ _ _ _ _ _ _ _ _ _ _ _ _ found.find_row-count.ensures.0 (inside found) (same found) c.before.before.set_length.ensures c.before.before.before.before.before.before.before.before.copy_row.ensures.0 c.before.before.before.before.before.before.before.before.copy_row.ensures.1
 
 pub add_row_spec : {M : Type 1} → statement M

@@ -27,7 +27,7 @@ start c = c.before.before.before.before
 abbrev walk : Loop → Walk
 walk c =
     let a = (start c).args in
-    walk_of a.all.now a.keys.now a.terms.now a.n_moves a.s.lambda a.words-1.now a.s.states a.list.now a.s.edges a.electric
+    walk_of a.all.now a.keys.now a.terms.now a.n_moves a.s.lambda a.words.now a.s.states a.list.now a.s.edges a.electric
 
 abbrev walk_now : Loop → Walk
 walk_now c =
@@ -37,7 +37,7 @@ walk_now c =
 same : (c : Loop) → walk_now c ≡ walk c
 same c =
     let a = (start c).args in
-    walk_same a.all.now a.keys.now a.terms.now a.n_moves a.s.lambda c.loop-i.words a.words-1.now a.s.states a.list.now a.s.edges a.electric c.loop-i.invariant.5.numbers_are
+    walk_same a.all.now a.keys.now a.terms.now a.n_moves a.s.lambda c.loop-i.words a.words.now a.s.states a.list.now a.s.edges a.electric c.loop-i.invariant.5.numbers_are
 
 pointers_right : (c : Loop) → Pointers (start c).args.s.states c.loop-i.pointers
 pointers_right c = pointers_same c.loop-i.invariant.5.pointers_are (walk_pointers (walk c) c.loop-i.i)

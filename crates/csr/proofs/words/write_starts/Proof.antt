@@ -32,7 +32,7 @@ offset_bounds-words-i : tie.Need-offset_bounds-words-i invariant-loop-i decrease
 offset_bounds-words-i c = search rules
 
 bounds-words-i : tie.Need-bounds-words-i invariant-loop-i decreases-loop-i
-bounds-words-i c = inside c
+bounds-words-i c = omega (arith, c.loop-i.invariant.2.long, c.requires.0, c.loop-i-test.true)
 
 offset_bounds-words-i-in-loop-i : tie.Need-offset_bounds-words-i-in-loop-i invariant-loop-i decreases-loop-i
 offset_bounds-words-i-in-loop-i c = search rules
