@@ -3,7 +3,6 @@
 
 ghost use Rattle.std.specs.Prelude.{◌≡◌, true, ℕ, ◌+◌, ◌≤◌, List, OnOk, length};
 ghost use Rattle.std.specs.Io.KnownBytes.{Appends};
-ghost use Rattle.std.specs.Process.{exit_status};
 ghost use Rattle.pages.specs.Pages.{PageReady, Piece};
 ghost use Rattle.pages.specs.Text.{basis_refusal, basis_text};
 ghost use Rattle.basis.specs.Status.{status_digit, status_of, Told};
@@ -14,7 +13,6 @@ use pages::{Filled, fill_begin, fill_more};
 use refusals::refusal_text;
 use std::env::{Env, FillError};
 use std::io::{Error, ErrorKind, Result, Write};
-use std::process::ExitCode;
 use streams::{Input, Output, read_input, write_output};
 
 // How a run came out. The exit status is made of it.
@@ -249,21 +247,15 @@ fn status_digit(status: Status) -> u8
     }
 }
 
-fn exit_code(status: Status) -> ExitCode
-    ensures { exit_status result + 48 ≡ status_digit status }
-{
-    ExitCode::from(status_digit(status) - b'0')
-}
-
-// The exit status is 0, 1, 2 or 3. With `--status 3` as its last words the program writes the digit of its status to descriptor 3 instead, and ends with 0.
-fn main(rt: HostRuntime) -> ExitCode {
+// With `--status 3` as its last words the program writes the digit of its status to descriptor 3. It ends with 0 in any case.
+fn main(rt: HostRuntime) {
     let words = word_count(&rt);
     if 2 < words {
         if is_word(&rt, words - 2, b"--status") & is_word(&rt, words - 1, b"3") {
             let text = [status_digit(run(&rt, words - 2))];
             io::write_all(3, &text);
-            return ExitCode::SUCCESS;
+            return;
         }
     }
-    exit_code(run(&rt, words))
+    run(&rt, words);
 }

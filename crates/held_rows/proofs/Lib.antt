@@ -1,4 +1,3 @@
 pub mod Examples
 pub mod Finished
 pub mod Judging
-pub mod Record
