@@ -8,21 +8,21 @@ use Rattle.mathematics.specs.Integers.{equal}
 use Rattle.mathematics.specs.Counting.{below, keep}
 use Rattle.complex.specs.Complex.{Complex, uncharged}
 use Rattle.gauss_law.specs.Gauss.{flow, gauss}
-use Rattle.law_check.specs.Law.{first_of, lowest_broken, finding}
+use Rattle.law_check.specs.Law.{first_found, lowest_broken, finding}
 
 triangle : Complex
 triangle = record { vertices = 3; edges = (0 ∷ 1 ∷ []) ∷ (0 ∷ 2 ∷ []) ∷ (1 ∷ 2 ∷ []) ∷ []; triangles = []; charges = uncharged }
 
 -- 3 on the edge from 0 to 1 and -2 on that from 1 to 2: the sums are -3, 5 and -2
 breaks_law : finding triangle uncharged (pos 3 ∷ pos 0 ∷ negsuc 1 ∷ []) ≡ record { found = true; vertex = 0; sum = negsuc 2 }
-unfolding triangle finding lowest_broken first_of gauss flow equal below keep
+unfolding triangle finding lowest_broken first_found gauss flow equal below keep
 breaks_law = refl
 
 -- with the charges -3 and 5 at the first two vertices the last is the lowest that is wrong
 breaks_charged : finding triangle (λ v. get_or (negsuc 2 ∷ pos 5 ∷ []) v (pos 0)) (pos 3 ∷ pos 0 ∷ negsuc 1 ∷ []) ≡ record { found = true; vertex = 2; sum = negsuc 1 }
-unfolding triangle finding lowest_broken first_of gauss flow equal below keep
+unfolding triangle finding lowest_broken first_found gauss flow equal below keep
 breaks_charged = refl
 
 keeps_law : (finding triangle uncharged (pos 1 ∷ negsuc 0 ∷ pos 1 ∷ [])).found ≡ false
-unfolding triangle finding lowest_broken first_of gauss flow equal below keep
+unfolding triangle finding lowest_broken first_found gauss flow equal below keep
 keeps_law = refl

@@ -18,12 +18,12 @@ use Rattle.mathematics.proofs.Integers.{equal_true, equal_self}
 use Rattle.complex.specs.Complex.{Complex}
 use Rattle.law_check.specs.declared.Finding.{Finding}
 use Rattle.gauss_law.specs.Gauss.{gauss, lawful}
-use Rattle.law_check.specs.Law.{first_of, lowest_broken, finding, Found, noticed}
+use Rattle.law_check.specs.Law.{first_found, lowest_broken, finding, Found, noticed}
 
 -- ---- one vertex more
 module _ (sum q : ℕ → ℤ) where
-  one_more : (l : List ℕ) (n : ℕ) → first_of sum (l ++ (n ∷ [])) ≡ cond (first_of sum l).found (first_of sum l) (record { found = true; vertex = n; sum = sum n })
-  unfolding first_of
+  one_more : (l : List ℕ) (n : ℕ) → first_found sum (l ++ (n ∷ [])) ≡ cond (first_found sum l).found (first_found sum l) (record { found = true; vertex = n; sum = sum n })
+  unfolding first_found
   one_more [] n = refl
   one_more (v ∷ l) n = refl
 
@@ -35,7 +35,7 @@ module _ (sum q : ℕ → ℤ) where
       wrong v = not (equal (sum v) (q v))
 
       f : Finding
-      f = first_of sum (keep wrong (below n))
+      f = first_found sum (keep wrong (below n))
 
       here : Finding
       here = record { found = true; vertex = n; sum = sum n }
@@ -44,16 +44,16 @@ module _ (sum q : ℕ → ℤ) where
       always true = refl
       always false = refl
 
-      go : (b : Bool) → equal (sum n) (q n) ≡ b → first_of sum (keep wrong (below (n + 1))) ≡ cond (f.found || b) f here
-      go true e = ap (first_of sum) (keep_skip wrong n (rw e)) ∙ always f.found
-      go false e = ap (first_of sum) (keep_next wrong n (rw e)) ∙ one_more (keep wrong (below n)) n ∙ rw (or_false f.found)
+      go : (b : Bool) → equal (sum n) (q n) ≡ b → first_found sum (keep wrong (below (n + 1))) ≡ cond (f.found || b) f here
+      go true e = ap (first_found sum) (keep_skip wrong n (rw e)) ∙ always f.found
+      go false e = ap (first_found sum) (keep_next wrong n (rw e)) ∙ one_more (keep wrong (below n)) n ∙ rw (or_false f.found)
 
   lowest_suc : (n : ℕ) → lowest_broken sum q (suc n) ≡ noticed (lowest_broken sum q n) n (sum n) (q n)
   lowest_suc n = rw (← add-one n) (lowest_next n)
 
   -- nothing is found exactly when every sum is the charge
   pub found_wrong : (n : ℕ) → (lowest_broken sum q n).found ≡ not (every (λ v. equal (sum v) (q v)) n)
-  unfolding every lowest_broken first_of keep below noticed
+  unfolding every lowest_broken first_found keep below noticed
   found_wrong zero = refl
   found_wrong (suc n) = ap (λ f. f.found) (lowest_suc n) ∙ go (lowest_broken sum q n) (every (λ v. equal (sum v) (q v)) n) (equal (sum n) (q n)) (found_wrong n)
     where
@@ -90,14 +90,14 @@ module _ (sum q : ℕ → ℤ) where
           right false z = absurd (false≢true z)
 
   pub lowest_found : (n : ℕ) → (lowest_broken sum q n).found ≡ true → Found sum q n (lowest_broken sum q n)
-  unfolding lowest_broken first_of keep below
+  unfolding lowest_broken first_found keep below
   lowest_found zero h = absurd (false≢true h)
   lowest_found (suc n) h =
       rw (lowest_suc n) (found_next n (lowest_broken sum q n) (found_wrong n) (lowest_found n) (sym (ap (λ f. f.found) (lowest_suc n)) ∙ h))
 
 -- ---- two sums that agree below n
-first_agree : (f g : ℕ → ℤ) {l : List ℕ} → Each (λ v. f v ≡ g v) l → first_of f l ≡ first_of g l
-unfolding first_of
+first_agree : (f g : ℕ → ℤ) {l : List ℕ} → Each (λ v. f v ≡ g v) l → first_found f l ≡ first_found g l
+unfolding first_found
 first_agree f g none = refl
 first_agree f g (also h t) = rw h
 
@@ -105,7 +105,7 @@ pub lowest_agree : (f g q : ℕ → ℤ) (n : ℕ) → ((v : ℕ) → v < n → 
 unfolding lowest_broken
 lowest_agree f g q n h =
     first_agree f g (keep_each (λ v. not (equal (f v) (q v))) (each_to h (below_each n)))
-    ∙ ap (first_of g) (keep_agree (λ v. not (equal (f v) (q v))) (λ v. not (equal (g v) (q v))) n (λ v k. rw (h v k)))
+    ∙ ap (first_found g) (keep_agree (λ v. not (equal (f v) (q v))) (λ v. not (equal (g v) (q v))) n (λ v k. rw (h v k)))
 
 -- ---- the finding of a configuration: nothing is found exactly when it is lawful
 module _ (c : Complex) (q : ℕ → ℤ) (s : List ℤ) where

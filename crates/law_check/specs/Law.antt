@@ -13,13 +13,13 @@ use Rattle.law_check.specs.declared.GaussCheck.TheVariants.{Answer, Refused}
 use Rattle.gauss_law.specs.Gauss.{gauss, lawful}
 
 -- the first of some vertices, with its sum
-unfoldable pub first_of : (ℕ → ℤ) → List ℕ → Finding
-first_of sum [] = record { found = false; vertex = 0; sum = pos 0 }
-first_of sum (v ∷ vs) = record { found = true; vertex = v; sum = sum v }
+unfoldable pub first_found : (ℕ → ℤ) → List ℕ → Finding
+first_found sum [] = record { found = false; vertex = 0; sum = pos 0 }
+first_found sum (v ∷ vs) = record { found = true; vertex = v; sum = sum v }
 
 -- the lowest vertex below n whose sum is not its charge
 unfoldable pub lowest_broken : (ℕ → ℤ) → (ℕ → ℤ) → ℕ → Finding
-lowest_broken sum q n = first_of sum (keep (λ v. not (equal (sum v) (q v))) (below n))
+lowest_broken sum q n = first_found sum (keep (λ v. not (equal (sum v) (q v))) (below n))
 
 -- the lowest vertex at which the law does not hold
 unfoldable pub finding : Complex → (ℕ → ℤ) → List ℤ → Finding

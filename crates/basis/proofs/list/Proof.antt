@@ -11,7 +11,7 @@ use Rattle.basis.proofs.list.Tie as tie
 inside : (c : tie.In-Bytes) → c.in-Bytes.n ≤ length c.before.before.before.before.read_input.new.list
 inside c =
     let read = c.before.before.before.before.read_input in
-    omega (arith, read.auto.1.0, read_inside _ _ read.result c.in-Bytes.is read.ensures)
+    omega (arith, read.auto.list, read_inside _ _ read.result c.in-Bytes.is read.ensures)
 
 slice_bounds-read_input-end : tie.Need-slice_bounds-read_input-end
 slice_bounds-read_input-end c = search rules

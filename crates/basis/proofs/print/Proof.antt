@@ -68,7 +68,7 @@ loop-piece-preserved c =
     let at_loop = c.before.before.before.before.before.before.before.before.before in
     let filled = c.before.before.fill_more-piece in
     let piece = next _ _ filled.result filled.ensures in
-    (filled.auto.0 ∙ at_loop.loop-piece.invariant.0, piece.fits, piece.ready)
+    (filled.auto.out ∙ at_loop.loop-piece.invariant.0, piece.fits, piece.ready)
 
 pub print_spec : {M : Type 1} → statement M
 print_spec =

@@ -14,7 +14,7 @@ inside : (c : tie.After-say-in-Number) → c.in-Number.n ≤ length c.before.bef
 unfolding number_answer
 inside c =
     let told = c.before.before.before.before.before.before.refusal_text in
-    omega (arith, told.auto.1.0, bytes_few _ _ _ _ (rw c.in-Number.is at told.ensures))
+    omega (arith, told.auto.text, bytes_few _ _ _ _ (rw c.in-Number.is at told.ensures))
 
 slice_bounds-say-end-in-Number-2 : tie.Need-slice_bounds-say-end-in-Number-2
 slice_bounds-say-end-in-Number-2 c = search rules

@@ -96,10 +96,10 @@ write_states-requires c κs =
 
 write_sums-requires : tie.Need-write_sums-requires
 write_sums-requires c κs =
-    let listed = c.before.before.before in
-    let enough = listed.before.before in
-    let right = enough.before in
-    ((few right).0, (basis (judged right)).fit.edges, rw listed.write_states.auto.1.1.1.0 (room enough).0, right.before.before.if-amplitudes-n.false, (room enough).1)
+    let listed = c.before.before in
+    let enough = listed in
+    let right = enough in
+    ((few right.before.before.before).0, (basis (judged right.before.before.before)).fit.edges, rw listed.write_states.auto.states (room enough.before.before).0, right.before.if-amplitudes-n.false, (room enough.before.before).1)
 
 shape_of-states : tie.Need-shape_of-states
 shape_of-states c = search rules
@@ -110,12 +110,12 @@ shape_of-res c = search rules
 returns : tie.Need-returns
 unfolding electric_call number_answer
 returns c =
-    let listed = c.before.before.before.before.before.before in
+    let listed = c.before.before.before.before.before in
     let enough = listed.before.before in
     let right = enough.before in
     let long = right.before.before in
-    let judged = long.before.before.before in
-    let b = basis judged in
+    let judged = long.before.before in
+    let b = basis judged.before in
     let work = (basis_written _ _ _ _ b _ _ _ listed.write_states.ensures).1 in
     ends _ (past_basis judged.before.prepare_basis-basis.ensures judged.if-number-ne0.false (past (rw (eq-eqb _ _ (long.if-amplitudes-n.false ∙ counted long.before))) (past (rw (sym right.before.all_bounded.ensures ∙ not-false _ (ap not right.if-not-all_bounded.false))) (past (rooms right ∙ enough.if-states-n.false) none))))
     b.walks.edges

@@ -76,7 +76,7 @@ add_state-requires : tie.Need-add_state-requires invariant-loop-i decreases-loop
 add_state-requires c κs =
     let at_loop = c.before.before.before.before in
     let s = start at_loop in
-    rw (row_part s.args.list.now s.args.m at_loop.loop-i.i, row_long c.before.before.before, at_loop.loop-i.invariant.1, at_loop.before.before.before.clear.auto.0) s.requires.4
+    rw (row_part s.args.list.now s.args.m at_loop.loop-i.i, row_long c.before.before.before, at_loop.loop-i.invariant.1, at_loop.before.before.before.clear.auto.res) s.requires.4
 
 overflow_step-i : tie.Need-overflow_step-i invariant-loop-i decreases-loop-i
 overflow_step-i c = search rules
@@ -91,14 +91,14 @@ loop-i-preserved c =
     let s = start at_loop in
     let part = row_part s.args.list.now s.args.m at_loop.loop-i.i in (
       omega arith,
-      made.add_state.auto.1.1.0 ∙ at_loop.loop-i.invariant.1,
+      made.add_state.auto.res ∙ at_loop.loop-i.invariant.1,
       λ old b.
           begins_same _ _ s.args.m old _ (λ e h. sum_next s.args.amplitudes.now (λ k. get_or (row s.args.m s.args.list.now k) e (pos 0)) at_loop.loop-i.i)
           ((rw (part, row_long made.before.before.before.before) at made.add_state.ensures) _ old (at_loop.loop-i.invariant.2 old b)),
     )
 
 shape_of-res : tie.Need-shape_of-res invariant-loop-i decreases-loop-i
-shape_of-res c = c.before.loop-i.invariant.1 ∙ c.before.before.before.before.clear.auto.0
+shape_of-res c = c.before.loop-i.invariant.1 ∙ c.before.before.before.before.clear.auto.res
 
 returns : tie.Need-returns invariant-loop-i decreases-loop-i
 returns c =

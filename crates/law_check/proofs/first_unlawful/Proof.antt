@@ -6,7 +6,7 @@ use lib.IntN.{pos}
 use lib.ListN.{get_or}
 use Rattle.mathematics.specs.Counting.{below, keep}
 use Rattle.mathematics.proofs.Signed.{back64}
-use Rattle.law_check.specs.Law.{first_of, lowest_broken}
+use Rattle.law_check.specs.Law.{first_found, lowest_broken}
 use Rattle.law_check.proofs.Findings.{lowest_next}
 use Rattle.law_check.proofs.first_unlawful.Statement.{statement}
 use Rattle.law_check.proofs.first_unlawful.Tie as tie
@@ -18,7 +18,7 @@ abbrev decreases-loop-v : tie.decreases-loop-v
 decreases-loop-v sums n_vertices f₀ v₀ f v = n_vertices - v
 
 loop-v-init : tie.Need-loop-v-init invariant-loop-v decreases-loop-v
-unfolding lowest_broken first_of keep below
+unfolding lowest_broken first_found keep below
 loop-v-init c = (omega arith, refl)
 
 offset_bounds-sums-v : tie.Need-offset_bounds-sums-v invariant-loop-v decreases-loop-v

@@ -49,9 +49,9 @@ shape_of-out-in-Refused c = search rules
 returns-in-Refused : tie.Need-returns-in-Refused
 returns-in-Refused c =
     let made = c.before.before.before in
-    let read = made.before.before.before.before.before.read_sheet-read in
+    let read = made.before.before.before.read_sheet-read in
     let refused = made.in-Refused.is in
-    let e : refused_line made.byte.result ≡ basis_text made.before.before.before.before.before.before.before.before.args.bytes.now = ap refused_line made.byte.ensures ∙ refused_told _ read.result read.ensures.is _ refused in
+    let e : refused_line made.byte.result ≡ basis_text made.before.before.before.before.before.before.args.bytes.now = ap refused_line made.byte.ensures ∙ refused_told _ read.result read.ensures.is _ refused in
     let told = c.before.before.fill_refused.ensures in
     record {
       piece = placed _ _ 0 _ (omega arith) (rw (← e) told.fills);

@@ -33,7 +33,7 @@ returns : tie.Need-returns
 returns c =
     let s = c.before.before.before.before.before.before.before.before.before.before.before.before.before.before.before.before in
     let lines = c.before.before.before.before.before.write_lines-lines in
-    let filled = turned s.args.page s.requires.1 _ lines.new.1.1.0 _ lines.result lines.auto.1.1.0 refl lines.ensures in
+    let filled = turned s.args.page s.requires.1 _ lines.new.config _ lines.result lines.auto.config refl lines.ensures in
     λ text place at. placed text _ place _ at.inside (rw at.rest at filled)
 
 pub fill_more_spec : {M : Type 1} → statement M

@@ -33,10 +33,10 @@ returns c =
     let s = c.before.before.before.before.before.before.before.before in
     let w = s.args.w in
     let first = c.before.first_state-cursor in
-    let long = first.auto.0 ∙ ap length (begin_part w) ∙ s.requires.sized in (
-      page_lines w s.args.lambda first.result first.new.0 _ long
-          ∙ first_lines w s.args.lambda s.args.blocks s.requires _ (begin_part w) first.new.0 first.result first.ensures,
-      λ some. page_ready w s.args.lambda first.result first.new.0 _ long s.requires.edges (anew_long first.new.0 w.first w.n_edges long s.requires.edges s.requires.space) first.ensures.standing some,
+    let long = first.auto.config ∙ ap length (begin_part w) ∙ s.requires.sized in (
+      page_lines w s.args.lambda first.result first.new.config _ long
+          ∙ first_lines w s.args.lambda s.args.blocks s.requires _ (begin_part w) first.new.config first.result first.ensures,
+      λ some. page_ready w s.args.lambda first.result first.new.config _ long s.requires.edges (anew_long first.new.config w.first w.n_edges long s.requires.edges s.requires.space) first.ensures.standing some,
     )
 
 pub first_page_spec : {M : Type 1} → statement M

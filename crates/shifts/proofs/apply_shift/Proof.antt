@@ -67,7 +67,7 @@ band_told : (c : tie.After-sum_within) → within (at-start c.before.before.befo
 unfolding raised
 band_told c =
     let start = at-start c.before.before.before in
-    rw (c.sum_within.ensures, back32 (get_or start.args.configuration.now start.args.edge (pos 0)) c.before.sum_within-arg-1.given, back32 start.args.delta start.fits.delta.sfits)
+    rw (c.sum_within.ensures, back32 (get_or start.args.configuration.now start.args.edge (pos 0)) c.before.sum_within-arg-1.given, back32 start.args.delta start.ranges.delta.sfits)
 
 prepare_basis-basis-requires : tie.Need-prepare_basis-basis-requires
 prepare_basis-basis-requires c κs = search rules
@@ -131,7 +131,7 @@ sum-value-requires c κs =
     let start = at-start fits.before.before.before in
     let truncation = (basis fits.before.before.before.before.before.before.before).truncation in
     let small : nat_abs (◌+ℤ◌ (get_or start.args.configuration.now start.args.edge (pos 0)) start.args.delta) ≤ start.args.lambda = leb-true _ _ (band_told fits ∙ not-false _ (ap not c.before.if-not-sum_within.false)) in
-    rw (back32 (get_or start.args.configuration.now start.args.edge (pos 0)) c.sum-arg-1.given, back32 start.args.delta start.fits.delta.sfits) (omega (arith, small, truncation))
+    rw (back32 (get_or start.args.configuration.now start.args.edge (pos 0)) c.sum-arg-1.given, back32 start.args.delta start.ranges.delta.sfits) (omega (arith, small, truncation))
 
 shifted_row-shifted-requires : tie.Need-shifted_row-shifted-requires
 shifted_row-shifted-requires c κs =
@@ -147,16 +147,16 @@ value : (c : tie.After-sum-value) → to_z w32 (of_z w32 c.sum-value.result) ≡
 unfolding raised
 value c =
     let start = at-start c.before.before.before.before.before.before in
-    back32 c.sum-value.result c.sum-value.type_inv ∙ c.sum-value.ensures ∙ rw (back32 (get_or start.args.configuration.now start.args.edge (pos 0)) c.before.sum-arg-1.given, back32 start.args.delta start.fits.delta.sfits)
+    back32 c.sum-value.result c.sum-value.type_inv ∙ c.sum-value.ensures ∙ rw (back32 (get_or start.args.configuration.now start.args.edge (pos 0)) c.before.sum-arg-1.given, back32 start.args.delta start.ranges.delta.sfits)
 
 -- the front of the row is the shifted configuration
-row : (c : tie.After-shifted_row-shifted) → take ((row_start c).args.c.n_edges - 0) c.Shifted-row.result ≡ shifted (row_start c).args.configuration.now (row_start c).args.edge (row_start c).args.delta
+row : (c : tie.After-shifted_row-shifted) → take ((row_start c).args.c.n_edges - 0) c.shifted_row-shifted.result ≡ shifted (row_start c).args.configuration.now (row_start c).args.edge (row_start c).args.delta
 unfolding shifted
 row c =
     let start = row_start c in
     let s = start.args.configuration.now in
     let long = c.before.before.before.before.before.before.before.before.before.before in
-    rw (c.Shifted-row.ensures, value c.before) (row_front s start.args.edge (raised s start.args.edge start.args.delta) _ start.args.c.n_edges long.if-configuration-m.false)
+    rw (c.shifted_row-shifted.ensures, value c.before) (row_front s start.args.edge (raised s start.args.edge start.args.delta) _ start.args.c.n_edges long.if-configuration-m.false)
 
 slice_bounds-in_basis-count : tie.Need-slice_bounds-in_basis-count
 slice_bounds-in_basis-count c = search rules
@@ -166,13 +166,13 @@ slice_bounds-in_basis-start c = search rules
 
 slice_bounds-in_basis-end : tie.Need-slice_bounds-in_basis-end
 slice_bounds-in_basis-end c =
-    let few = edges_few c.before.before.before.before.before.before.before.before.before.before.before.before in
-    let long = c.before.Shifted-row.ensures in
+    let few = edges_few c.before.before.before.before.before.before.before.before.before.before.before in
+    let long = c.shifted_row-shifted.ensures in
     search rules
 
 in_basis-requires : tie.Need-in_basis-requires
 in_basis-requires c κs =
-    let made = c.before.before in
+    let made = c.before in
     let long = made.before.before.before.before.before.before.before.before.before.before in
     let start = row_start made in
     ((accepted _).1 (basis long.before).walks.accepted, (basis long.before).truncation, rw (row made) (shifted_length start.args.configuration.now start.args.edge start.args.delta ∙ long.if-configuration-m.false))
@@ -180,19 +180,19 @@ in_basis-requires c κs =
 returns-then-not-in_basis : tie.Need-returns-then-not-in_basis
 unfolding shift_call
 returns-then-not-in_basis c =
-    let made = c.before.before.before.before in
-    let band = made.before.before.before in
-    let enough = band.before.before.before in
-    let edge_is = enough.before.before.before in
+    let made = c.before.before.before in
+    let band = c.before.before.before.before.before.before in
+    let enough = c.before.before.before.before.before.before.before.before.before in
+    let edge_is = c.before.before.before.before.before.before.before.before.before.before.before.before in
     let long = edge_is.before in
     unlisted _ (past_basis long.before.before.prepare_basis-basis.ensures long.before.if-number-ne0.false (past (rw (eq-eqb _ _ (sized long))) (past (lt-leb _ _ (edge edge_is)) (past (room enough) (past (rw (band_told band.before ∙ not-false _ (ap not band.if-not-sum_within.false)))
     (here (rw (ap (in_basis _ _) (sym (row made)) ∙ sym c.before.in_basis.ensures ∙ not-true _ (ap not c.if-not-in_basis.true)))))))))
 
 write_shifted-requires : tie.Need-write_shifted-requires
 write_shifted-requires c κs =
-    let enough = c.before.before.before.before.before.before.before.before.before.before.before in
-    let edge_is = enough.before.before.before in
-    (rw (sized edge_is.before) (edge edge_is), rw (sized edge_is.before) (enough_room enough).1)
+    let enough = c.before.before.before.before.before.before.before.before.before.before in
+    let edge_is = enough.before.before in
+    (rw (sized edge_is.before.before) (edge edge_is.before), rw (sized edge_is.before.before) (enough_room enough).1)
 
 slice_bounds-list_and_find-count : tie.Need-slice_bounds-list_and_find-count
 slice_bounds-list_and_find-count c = search rules
@@ -202,14 +202,14 @@ slice_bounds-list_and_find-start c = search rules
 
 slice_bounds-list_and_find-end : tie.Need-slice_bounds-list_and_find-end
 slice_bounds-list_and_find-end c =
-    let few = edges_few c.before.before.before.before.before.before.before.before.before.before.before.before.before.before.before.before.before.before.before in
-    let long = c.before.before.before.before.before.before.before.before.Shifted-row.ensures in
+    let few = edges_few c.before.before.before.before.before.before.before.before.before.before.before.before.before.before.before.before.before in
+    let long = c.before.before.before.before.before.before.shifted_row-shifted.ensures in
     search rules
 
 list_and_find-requires : tie.Need-list_and_find-requires
 list_and_find-requires c κs =
-    let shown = c.before.before.before.before.before.before in
-    let made = shown.before.before.before.before in
+    let shown = c.before.before.before.before.before in
+    let made = shown.before.before.before in
     let enough = made.before.before.before.before.before.before in
     let long = enough.before.before.before.before in
     let start = row_start made in
@@ -217,7 +217,7 @@ list_and_find-requires c κs =
       complex = complex_of start.args.c;
       basis = basis long.before;
       sized = rw (row made) (shifted_length start.args.configuration.now start.args.edge start.args.delta ∙ sized long);
-      listed = sym shown.before.in_basis.ensures ∙ not-false _ (ap not shown.if-not-in_basis.false);
+      listed = sym shown.in_basis.ensures ∙ not-false _ (ap not shown.if-not-in_basis.false);
       long = (enough_room enough).0;
     }
 
@@ -230,8 +230,8 @@ shape_of-res c = search rules
 returns : tie.Need-returns
 unfolding shifted shift_call
 returns c =
-    let shown = c.before.before.before.before.before.before.before.before in
-    let made = shown.before.before.before.before in
+    let shown = c.before.before.before.before.before.before.before in
+    let made = shown.before.before.before in
     let band = made.before.before.before in
     let enough = band.before.before.before in
     let edge_is = enough.before.before.before in
@@ -239,10 +239,10 @@ returns c =
     let start = row_start made in
     let found = rw (row made) at (c.before.list_and_find.ensures _ (basis long.before)) in
     let sized_too = shifted_length start.args.configuration.now start.args.edge start.args.delta ∙ sized long in
-    let listed = ap (in_basis _ _) (sym (row made)) ∙ sym shown.before.in_basis.ensures ∙ not-false _ (ap not shown.if-not-in_basis.false) in
+    let listed = ap (in_basis _ _) (sym (row made)) ∙ sym shown.in_basis.ensures ∙ not-false _ (ap not shown.if-not-in_basis.false) in
     indexed _ (past_basis long.before.before.prepare_basis-basis.ensures long.before.if-number-ne0.false (past (rw (eq-eqb _ _ (sized long))) (past (lt-leb _ _ (edge edge_is)) (past (room enough) (past (rw (band_told band.before ∙ not-false _ (ap not band.if-not-sum_within.false))) (past (rw listed) none))))))
     (found.found (sized_too, listed))
-    (both found.list (shifted_front start.args.configuration.now start.args.edge start.args.delta start.args.res.now _ (c.before.before.before.before.before.before.write_shifted.ensures ∙ rw (value made.before))))
+    (both found.list (shifted_front start.args.configuration.now start.args.edge start.args.delta start.args.res.now _ (c.before.before.before.before.before.write_shifted.ensures ∙ rw (value made.before))))
     (record { found = in_basis_at _ (basis long.before).walks.accepted _ _ sized_too listed; few = (basis long.before).few })
 
 pub apply_shift_spec : {M : Type 1} → statement M

@@ -12,10 +12,10 @@ abbrev start : tie.After-find_row-count → tie.Start
 start c = c.before.before.before.before.before.before.before.before.before.before.before
 
 columns_long : (c : tie.After-find_row-count) → length c.find_row-count.new.row_columns ≡ length (start c).args.row_columns.now
-columns_long c = c.find_row-count.auto.1.1.1.1.1.1.1.1.1.1.0
+columns_long c = c.find_row-count.auto.row_columns
 
 same : (c : tie.After-find_row-count) → length c.find_row-count.new.row_columns ≡ length c.find_row-count.new.row_values
-same c = columns_long c ∙ (start c).requires.6 ∙ sym c.find_row-count.auto.1.1.1.1.1.1.1.1.1.1.1.0
+same c = columns_long c ∙ (start c).requires.6 ∙ sym c.find_row-count.auto.row_values
 
 inside : (c : tie.After-find_row-count) → c.find_row-count.result ≤ length c.find_row-count.new.row_columns
 inside c = omega (arith, c.find_row-count.ensures.1, columns_long c, (start c).requires.5)

@@ -88,10 +88,10 @@ loop-i-preserved c =
     let inside : at_loop.loop-i.i < s.args.s.states = c.before.before.before.before.before.before.before.before.before.before.before.before.before.before.before.before.loop-i-test.true in
     let added = c.before.before.before.before.before.before.before.before.before.add_row-at in (
       omega arith,
-      added.auto.1.1.1.1.1.1.1.1.1.1.1.1.1.0 ∙ inv.1,
-      added.auto.1.1.1.1.1.1.1.1.1.1.1.1.1.1.0 ∙ inv.2,
-      added.auto.1.1.1.1.1.1.1.1.1.1.0 ∙ inv.3,
-      added.auto.1.1.1.1.1.1.1.1.1.1.1.0 ∙ inv.4,
+      added.auto.columns ∙ inv.1,
+      added.auto.values ∙ inv.2,
+      added.auto.row_columns ∙ inv.3,
+      added.auto.row_values ∙ inv.4,
       walk_step _ _ _ _ s.requires.1 _ _ _ _ _ _ inv.5 inside _ _ _ _ _ (done_same (same at_loop) added.ensures),
     )
 

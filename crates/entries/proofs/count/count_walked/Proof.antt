@@ -38,7 +38,7 @@ abbrev whole : Loop → List (List ℤ)
 whole c =
     let s = (start c).args in
     let first = c.before.before.first_state-here in
-    states_from s.free.now s.cycles.now s.lambda s.n_free first.new.0 first.result
+    states_from s.free.now s.cycles.now s.lambda s.n_free first.new.config first.result
 
 abbrev listed : Loop → List (List ℤ)
 listed c =
@@ -76,11 +76,11 @@ loop-here-init c =
     let first = c.before.first_state-here in
     let few = s.requires.0.cycles_fit.edges_few in
     let inside : length a.config-1.now - 0 ≤ 63 = omega arith in
-    let all = states_from a.free.now a.cycles.now a.lambda a.n_free first.new.0 first.result in (
+    let all = states_from a.free.now a.cycles.now a.lambda a.n_free first.new.config first.result in (
       refl,
-      length-take-le _ _ inside ∙ sub-zero (length a.config-1.now) ∙ sym first.auto.0,
+      length-take-le _ _ inside ∙ sub-zero (length a.config-1.now) ∙ sym first.auto.config,
       first.ensures.standing,
-      at_first a.free.now a.cycles.now a.lambda a.n_free _ first.new.0 first.result refl first.ensures.numbered,
+      at_first a.free.now a.cycles.now a.lambda a.n_free _ first.new.config first.result refl first.ensures.numbered,
       over_none _ ∙ ap (λ k. over_states (row_entries a.lambda a.all.now a.n) (take k all)) (sym first.ensures.numbered),
       omega arith,
     )
@@ -153,8 +153,8 @@ loop-here-preserved c =
     let a = (start at_loop).args in
     let f = row_entries a.lambda a.all.now a.n in
     let number = at_loop.loop-here.here.number in (
-      next.auto.1.0 ∙ at_loop.loop-here.invariant.0,
-      filled.fill_row.auto.0 ∙ at_loop.loop-here.invariant.1,
+      next.auto.config ∙ at_loop.loop-here.invariant.0,
+      filled.fill_row.auto.row ∙ at_loop.loop-here.invariant.1,
       next.ensures.standing,
       next.ensures.at _ at_loop.loop-here.invariant.3,
       ap₂ (λ a b. a + b) at_loop.loop-here.invariant.4 (counted.ensures.0 ∙ ap f (row_here filled)) ∙ sym (over_next f (whole at_loop) number (here_is at_loop (more filled)).0)

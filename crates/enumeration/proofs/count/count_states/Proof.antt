@@ -21,13 +21,13 @@ unfolding counted_call number_answer
 returns-then-number-ne0 c = refuses _ (basis_refuses c.before.prepare_basis-basis.ensures c.if-number-ne0.true _) (ne_eqb _ 0 c.if-number-ne0.true)
 
 count_states-requires : tie.Need-count_states-requires
-count_states-requires c κs = (basis c).fit
+count_states-requires c κs = (basis c.before).fit
 
 returns : tie.Need-returns
 unfolding counted_call number_answer
 returns c =
     let judged = c.before in
-    ends (counted_call _ _) (past_basis judged.before.prepare_basis-basis.ensures judged.if-number-ne0.false none) (c.count_states.ensures ∙ ap length (basis judged).listed) refl (basis_known _ _ _ _ (basis judged))
+    ends (counted_call _ _) (past_basis judged.before.prepare_basis-basis.ensures judged.if-number-ne0.false none) (c.count_states.ensures ∙ ap length (basis judged.before).listed) refl (basis_known _ _ _ _ (basis judged.before))
 
 pub count_states_spec : {M : Type 1} → statement M
 count_states_spec =

@@ -43,7 +43,7 @@ loop-i-preserved c =
     let s = at_loop.before.before in
     let i = at_loop.loop-i.i in (
       omega arith,
-      made.add_entry.auto.0 ∙ at_loop.loop-i.invariant.1,
+      made.add_entry.auto.h ∙ at_loop.loop-i.invariant.1,
       λ f old m.
           rw (made.add_entry.ensures, given.row_energy.ensures)
           (passed_more f (λ i. i) (electric_term s.args.factor s.args.m s.args.list.now) s.args.n old at_loop.loop-i.h i (at_loop.loop-i.invariant.2 f old m) (rw (← m.long) s.requires.1) (omega arith) (omega arith)),

@@ -74,7 +74,7 @@ loop-t-preserved c =
     let s = start looping in
     let value = sided.before.before.dense_plaquette_term-x.ensures ∙ ap (dense_plaquette_term s.args.p) sided.before.before.before.weight_of.ensures in (
       omega arith,
-      made.add_plaquette.auto.1.1.1.1.0 ∙ at_loop.loop-t.invariant.1,
+      made.add_plaquette.auto.h ∙ at_loop.loop-t.invariant.1,
       λ complex free basis sides many old m.
           made.add_plaquette.ensures complex _ free basis (own_sides complex _ sides _ _ (rw many (omega arith)) sided.sides_at.ensures) s.args.p (weight s.args.given s.args.weights.now) value old (at_loop.loop-t.invariant.2 complex free basis sides many old m),
     )

@@ -13,14 +13,14 @@ add_electric-requires : tie.Need-add_electric-requires
 add_electric-requires c κs =
     let cleared = c.before.before.before in
     let pre = cleared.before.before.before.before.requires in
-    (small_rows _ _ _ _ pre.1, rw cleared.clear_matrix.auto.0 pre.3)
+    (small_rows _ _ _ _ pre.1, rw cleared.clear_matrix.auto.h pre.3)
 
 add_magnetic-requires : tie.Need-add_magnetic-requires
 add_magnetic-requires c κs =
     let charged = c.before.before.before in
     let cleared = charged.before.before.before.before in
     let pre = cleared.before.before.before.before.requires in
-    (pre.0, pre.1, pre.2, rw (charged.add_electric.auto.1.1.1.1.0, cleared.clear_matrix.auto.0) pre.3)
+    (pre.0, pre.1, pre.2, rw (charged.add_electric.auto.h, cleared.clear_matrix.auto.h) pre.3)
 
 shape_of-h : tie.Need-shape_of-h
 shape_of-h c = search rules

@@ -42,7 +42,7 @@ loop-i-preserved c =
     let s = at_loop.before.before in (
       omega arith,
       hit_below _ _ _ _ _ _ _ _ made.add_hit-from.ensures at_loop.loop-i.invariant.1,
-      made.add_hit-from.auto.0 ∙ at_loop.loop-i.invariant.2,
+      made.add_hit-from.auto.h ∙ at_loop.loop-i.invariant.2,
       λ complex t free basis of.
           way_on complex _ _ free basis t _ of _ _ at_loop.loop-i.i (omega arith) at_loop.loop-i.from _ (at_loop.loop-i.invariant.3 complex t free basis of) _ made.before.before.find_pair-j.ensures s.requires.1 _ _ made.add_hit-from.ensures,
     )

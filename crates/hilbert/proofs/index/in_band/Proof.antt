@@ -44,7 +44,7 @@ loop-e-preserved c =
     let at_loop = c.before.before.before in
     let s = at_loop.before.args in
     let e = at_loop.loop-e.e in
-    let v : c.within-so_far.result ≡ within s.lambda (get_or s.configuration.now e (pos 0)) = c.within-so_far.ensures ∙ rw (back32 _ c.before.Within-arg.given) in
+    let v : c.within-so_far.result ≡ within s.lambda (get_or s.configuration.now e (pos 0)) = c.within-so_far.ensures ∙ rw (back32 _ c.before.within-arg-1.given) in
     (omega arith, refl, rw (take_next s.configuration.now e (pos 0) (omega arith), all_last, ← at_loop.loop-e.invariant.2, v))
 
 returns : tie.Need-returns invariant-loop-e decreases-loop-e

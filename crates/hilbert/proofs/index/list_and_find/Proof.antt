@@ -10,14 +10,14 @@ write_states-n-requires c κs =
 
 find_place-requires : tie.Need-find_place-requires
 find_place-requires c κs =
-    let start = c.before.before.before.before.before.before in
-    rows _ _ _ _ _ start.requires _ _ c.before.before.before.write_states-n.auto.1.1.1.0 c.before.before.before.write_states-n.ensures
+    let start = c.before.before.before.before.before in
+    rows _ _ _ _ _ start.requires _ _ c.before.before.write_states-n.auto.states c.before.before.write_states-n.ensures
 
 shape_of-states : tie.Need-shape_of-states
 shape_of-states c = search rules
 
 returns : tie.Need-returns
-returns c = found_in _ _ _ _ _ _ _ _ c.before.before.before.before.write_states-n.ensures c.find_place.ensures
+returns c = found_in _ _ _ _ _ _ _ _ c.before.before.before.write_states-n.ensures c.find_place.ensures
 
 pub list_and_find_spec : {M : Type 1} → statement M
 list_and_find_spec =

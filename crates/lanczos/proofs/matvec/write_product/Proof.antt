@@ -15,7 +15,7 @@ add_magnetic-requires : tie.Need-add_magnetic-requires
 add_magnetic-requires c κs =
     let charged = c.before.before.before in
     let pre = charged.before.before.before.before.before.requires in
-    (pre.0, pre.1, pre.2, pre.3, rw charged.write_electric.auto.1.1.1.1.1.0 pre.4, pre.5)
+    (pre.0, pre.1, pre.2, pre.3, rw charged.write_electric.auto.res pre.4, pre.5)
 
 shape_of-res : tie.Need-shape_of-res
 shape_of-res c = search rules

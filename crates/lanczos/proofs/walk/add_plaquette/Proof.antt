@@ -57,7 +57,7 @@ loop-i-preserved c =
     let h = bounds found in (
       h.0,
       h.1,
-      made.add_run.auto.0 ∙ at_loop.loop-i.invariant.2,
+      made.add_run.auto.res ∙ at_loop.loop-i.invariant.2,
       λ complex t free basis of first.
           rw made.add_run.ensures
           (way_next complex _ _ free basis t _ of _ _ _ first s.requires.0.covers _ _ _ at_loop.loop-i.i at_loop.loop-i.j _ _ found.find_run-r.ensures (at_loop.loop-i.invariant.3 complex t free basis of first)),

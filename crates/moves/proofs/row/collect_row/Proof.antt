@@ -119,8 +119,8 @@ loop-k-preserved c =
     let taken = taken_is c.before.before.before.before.before.before.before.before.before.before.before.before in
     let as_told = rw made.change_in.ensures.0 at pushed.ensures in (
       omega arith,
-      pushed.auto.1.1.1.1.1.1.1.0 ∙ at_loop.loop-k.invariant.1,
-      pushed.auto.1.1.1.1.1.1.1.1.0 ∙ at_loop.loop-k.invariant.2,
+      pushed.auto.row_columns ∙ at_loop.loop-k.invariant.1,
+      pushed.auto.row_values ∙ at_loop.loop-k.invariant.2,
       move_collected (tables_of at_loop) _ _ _ _ _ _ _ _ _ _ _ _ _ _ _ _ taken at_loop.loop-k.invariant.5 as_told at_loop.loop-k.invariant.3,
       omega (arith, pushed.ensures.room, at_loop.loop-k.invariant.4),
       move_pointed (tables_of at_loop) _ _ _ _ _ _ s.args.i s.args.diagonal _ _ _ _ _ _ _ _ taken at_loop.loop-k.invariant.5 as_told,

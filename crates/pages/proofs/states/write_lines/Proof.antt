@@ -77,7 +77,7 @@ slice_bounds-fill_row-end c = search rules
 
 fill_row-requires : tie.Need-fill_row-requires invariant-loop-here decreases-loop-here
 fill_row-requires c κs =
-    let at_loop = c.before.before.before.before.before.before in
+    let at_loop = c.before.before.before.before.before in
     let s = (start at_loop).args in
     let standing = at_loop.loop-here.invariant.4 in
     let few = standing.few in
@@ -90,7 +90,7 @@ abbrev Row : Type 0
 Row = tie.After-fill_row invariant-loop-here decreases-loop-here
 
 abbrev loop_of : Row → Loop
-loop_of c = c.before.before.before.before.before.before.before
+loop_of c = c.before.before.before.before.before.before
 
 more : (c : Row) → 0 < (loop_of c).loop-here.here.left
 more c = omega arith
@@ -109,26 +109,26 @@ room c =
     omega (arith, ap (λ r. length (state_line at_loop.loop-here.here.number r)) (row_here c))
 
 write_state_line-len-requires : tie.Need-write_state_line-len-requires invariant-loop-here decreases-loop-here
-write_state_line-len-requires c κs = room c.before.before.before
+write_state_line-len-requires c κs = room c.before.before
 
 next_state-here-requires : tie.Need-next_state-here-requires invariant-loop-here decreases-loop-here
 next_state-here-requires c κs =
-    let at_loop = c.before.before.before.before.before.before.before.before.before.before.before.before.before.before in
-    (at_loop.loop-here.invariant.4, more c.before.before.before.before.before.before.before)
+    let at_loop = c.before.before.before.before.before.before.before.before.before.before.before.before in
+    (at_loop.loop-here.invariant.4, more c.before.before.before.before.before.before)
 
 loop-here-smaller : tie.Need-loop-here-smaller invariant-loop-here decreases-loop-here
 loop-here-smaller c = omega (arith, ap length c.before.next_state-here.ensures.states)
 
 loop-here-preserved : tie.Need-loop-here-preserved invariant-loop-here decreases-loop-here
 loop-here-preserved c =
-    let filled = c.before.before.before.before.before.before.before.before.before in
+    let filled = c.before.before.before.before.before.before.before.before in
     let at_loop = loop_of filled in
     let written = c.before.before.before.before.before.write_state_line-len in
     let next = c.before.next_state-here in
     let number = at_loop.loop-here.here.number in (
-      written.auto.0 ∙ at_loop.loop-here.invariant.0,
-      next.auto.1.0 ∙ at_loop.loop-here.invariant.1,
-      filled.fill_row.auto.0 ∙ at_loop.loop-here.invariant.2,
+      written.auto.out ∙ at_loop.loop-here.invariant.0,
+      next.auto.config ∙ at_loop.loop-here.invariant.1,
+      filled.fill_row.auto.row ∙ at_loop.loop-here.invariant.2,
       ends_inside (state_line number filled.fill_row.new.row) _ _ _ _ (room filled) written.ensures,
       next.ensures.standing,
       line_more _ _ _ _ _ number _ _ filled.fill_row.new.row _ _ (room filled) at_loop.loop-here.invariant.5 next.ensures.states (row_here filled) next.ensures.numbered written.ensures,

@@ -52,7 +52,7 @@ returns c =
     let first = second.before.before in
     let s = first.before.before in
     rw (
-      first.Value-stays.ensures,
+      first.value_stays.ensures,
       second.value_stays-2.ensures,
       c.value_stays-3.ensures,
       back32 (get_or s.args.state.now s.args.sides.first (pos 0)) first.before.value_stays-arg-1.given,

@@ -39,13 +39,13 @@ loop-e-smaller c = omega arith
 
 loop-e-preserved : tie.Need-loop-e-preserved invariant-loop-e decreases-loop-e
 loop-e-preserved c =
-    let at-loop = c.before.before in
-    let s = at-loop.before.args.state.now in
-    let e = at-loop.loop-e.e in (
+    let at_loop = c.before.before in
+    let s = at_loop.before.args.state.now in
+    let e = at_loop.loop-e.e in (
       omega arith,
       refl,
-      simp length-set at-loop.loop-e.invariant.2,
-      rw (back32 _ c.row-1.given, add-one e) (take-suc-set at-loop.loop-e.row e (get_or s e (pos 0)) (omega (arith, at-loop.loop-e.invariant.2, at-loop.before.requires.1)) ∙ rw at-loop.loop-e.invariant.3 (sym (take-suc s e (pos 0) (omega arith)))),
+      simp length-set at_loop.loop-e.invariant.2,
+      rw (back32 _ c.row-1.given, add-one e) (take-suc-set at_loop.loop-e.row e (get_or s e (pos 0)) (omega (arith, at_loop.loop-e.invariant.2, at_loop.before.requires.1)) ∙ rw at_loop.loop-e.invariant.3 (sym (take-suc s e (pos 0) (omega arith)))),
     )
 
 returns : tie.Need-returns invariant-loop-e decreases-loop-e
@@ -54,7 +54,7 @@ returns c =
     let past : c.before.loop-e.e ≡ length s = omega arith in
     (c.before.loop-e.invariant.2, (rw past at c.before.loop-e.invariant.3) ∙ take-length s)
 
-pub copy-state-spec : {M : Type 1} → statement M
-copy-state-spec =
+pub copy_state_spec : {M : Type 1} → statement M
+copy_state_spec =
     tie.close
     (tie.spec invariant-loop-e decreases-loop-e loop-e-init offset_bounds-state-e bounds-state-e offset_bounds-row-e bounds-row-e overflow_step-e loop-e-smaller loop-e-preserved returns)

@@ -159,8 +159,8 @@ slice_bounds-list_and_find-start c = search rules
 
 slice_bounds-list_and_find-end : tie.Need-slice_bounds-list_and_find-end
 slice_bounds-list_and_find-end c =
-    let made = c.before.before.before.before in
-    let few = edges_few (judged made.before.before.before.before.before) in
+    let made = c.before.before.before in
+    let few = edges_few (judged c.before.before.before.before.before.before.before.before) in
     let long : length made.shift_row.new.row ≡ 63 = rw made.shift_row.ensures (moved_row_long _ _ (shiftable made.before.before) (pos 1)) in
     search rules
 
@@ -170,9 +170,9 @@ part c = ap (λ n. take n c.shift_row.new.row) (sub-zero (row_start c).args.c.n_
 
 list_and_find-requires : tie.Need-list_and_find-requires
 list_and_find-requires c κs =
-    let shown = c.before.before.before in
-    let made = shown.before.before.before in
-    let enough = made.before.before.before.before in
+    let shown = c.before.before in
+    let made = c.before.before.before.before.before in
+    let enough = c.before.before.before.before.before.before.before.before.before in
     let here = enough.before in
     let start = row_start made in
     let b = basis (judged here) in
@@ -186,9 +186,9 @@ shape_of-states c = search rules
 returns : tie.Need-returns
 unfolding triangle_call number_answer
 returns c =
-    let shown = c.before.before.before.before.before in
-    let made = shown.before.before.before in
-    let enough = made.before.before.before.before in
+    let shown = c.before.before.before.before in
+    let made = c.before.before.before.before.before.before.before in
+    let enough = c.before.before.before.before.before.before.before.before.before.before.before in
     let found = enough.before in
     let b = basis (judged found) in
     let band = band_told shown.before ∙ not-false _ (ap not shown.if-not-three_within.false) in

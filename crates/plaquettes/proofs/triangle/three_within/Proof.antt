@@ -40,7 +40,7 @@ returns c =
       first.within.ensures,
       second.within-2.ensures,
       c.within-3.ensures,
-      back32 _ first.before.Within-arg.given,
+      back32 _ first.before.within-arg-1.given,
       back32 _ second.before.within-arg-2-1.given,
       back32 _ c.before.within-arg-3-1.given,
     )
