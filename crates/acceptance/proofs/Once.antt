@@ -12,7 +12,6 @@ use lib.Dec.{eqb}
 use lib.ListN.{get_or, length, set, length-set, replicate, get_or-replicate}
 use lib.Seq.{get_or-set_same, get_or-set_other}
 use Rattle.mathematics.specs.Lists.{same, listed, distinct}
-use Rattle.mathematics.specs.Bits.{bit}
 use Rattle.mathematics.proofs.Tests.{and_parts, or_false}
 use Rattle.mathematics.proofs.Lists.{numbers_equal, lists_equal, listed_last, distinct_last}
 use Rattle.mathematics.proofs.Flags.{flag_zero}

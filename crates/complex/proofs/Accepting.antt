@@ -14,7 +14,7 @@ use Rattle.mathematics.specs.Refusals.{first}
 use Rattle.mathematics.proofs.Tests.{and_parts, all_at, at_all}
 use Rattle.mathematics.proofs.Lists.{lists_equal, listed_at, at_listed, distinct_at, at_distinct}
 use Rattle.complex.specs.declared.SimplicialComplex.{SimplicialComplex}
-use Rattle.complex.specs.Complex.{Simplex, Complex, start, end, entries, simplices, complex_of}
+use Rattle.complex.specs.Complex.{Simplex, Complex, start, end, simplices, complex_of}
 use Rattle.complex.specs.Search.{connected, Ends}
 use Rattle.complex.specs.Judge.{counts_right, rising, simplices_right, sides_listed, triangles_right, refusal, Accepted}
 use Rattle.complex.proofs.Simplices.{entries_length, simplices_length, simplex_at}

@@ -1,7 +1,7 @@
 -- A matrix in a list: one entry more is added, and what the list then is.
 use Prim.Native.Nat.{ℕ, zero, suc, ◌+◌, ◌-◌, ◌*◌, ◌/◌, ◌%◌, ◌≤◌, ◌<◌}
 use mathlib.Core.List.{List, [], map, flatten, ◌++◌}
-use mathlib.Core.Bool.{true, false, ◌&&◌, cond}
+use mathlib.Core.Bool.{◌&&◌, cond}
 use mathlib.Core.Path.{◌≡◌, refl, sym, ap, ◌∙◌}
 use mathlib.Core.Logic.{◌≢◌}
 use native.Mathlib.Nat.{mul-le-mul, mul_comm, suc-mul, le_refl, mod-lt, div-add-mod', div-lt_iff_lt-mul}

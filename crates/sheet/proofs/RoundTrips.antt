@@ -1,20 +1,17 @@
 -- Reading what was written gives the same complex and truncation; writing what was read gives the same bytes.
 use Prim.Native.Nat.{ℕ, zero, suc, ◌+◌, ◌-◌, ◌*◌, ◌/◌, ◌%◌, ◌<◌, ◌≤◌}
-use mathlib.Core.List.{List, [], ◌∷◌, ◌++◌, flatten, append_assoc, append-nil}
+use mathlib.Core.List.{List, [], ◌∷◌, ◌++◌, flatten}
 use mathlib.Core.Path.{◌≡◌, refl, sym, ap, ◌∙◌}
-use mathlib.Core.Bool.{Bool, true, false, not, ◌&&◌, cond}
+use mathlib.Core.Bool.{true}
 use native.Mathlib.Omega.{arith}
-use borrow.Author.Tests.{eqb-true}
-use lib.ListN.{get_or, length, take, drop, replicate, length-append, length-drop, take-append-drop}
-use lib.Seq.{drop-cons, get_or-take, length-take-le, take_at, drop_at, drop-drop, take-add, take-append-le, take-length, take_all}
-use lib.Dec.{eqb, ltb}
+use lib.ListN.{get_or, length, take, drop, replicate, length-append, length-drop}
+use lib.Seq.{drop-cons, get_or-take, length-take-le, take_at, drop_at, drop-drop, take-add, take_all}
 use Rattle.mathematics.specs.Lists.{same}
 use Rattle.mathematics.specs.Refusals.{first, written}
 use Rattle.mathematics.proofs.Lists.{lists_equal}
 use Rattle.mathematics.proofs.Refusals.{first_none}
 use Rattle.mathematics.proofs.Flat.{flatten_length}
-use Rattle.complex.specs.declared.SimplicialComplex.{SimplicialComplex}
-use Rattle.complex.specs.Complex.{Simplex, Complex, simplices, complex_of, uncharged}
+use Rattle.complex.specs.Complex.{Complex, simplices, complex_of, uncharged}
 use Rattle.complex.specs.Judge.{counts_right, shape_tests, truncated_tests, refusal}
 use Rattle.complex.proofs.Simplices.{simplices_length}
 use Rattle.complex.proofs.Accepting.{Counts, counts, passed, Sized, simplices_sized}

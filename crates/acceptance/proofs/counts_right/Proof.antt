@@ -2,8 +2,6 @@ use mathlib.Core.Path.{refl}
 use Rattle.complex.specs.Judge.{counts_right}
 use Rattle.acceptance.proofs.counts_right.Statement.{statement}
 use Rattle.acceptance.proofs.counts_right.Tie as tie
-use Rattle.acceptance.proofs.counts_right.Reads as reads
-use Rattle.acceptance.proofs.counts_right.Lts as lts
 
 -- src/judge.rt:130:1
 returns : tie.Need-returns

@@ -8,9 +8,6 @@ use Rattle.complex.specs.Judge.{rising}
 use Rattle.complex.proofs.Indexes.{all_next}
 use Rattle.acceptance.proofs.edges_rise.Statement.{statement}
 use Rattle.acceptance.proofs.edges_rise.Tie as tie
-use Rattle.acceptance.proofs.edges_rise.Reads as reads
-use Rattle.acceptance.proofs.edges_rise.Lts as lts
-use Rattle.acceptance.proofs.edge_rises.Reads as edge-rises-reads
 
 abbrev invariant-loop-e : tie.invariant-loop-e
 invariant-loop-e edges n m so_far₀ e₀ so_far e = (e ≤ m) × (so_far ≡ every_entry (rising n) (simplices 2 edges e))

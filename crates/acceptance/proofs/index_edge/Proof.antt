@@ -2,9 +2,6 @@ use Rattle.acceptance.proofs.Once.{indexed_next}
 use borrow.Author.Rules.{rules}
 use Rattle.acceptance.proofs.index_edge.Statement.{statement}
 use Rattle.acceptance.proofs.index_edge.Tie as tie
-use Rattle.acceptance.proofs.index_edge.Reads as reads
-use Rattle.acceptance.proofs.index_edge.Lts as lts
-use Rattle.acceptance.proofs.edge_key.Reads as edge-key-reads
 
 -- src/lib.rt:53:9
 edge_key-key-requires : tie.Need-edge_key-key-requires

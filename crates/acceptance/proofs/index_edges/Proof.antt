@@ -7,9 +7,6 @@ use Rattle.acceptance.specs.Once.{EdgesIndexed}
 use Rattle.acceptance.proofs.Once.{none_indexed}
 use Rattle.acceptance.proofs.index_edges.Statement.{statement}
 use Rattle.acceptance.proofs.index_edges.Tie as tie
-use Rattle.acceptance.proofs.index_edges.Reads as reads
-use Rattle.acceptance.proofs.index_edges.Lts as lts
-use Rattle.acceptance.proofs.index_edge.Reads as index-edge-reads
 
 abbrev invariant-loop-e : tie.invariant-loop-e
 invariant-loop-e edges m table₀ so_far₀ e₀ table so_far e = (e ≤ m) × EdgesIndexed table so_far (simplices 2 edges e)

@@ -10,14 +10,6 @@ use Rattle.complex.proofs.Judging.{counts_of, edges_of, triangles_of, wrong_coun
 use borrow.Author.Rules.{rules}
 use Rattle.acceptance.proofs.judge_indexed.Statement.{statement}
 use Rattle.acceptance.proofs.judge_indexed.Tie as tie
-use Rattle.acceptance.proofs.judge_indexed.Reads as reads
-use Rattle.acceptance.proofs.judge_indexed.Lts as lts
-use Rattle.acceptance.proofs.counts_right.Reads as counts-right-reads
-use Rattle.acceptance.proofs.edges_rise.Reads as edges-rise-reads
-use Rattle.acceptance.proofs.index_edges.Reads as index-edges-reads
-use Rattle.acceptance.proofs.triangles_once.Reads as triangles-once-reads
-use Rattle.acceptance.proofs.triangles_fit.Reads as triangles-fit-reads
-use Rattle.complex.proofs.search.connected.Reads as connected-reads
 
 -- the tests that were passed at each place
 abbrev to-1 : tie.Else-not-edges_rise → tie.Else-not-counts_right

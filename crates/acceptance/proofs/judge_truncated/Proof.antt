@@ -3,9 +3,6 @@ use Rattle.complex.proofs.Judging.{with_truncation}
 use borrow.Author.Rules.{rules}
 use Rattle.acceptance.proofs.judge_truncated.Statement.{statement}
 use Rattle.acceptance.proofs.judge_truncated.Tie as tie
-use Rattle.acceptance.proofs.judge_truncated.Reads as reads
-use Rattle.acceptance.proofs.judge_truncated.Lts as lts
-use Rattle.acceptance.proofs.judge.Reads as judge-reads
 
 -- src/judge.rt:176:9
 judge-number-requires : tie.Need-judge-number-requires

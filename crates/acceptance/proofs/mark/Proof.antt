@@ -6,8 +6,6 @@ use Rattle.acceptance.proofs.Once.{marked_next}
 use borrow.Author.Rules.{rules}
 use Rattle.acceptance.proofs.mark.Statement.{statement}
 use Rattle.acceptance.proofs.mark.Tie as tie
-use Rattle.acceptance.proofs.mark.Reads as reads
-use Rattle.acceptance.proofs.mark.Lts as lts
 
 -- src/lib.rt:128:15
 offset_bounds-seen-i : tie.Need-offset_bounds-seen-i

@@ -11,9 +11,6 @@ use Rattle.complex.specs.Numbering.{EdgeTable}
 use Rattle.complex.proofs.Indexes.{all_next}
 use Rattle.acceptance.proofs.triangles_fit.Statement.{statement}
 use Rattle.acceptance.proofs.triangles_fit.Tie as tie
-use Rattle.acceptance.proofs.triangles_fit.Reads as reads
-use Rattle.acceptance.proofs.triangles_fit.Lts as lts
-use Rattle.acceptance.proofs.triangle_fits.Reads as triangle-fits-reads
 
 abbrev invariant-loop-i : tie.invariant-loop-i
 invariant-loop-i triangles n table t so_far₀ i₀ so_far i = (i ≤ t) × ((es : List Simplex) → EdgeTable table es → so_far ≡ every_entry (λ s. rising n s && sides_listed es s) (simplices 3 triangles i))

@@ -10,10 +10,6 @@ use Rattle.acceptance.specs.Once.{Marked}
 use Rattle.acceptance.proofs.Once.{none_marked}
 use Rattle.acceptance.proofs.triangles_once.Statement.{statement}
 use Rattle.acceptance.proofs.triangles_once.Tie as tie
-use Rattle.acceptance.proofs.triangles_once.Reads as reads
-use Rattle.acceptance.proofs.triangles_once.Lts as lts
-use Rattle.acceptance.proofs.mark.Reads as mark-reads
-use Rattle.acceptance.proofs.triangle_key.Reads as triangle-key-reads
 
 abbrev invariant-loop-i : tie.invariant-loop-i
 invariant-loop-i triangles table t seen₀ so_far₀ i₀ seen so_far i = (i ≤ t) × Marked seen so_far (map (triangle_key table) (simplices 3 triangles i))

@@ -9,9 +9,6 @@ use Rattle.making.specs.Making.{size_tests}
 use borrow.Author.Rules.{rules}
 use Rattle.making.proofs.judge_sizes.Statement.{statement}
 use Rattle.making.proofs.judge_sizes.Tie as tie
-use Rattle.making.proofs.judge_sizes.Reads as reads
-use Rattle.making.proofs.judge_sizes.Lts as lts
-use Rattle.acceptance.proofs.counts_right.Reads as counts-right-reads
 
 -- src/lib.rt:218:9
 counts_right-requires : tie.Need-counts_right-requires

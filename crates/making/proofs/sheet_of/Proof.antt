@@ -1,5 +1,5 @@
-use Prim.Native.Nat.{◌≤◌, ◌/◌}
-use mathlib.Core.Path.{◌≡◌, refl}
+use Prim.Native.Nat.{◌≤◌}
+use mathlib.Core.Path.{refl}
 use native.Mathlib.Omega.{arith}
 use lib.ListN.{length}
 use Rattle.complex.specs.Complex.{complex_of}
@@ -8,10 +8,6 @@ use Rattle.making.specs.Making.{flat_complex}
 use Rattle.making.proofs.Makings.{Sizes, sizes_of, whole_list}
 use Rattle.making.proofs.sheet_of.Statement.{statement}
 use Rattle.making.proofs.sheet_of.Tie as tie
-use Rattle.making.proofs.sheet_of.Reads as reads
-use Rattle.making.proofs.sheet_of.Lts as lts
-use Rattle.sheet.proofs.edges_in.Reads as edges-in-reads
-use Rattle.sheet.proofs.triangles_in.Reads as triangles-in-reads
 
 sizes : (c : tie.Start) → Sizes c.args.n_vertices c.args.edges.now c.args.triangles.now c.args.lambda
 sizes c = sizes_of _ _ _ _ c.requires

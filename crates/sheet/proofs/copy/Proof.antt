@@ -1,14 +1,12 @@
 use borrow.Author.Rules.{rules}
-use Prim.Native.Nat.{ℕ, ◌<◌, ◌≤◌, ◌+◌, ◌-◌}
-use mathlib.Core.Path.{◌≡◌, refl, ◌∙◌}
+use Prim.Native.Nat.{◌<◌, ◌≤◌, ◌+◌, ◌-◌}
+use mathlib.Core.Path.{◌≡◌, refl}
 use native.Mathlib.Omega.{arith}
-use lib.ListN.{length, drop, get_or, length-set, length-drop}
+use lib.ListN.{length, drop, length-set, length-drop}
 use lib.Seq.{paste, paste-zero, paste-suc, get_or-drop}
 use native.Mathlib.Numerals.{add-one}
 use Rattle.sheet.proofs.copy.Statement.{statement}
 use Rattle.sheet.proofs.copy.Tie as tie
-use Rattle.sheet.proofs.copy.Reads as reads
-use Rattle.sheet.proofs.copy.Lts as lts
 
 abbrev invariant-loop-i : tie.invariant-loop-i
 invariant-loop-i src start count out₀ at i₀ out i = (i ≤ count) × (length out ≡ length out₀) × (out ≡ paste out₀ at (drop start src) i)

@@ -1,14 +1,11 @@
 use Prim.Native.Nat.{◌≤◌}
-use mathlib.Core.Path.{◌≡◌, ◌∙◌}
+use mathlib.Core.Path.{◌∙◌}
 use native.Mathlib.Omega.{arith}
 use lib.ListN.{length, length-drop, drop}
 use Rattle.sheet.proofs.Sheets.{paste_padded}
 use borrow.Author.Rules.{rules}
 use Rattle.sheet.proofs.edges_in.Statement.{statement}
 use Rattle.sheet.proofs.edges_in.Tie as tie
-use Rattle.sheet.proofs.edges_in.Reads as reads
-use Rattle.sheet.proofs.edges_in.Lts as lts
-use Rattle.sheet.proofs.copy.Reads as copy-reads
 
 -- src/lib.rt:89:27
 slice_bounds-copy-end : tie.Need-slice_bounds-copy-end

@@ -3,8 +3,6 @@ use Rattle.sheet.specs.Sheet.{header_bytes}
 use borrow.Author.Rules.{rules}
 use Rattle.sheet.proofs.header.Statement.{statement}
 use Rattle.sheet.proofs.header.Tie as tie
-use Rattle.sheet.proofs.header.Reads as reads
-use Rattle.sheet.proofs.header.Lts as lts
 
 -- src/lib.rt:156:9
 overflow_cast-result : tie.Need-overflow_cast-result

@@ -4,10 +4,6 @@ use lib.ListN.{length}
 use borrow.Author.Rules.{rules}
 use Rattle.sheet.proofs.write_bytes.Statement.{statement}
 use Rattle.sheet.proofs.write_bytes.Tie as tie
-use Rattle.sheet.proofs.write_bytes.Reads as reads
-use Rattle.sheet.proofs.write_bytes.Lts as lts
-use Rattle.sheet.proofs.copy.Reads as copy-reads
-use Rattle.sheet.proofs.header.Reads as header-reads
 
 -- src/lib.rt:173:17
 header-first-requires : tie.Need-header-first-requires

@@ -7,9 +7,6 @@ use Rattle.complex.proofs.Triangles.{three}
 use borrow.Author.Rules.{rules}
 use Rattle.triangles.proofs.sides_of.Statement.{statement}
 use Rattle.triangles.proofs.sides_of.Tie as tie
-use Rattle.triangles.proofs.sides_of.Reads as reads
-use Rattle.triangles.proofs.sides_of.Lts as lts
-use Rattle.acceptance.proofs.edge_number.Reads as edge-number-reads
 
 -- src/triangle.rt:23:28
 overflow_mul-t : tie.Need-overflow_mul-t

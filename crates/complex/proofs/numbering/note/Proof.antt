@@ -4,8 +4,6 @@ use borrow.Author.Rules.{rules}
 use Rattle.complex.proofs.Numberings.{note_over, note_old, note_past, note_new}
 use Rattle.complex.proofs.numbering.note.Statement.{statement}
 use Rattle.complex.proofs.numbering.note.Tie as tie
-use Rattle.complex.proofs.numbering.note.Reads as reads
-use Rattle.complex.proofs.numbering.note.Lts as lts
 
 -- src/numbering.rt:17:9
 returns-then-limit-count : tie.Need-returns-then-limit-count

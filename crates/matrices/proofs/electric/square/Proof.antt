@@ -6,7 +6,6 @@ use mir.Syntax.{w32}
 use mir.Val.{to_z, of_z}
 use Rattle.mathematics.proofs.Signed.{back32, small_back, size_fits}
 use Rattle.matrices.proofs.Squares.{square_is, square_small}
-use borrow.Author.Rules.{rules}
 use Rattle.matrices.proofs.electric.square.Statement.{statement}
 use Rattle.matrices.proofs.electric.square.Tie as tie
 

@@ -1,4 +1,3 @@
-use native.Mathlib.Omega.{arith}
 use Rattle.matrices.specs.Weights.{weight}
 use Rattle.matrices.proofs.Literals.{one}
 use borrow.Author.Rules.{rules}

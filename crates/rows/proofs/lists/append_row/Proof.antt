@@ -2,9 +2,6 @@ use Rattle.rows.proofs.RowsWritten.{row_copied}
 use borrow.Author.Rules.{rules}
 use Rattle.rows.proofs.lists.append_row.Statement.{statement}
 use Rattle.rows.proofs.lists.append_row.Tie as tie
-use Rattle.rows.proofs.lists.append_row.Reads as reads
-use Rattle.rows.proofs.lists.append_row.Lts as lts
-use Rattle.rows.proofs.lists.copy_row.Reads as copy-row-reads
 
 -- src/lists.rt:65:5
 copy_row-requires : tie.Need-copy_row-requires

@@ -8,8 +8,6 @@ use Rattle.rows.proofs.RowsWritten.{paste_turn}
 use borrow.Author.Rules.{rules}
 use Rattle.rows.proofs.lists.copy_row.Statement.{statement}
 use Rattle.rows.proofs.lists.copy_row.Tie as tie
-use Rattle.rows.proofs.lists.copy_row.Reads as reads
-use Rattle.rows.proofs.lists.copy_row.Lts as lts
 
 abbrev invariant-loop-k : tie.invariant-loop-k
 invariant-loop-k row_columns row_values m at columns₀ values₀ k₀ columns values k = (k ≤ m) × (length columns ≡ length columns₀) × (length values ≡ length values₀) × (columns ≡ paste columns₀ at row_columns k) × (values ≡ paste values₀ at row_values k)

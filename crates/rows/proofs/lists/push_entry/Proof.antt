@@ -2,8 +2,6 @@ use Rattle.rows.proofs.RowsWritten.{entry_taken, entry_left}
 use borrow.Author.Rules.{rules}
 use Rattle.rows.proofs.lists.push_entry.Statement.{statement}
 use Rattle.rows.proofs.lists.push_entry.Tie as tie
-use Rattle.rows.proofs.lists.push_entry.Reads as reads
-use Rattle.rows.proofs.lists.push_entry.Lts as lts
 
 -- src/lists.rt:28:5
 offset_bounds-columns-n : tie.Need-offset_bounds-columns-n

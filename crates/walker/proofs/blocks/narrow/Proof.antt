@@ -2,7 +2,7 @@ use Prim.Native.Nat.{◌+◌, ◌≤◌, ◌^◌, min, max}
 use mathlib.Core.Path.{◌≡◌, sym, ap, ap₂, ◌∙◌}
 use native.Mathlib.Omega.{arith}
 use lib.Dec.{leb}
-use lib.IntN.{ℤ, pos, neg_ℤ, nat_abs, ◌*ℤ◌, *ℤ_comm}
+use lib.IntN.{pos, neg_ℤ, nat_abs, ◌*ℤ◌, *ℤ_comm}
 use mir.Syntax.{w8, w32}
 use mir.Val.{to_z, of_z}
 use Rattle.mathematics.specs.Integers.{equal}
