@@ -2,7 +2,8 @@ use mathlib.Core.Path.{◌≡◌, sym, ◌∙◌, ap}
 use mathlib.Core.Bool.{true, not}
 use borrow.Author.Tests.{lt-ltb, le-ltb, not-true, not-false}
 use lib.ListN.{length}
-use Prim.Native.Nat.{◌/◌}
+use Prim.Native.Nat.{◌/◌, ◌<◌, ◌≤◌}
+use native.Mathlib.Omega.{arith}
 use Rattle.mathematics.specs.Refusals.{first}
 use Rattle.complex.specs.Judge.{counts_right}
 use Rattle.making.specs.Making.{size_tests}
@@ -22,20 +23,25 @@ returns-then-not-counts_right : tie.Need-returns-then-not-counts_right
 unfolding first size_tests
 returns-then-not-counts_right c = rw (← c.before.counts_right.ensures, not-true c.before.counts_right.result (ap not c.if-not-counts_right.true))
 
--- src/lib.rt:222:9
-returns-then-lambda-gt-LARGEST_TRUNCATION : tie.Need-returns-then-lambda-gt-LARGEST_TRUNCATION
-unfolding first size_tests
-returns-then-lambda-gt-LARGEST_TRUNCATION c = rw (passed_1 c.before, lt-ltb _ _ c.if-lambda-gt-LARGEST_TRUNCATION.true)
-
 -- src/lib.rt:225:9
 returns-then-not-edges-triangles : tie.Need-returns-then-not-edges-triangles
 unfolding first size_tests
-returns-then-not-edges-triangles c = rw (passed_1 c.before.before, le-ltb _ _ c.before.if-lambda-gt-LARGEST_TRUNCATION.false, (ap not c.if-not-edges-triangles.true))
+returns-then-not-edges-triangles c =
+    let low : c.args.lambda ≤ 1000 = omega arith in
+    rw (passed_1 c.before.before, le-ltb _ _ low, (ap not c.if-not-edges-triangles.true))
 
 -- src/lib.rt:215:1
 returns : tie.Need-returns
 unfolding first size_tests
-returns c = rw (passed_1 c.before.before, le-ltb _ _ c.before.if-lambda-gt-LARGEST_TRUNCATION.false, (ap not c.if-not-edges-triangles.false))
+returns c =
+    let low : c.args.lambda ≤ 1000 = omega arith in
+    rw (passed_1 c.before.before, le-ltb _ _ low, (ap not c.if-not-edges-triangles.false))
 
 pub judge_sizes_spec : {M : Type 1} → statement M
-judge_sizes_spec = tie.close (tie.spec counts_right-requires returns-then-not-counts_right returns-then-lambda-gt-LARGEST_TRUNCATION returns-then-not-edges-triangles returns)
+unfolding first size_tests
+judge_sizes_spec =
+    tie.close
+    (tie.spec counts_right-requires returns-then-not-counts_right
+    -- src/lib.rt:222:9; no name of the test, so that another limit is refused for what it says
+    (λ c. let high : 1000 < c.args.lambda = omega arith in rw (passed_1 c.before, lt-ltb _ _ high))
+    returns-then-not-edges-triangles returns)

