@@ -1,13 +1,13 @@
 -- Words that are written one after the other.
 use Prim.Native.Nat.{ℕ, zero, suc, ◌+◌, ◌-◌, ◌<◌, ◌≤◌}
 use mathlib.Core.List.{List}
-use mathlib.Core.Path.{◌≡◌, refl, sym, ap, ◌∙◌}
+use mathlib.Core.Path.{◌≡◌, refl, ◌∙◌}
 use native.Mathlib.Numerals.{add-one}
 use native.Mathlib.Omega.{arith}
 use native.Mathlib.Decide.{ℕ_discrete}
 use lib.ListN.{get_or, length, set, length-set}
 use lib.Seq.{get_or-set_same, get_or-set_other}
-use Rattle.csr.specs.Words.{upper, begins, FirstWords}
+use Rattle.csr.specs.Words.{begins, FirstWords}
 
 module _ (f : ℕ → ℕ) (words : List ℕ) where
   pub none_first : FirstWords f 0 words words

@@ -2,7 +2,6 @@
 use mathlib.Core.List.{[], ◌∷◌, flat_map}
 use mathlib.Core.Path.{◌≡◌, refl}
 use lib.IntN.{pos, negsuc}
-use lib.ListN.{get_or, length}
 use Rattle.mathematics.specs.Integers.{equal}
 use Rattle.mathematics.specs.Lists.{same, listed, position, choose}
 use Rattle.mathematics.specs.Tests.{every_entry, every, some}

@@ -1,30 +1,22 @@
 -- Where a triangle takes the states of a list: the row that is shifted, and the row that is sought.
 use Prim.Native.Nat.{ℕ, ◌+◌, ◌*◌, ◌<◌, ◌≤◌}
 use mathlib.Core.List.{List, [], flatten}
-use mathlib.Core.Bool.{true, false, ◌&&◌}
+use mathlib.Core.Bool.{true, false}
 use mathlib.Core.Path.{◌≡◌, refl, sym, ap, ◌∙◌}
 use native.Mathlib.Nat.{mul_comm, mul-le-mul_right}
 use native.Mathlib.Omega.{arith}
 use borrow.Author.Tests.{eq-eqb}
-use lib.IntN.{ℤ, pos, neg_ℤ}
-use lib.ListN.{get_or, length, take, length-append}
+use lib.IntN.{ℤ, pos}
+use lib.ListN.{get_or, length, length-append}
 use Rattle.mathematics.proofs.Flat.{flatten_length}
-use Rattle.triangles.specs.declared.Sides.{Sides}
 use Rattle.complex.specs.Complex.{Complex}
-use Rattle.gauss_law.specs.Gauss.{State, within}
-use Rattle.gauss_law.specs.Shifts.{shifted}
-use Rattle.gauss_law.proofs.Shifts.{triangle_long}
 use Rattle.gauss_law.specs.Listing.{states}
-use Rattle.hilbert.specs.Search.{Rows, Ranked, row}
-use Rattle.hilbert.proofs.Order.{row_state, ranked}
+use Rattle.hilbert.specs.Search.{Rows, row}
+use Rattle.hilbert.proofs.Order.{row_state}
 use Rattle.plaquettes.specs.declared.target.Sizes.{Sizes}
-use Rattle.plaquettes.specs.Triangle.{moved_state, sides_within, target, hits, Shiftable}
+use Rattle.plaquettes.specs.Triangle.{target, hits}
 use Rattle.plaquettes.specs.Targets.{BasisList}
-use Rattle.triangles.specs.Indices.{SidesOf}
-use Rattle.plaquettes.proofs.TriangleRows.{front_moved, three_told, row_shiftable}
-use Rattle.triangles.proofs.SidesFound.{sides_below}
 use Rattle.plaquettes.proofs.TriangleTelling.{state_there}
-use Rattle.plaquettes.proofs.Moves.{target_none, target_rises, stays_at}
 use Rattle.plaquettes.proofs.Hits.{hits_target, outside_hit}
 
 module _ (c : Complex) (list : List ℤ) (s : Sizes) (free : List ℕ) (basis : BasisList c list s free) where

@@ -1,14 +1,11 @@
 -- A list that begins with the basis, as the code keeps it.
-use Rattle.std.specs.Prelude.{ℕ, ◌<◌, ◌≤◌, ◌≡◌, ℤ, pos, get_or, length}
+use Rattle.std.specs.Prelude.{ℕ, ◌<◌, ◌≤◌, ◌≡◌, ℤ, get_or, length}
 use mathlib.Core.List.{List, ◌++◌, flatten}
-use Rattle.triangles.specs.declared.Sides.{Sides}
-use Rattle.triangles.specs.Indices.{SidesOf}
 use Rattle.complex.specs.Complex.{Complex}
 use Rattle.complex.specs.Judge.{Accepted}
 use Rattle.gauss_law.specs.Listing.{free_edges, states}
 use Rattle.walker.specs.Steps.{FreeFit}
 use Rattle.plaquettes.specs.declared.target.Sizes.{Sizes}
-use Rattle.plaquettes.specs.Triangle.{target}
 
 -- a list that begins with the basis, its sizes, and the free edges, which order it
 pub record BasisList (c : Complex) (list : List ℤ) (s : Sizes) (free : List ℕ) : Type 0 where

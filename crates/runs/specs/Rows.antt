@@ -1,5 +1,5 @@
 -- Rows made of others by adding to each entry, as the code makes them.
-use Rattle.std.specs.Prelude.{ℕ, zero, suc, ◌+◌, ◌-◌, ◌*◌, ◌^◌, ◌≤◌, ◌<◌, ◌≡◌, ℤ, pos, length, take, drop}
+use Rattle.std.specs.Prelude.{ℕ, zero, suc, ◌+◌, ◌-◌, ◌*◌, ◌^◌, ◌≤◌, ◌≡◌, ℤ, pos, length, take, drop}
 use mathlib.Core.List.{List, [], ◌++◌, flatten}
 use Rattle.cycles.specs.Cycles.{with_cycle}
 use Rattle.walker.specs.declared.blocks.Span.{Span}

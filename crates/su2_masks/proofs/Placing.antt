@@ -1,16 +1,12 @@
 -- The states and the place of a mask, by the tables of their complex.
 use Prim.Native.Nat.{ℕ, zero, suc, ◌^◌, ◌<◌, ◌≤◌}
 use mathlib.Core.List.{List}
-use mathlib.Core.Bool.{Bool, true, false, ◌&&◌, cond}
+use mathlib.Core.Bool.{true}
 use mathlib.Core.Path.{◌≡◌, refl, sym, ap, ◌∙◌}
-use mathlib.Core.Logic.{◌≢◌}
 use native.Mathlib.Nat.{lt_of_lt_of_le}
 use native.Mathlib.Omega.{arith}
-use borrow.Author.Tests.{lt-ltb, ltb-true}
-use lib.Dec.{ltb}
 use lib.ListN.{get_or, length}
 use lib.Seq.{get_or-take}
-use Rattle.mathematics.proofs.Tests.{and_parts}
 use Rattle.complex.specs.declared.SimplicialComplex.{SimplicialComplex}
 use Rattle.complex.specs.Complex.{Complex, complex_of}
 use Rattle.complex.specs.Judge.{refusal}
@@ -19,7 +15,7 @@ use Rattle.gauss_law.specs.Listing.{free_edges}
 use Rattle.gauss_law.proofs.Spanned.{edges_long}
 use Rattle.su2_even_sets.specs.declared.Forest.{Forest}
 use Rattle.su2_even_sets.specs.EvenSets.{even, su2_states, mask_place}
-use Rattle.su2_even_sets.specs.Loops.{grown, loop_sums, sum_of_loops, closing_bits}
+use Rattle.su2_even_sets.specs.Loops.{grown, loop_sums, closing_bits}
 use Rattle.su2_even_sets.specs.Forest.{Front, Keeps}
 use Rattle.su2_masks.specs.Place.{LoopsOf, Readable}
 use Rattle.su2_even_sets.proofs.Forests.{all_grown, closing_below}

@@ -1,6 +1,5 @@
-use mathlib.Core.Path.{◌≡◌, refl, sym, ap, ◌∙◌}
+use mathlib.Core.Path.{refl, sym, ◌∙◌}
 use borrow.Author.Tests.{ne_eqb}
-use lib.ListN.{length}
 use Rattle.mathematics.proofs.Calls.{none, refuses, ends}
 use Rattle.complex.specs.Complex.{complex_of}
 use Rattle.complex.proofs.Accepting.{accepted}
@@ -8,7 +7,6 @@ use Rattle.triangles.proofs.SidesFound.{triangles_long}
 use Rattle.answers.specs.Answer.{number_answer}
 use Rattle.enumeration.specs.Enumeration.{BasisWalks}
 use Rattle.enumeration.proofs.Enumerating.{basis_refuses, past_basis}
-use Rattle.entries.specs.Count.{over_states, row_entries}
 use Rattle.entries.specs.Entries.{entries_call}
 use Rattle.entries.proofs.Counting.{all_countable, counted_entries}
 use Rattle.entries.proofs.EntryNumbers.{entries_known}

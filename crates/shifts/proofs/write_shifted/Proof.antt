@@ -1,9 +1,9 @@
 use Prim.Native.Nat.{◌<◌, ◌≤◌, ◌-◌, ◌+◌}
 use mathlib.Core.List.{◌++◌}
-use mathlib.Core.Path.{◌≡◌, refl, sym, ap, ◌∙◌}
+use mathlib.Core.Path.{◌≡◌, refl, ap, ◌∙◌}
 use native.Mathlib.Omega.{arith}
 use lib.IntN.{pos}
-use lib.ListN.{length, take, drop, get_or, set, length-set}
+use lib.ListN.{length, take, drop, get_or, length-set}
 use lib.Seq.{take-length, length-take-le, set-append_left}
 use Rattle.mathematics.proofs.Front.{take_next, store}
 use Rattle.mathematics.proofs.Signed.{back32}

@@ -4,7 +4,7 @@ use native.Mathlib.Omega.{arith}
 use lib.Ieee.{Float}
 use lib.ListN.{length}
 use borrow.Rule.Slice.PartMut.{mid_len, same_len_mid}
-use Rattle.su2_products.specs.Product.{BlockFits, listed_product_at}
+use Rattle.su2_products.specs.Product.{listed_product_at}
 use Rattle.su2_products.proofs.Blocks.{begun, none_begun, next_begun, all_begun}
 use borrow.Author.Rules.{rules}
 use Rattle.su2_products.proofs.write_blocks.Statement.{statement}

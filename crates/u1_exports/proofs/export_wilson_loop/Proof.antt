@@ -1,4 +1,4 @@
-use mathlib.Core.Path.{refl, ◌∙◌}
+use mathlib.Core.Path.{◌∙◌}
 use Rattle.mathematics.proofs.Signed.{back64}
 use Rattle.wilson.specs.Wilson.{wilson_call}
 use Rattle.exports.specs.Exports.{value_lent}

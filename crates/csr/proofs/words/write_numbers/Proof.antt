@@ -1,8 +1,8 @@
-use Prim.Native.Nat.{ℕ, ◌+◌, ◌*◌, ◌-◌, ◌^◌, ◌<◌, ◌≤◌}
-use mathlib.Core.Path.{◌≡◌, refl, sym, ap, ◌∙◌}
+use Prim.Native.Nat.{◌+◌, ◌*◌, ◌-◌, ◌≤◌}
+use mathlib.Core.Path.{◌≡◌, refl, ◌∙◌}
 use native.Mathlib.Omega.{arith}
 use native.Mathlib.Nat.{mul-le-mul, mul-le-mul_right}
-use lib.ListN.{get_or, length}
+use lib.ListN.{length}
 use Rattle.hilbert.specs.Search.{row}
 use Rattle.hilbert.proofs.Searching.{row_part}
 use Rattle.moves.specs.Numbers.{number}

@@ -1,4 +1,4 @@
-use mathlib.Core.Path.{◌≡◌, ap, ◌∙◌}
+use mathlib.Core.Path.{ap, ◌∙◌}
 use mathlib.Core.Bool.{not}
 use Rattle.law_check.specs.declared.Finding.{Finding}
 use Rattle.law_check.proofs.Findings.{finding_lawful}

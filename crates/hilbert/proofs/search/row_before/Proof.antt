@@ -1,8 +1,7 @@
-use Prim.Native.Nat.{ℕ, ◌≤◌, ◌<◌, ◌-◌, ◌+◌}
+use Prim.Native.Nat.{◌≤◌, ◌<◌, ◌-◌}
 use mathlib.Core.Path.{◌≡◌, refl, sym, ap, ◌∙◌}
 use native.Mathlib.Omega.{arith}
-use lib.IntN.{pos}
-use lib.ListN.{length, get_or}
+use lib.ListN.{length}
 use mir.Syntax.{w32}
 use mir.Val.{to_z, of_z}
 use Rattle.mathematics.proofs.Signed.{back32}

@@ -1,12 +1,11 @@
 use Prim.Native.Nat.{◌+◌, ◌*◌, ◌-◌, ◌^◌, ◌<◌, ◌≤◌}
-use mathlib.Core.Path.{◌≡◌, refl, sym, ap, ◌∙◌}
+use mathlib.Core.Path.{◌≡◌, refl, ap, ◌∙◌}
 use native.Mathlib.Omega.{arith}
 use lib.IntN.{pos, nat_abs, ◌+ℤ◌}
 use lib.ListN.{get_or, length}
-use mir.Syntax.{w32}
 use Rattle.mathematics.proofs.Signed.{small_back}
 use Rattle.moves.specs.Numbers.{numeral, digit, number}
-use Rattle.moves.proofs.Digits.{numeral_least, numeral_next}
+use Rattle.moves.proofs.Digits.{numeral_next}
 use borrow.Author.Rules.{rules}
 use Rattle.moves.proofs.number.number.Statement.{statement}
 use Rattle.moves.proofs.number.number.Tie as tie

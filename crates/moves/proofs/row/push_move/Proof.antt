@@ -1,9 +1,5 @@
-use Prim.Native.Nat.{◌+◌}
-use mathlib.Core.List.{append-nil}
 use mathlib.Core.Bool.{true, false}
-use mathlib.Core.Path.{◌≡◌, refl, sym, ap, ◌∙◌}
-use native.Mathlib.Omega.{arith}
-use borrow.Author.Tests.{not-true, not-false}
+use mathlib.Core.Path.{◌≡◌}
 use Rattle.moves.proofs.Collecting.{move_left, move_taken}
 use borrow.Author.Rules.{rules}
 use Rattle.moves.proofs.row.push_move.Statement.{statement}

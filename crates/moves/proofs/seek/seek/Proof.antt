@@ -1,7 +1,6 @@
 use Prim.Native.Nat.{◌+◌, ◌-◌, ◌<◌, ◌≤◌}
 use mathlib.Core.Path.{◌≡◌, refl, sym, ◌∙◌}
 use native.Mathlib.Omega.{arith}
-use borrow.Author.Tests.{ltb-true, ltb-false}
 use Rattle.moves.specs.Numbers.{sought, number_in}
 use Rattle.moves.proofs.Seeking.{sought_next, sought_here, sought_end}
 use borrow.Author.Rules.{rules}

@@ -1,8 +1,8 @@
 -- Each case is counted once, and where none is left all are.
-use Rattle.std.proofs.Common.{◌≡◌, sym, ap, ◌∙◌, arith}
+use Rattle.std.proofs.Common.{sym, ap, ◌∙◌, arith}
 use Rattle.std.specs.Prelude.{not}
 use Rattle.recorded_fields.specs.Layout.{Whole}
-use Rattle.recorded_fields.proofs.Fields.{later, case_inside, whole_of}
+use Rattle.recorded_fields.proofs.Fields.{later, whole_of}
 use Rattle.replay.proofs.Walking.{walked_none, walked_next, walked_all, one_more, none_more}
 use Rattle.replay.proofs.walk.replay.Goals as goal
 use Rattle.replay.proofs.walk.replay.Goals.{then-not-case_same, else-not-case_same}
