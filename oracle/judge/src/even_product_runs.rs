@@ -209,17 +209,19 @@ fn calls(sheet: &Sheet, how_many: usize, random: &mut Random, tally: &mut Tally)
     }
 }
 
-/// Few edges or many, some of them several times; now and then the whole path twice.
+/// Few edges or many, some of them several times.
 pub fn right_path(random: &mut Random, edges: usize) -> Vec<u8> {
     let most = random.pick(&[3, 12, 12, 90]);
     let len = if edges == 0 { 0 } else { random.below(most) };
-    let path: Vec<u8> = (0..len).map(|_| random.below(edges as u64) as u8).collect();
-    if random.one_in(6) { path.repeat(2) } else { path }
+    (0..len).map(|_| random.below(edges as u64) as u8).collect()
 }
 
-/// The same, and now and then one that is not there.
+/// The same, now and then the whole path twice, and now and then with one that is not there.
 fn any_path(random: &mut Random, edges: usize) -> Vec<u8> {
     let mut path = right_path(random, edges);
+    if random.one_in(6) {
+        path = path.repeat(2);
+    }
     if random.one_in(10) {
         let outside = random.pick(&[edges as u8, edges as u8, edges as u8 + 1, 64, 255]);
         path.insert(random.below(path.len() as u64 + 1) as usize, outside);
