@@ -21,7 +21,7 @@ IMPORT = re.compile(r"^\s*(?:ghost |pub )*use ([^\s{;]+?)(?:\.\{([^}]*)\})?;?\s*
 # A word that is a tactic's, with what it is called now.
 TACTICS = {"search": "whole_search"}
 # Names that would fall together with another in one file.
-APART = {"firstOf": "first_found", "headerOf": "header_bytes", "signed-of": "signed_of_lem", "toldOf": "outcome_told", "bit-and": "bit_and_lem", "bit-or": "bit_or_lem", "bit-xor": "bit_xor_lem"}
+APART = {"headerOf": "header_bytes", "signed-of": "signed_of_lem", "toldOf": "outcome_told", "bit-and": "bit_and_lem", "bit-or": "bit_or_lem", "bit-xor": "bit_xor_lem"}
 
 
 def snake(name):

@@ -599,7 +599,7 @@ typedef int64_t su2_loop(const uint8_t *, size_t, const double *, size_t, const 
 static int su2_expectations(su2_loop *call, double twice_over)
 {
     const double vector[] = {3, 5}, too_far[] = {3, 0x1.0000000000001p32}, no_number[] = {(double)NAN, 5, 5};
-    const uint8_t around[] = {0, 1, 2}, twice[] = {0, 0}, thrice[] = {1, 1, 1}, two[] = {0, 2}, outside[] = {0, 3};
+    const uint8_t around[] = {0, 1, 2}, twice[] = {1, 1}, back[] = {0, 0}, thrice[] = {1, 1, 1}, two[] = {0, 2}, outside[] = {0, 3};
     const uint64_t on_triangle_sheet[] = {0, 7};
     uint64_t states[10];
     double expectation[2];
@@ -622,6 +622,7 @@ static int su2_expectations(su2_loop *call, double twice_over)
     CHECK(LOOP(triangle_sheet, 20, vector, 2, NULL, 0, 10) == 0 && expectation[0] == 34);
     CHECK(LOOP(triangle_sheet, 20, vector, 2, two, 2, 10) == 0 && expectation[0] == 34);
     CHECK(LOOP(triangle_sheet, 20, vector, 2, twice, 2, 10) == 0 && expectation[0] == twice_over);
+    CHECK(LOOP(triangle_sheet, 20, vector, 2, back, 2, 10) == 0 && expectation[0] == twice_over);
     CHECK(LOOP(triangle_sheet, 20, vector, 2, thrice, 3, 10) == 0 && expectation[0] == -16);
     CHECK(LOOP(point_sheet, 11, vector + 1, 1, NULL, 0, 1) == 0 && expectation[0] == 25);
     CHECK(all_are((const uint8_t *)(expectation + 1), sizeof *expectation, 0xEE));
