@@ -6,7 +6,6 @@ use native.Mathlib.Omega.{arith}
 use lib.IntN.{ℤ}
 use lib.Ieee.{Float}
 use lib.ListN.{get_or, length, get_or-replicate}
-use Rattle.mathematics.specs.Counting.{below}
 use Rattle.complex.specs.Complex.{Complex, entries}
 use Rattle.complex.proofs.TriangleEdges.{triangle_sides}
 use Rattle.gauss_law.specs.Listing.{states}

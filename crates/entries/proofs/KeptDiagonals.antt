@@ -8,7 +8,7 @@ use borrow.Author.Tests.{ne_eqb}
 use lib.Dec.{T, eqb}
 use lib.IntN.{pos, negsuc}
 use lib.Ieee.{Float, binary64, fin, round, mul, le, lt, eq, of_int}
-use lib.Ieee.Positive.{positive, between, mul_mono}
+use lib.Ieee.Positive.{between, mul_mono}
 use Rattle.mathematics.proofs.Tests.{and_parts}
 use Rattle.matrices.specs.declared.coupling.KSParams.{KSParams}
 use Rattle.matrices.specs.Coupling.{float_of, coupling_right, u1_params, params_right, u1_right}

@@ -18,7 +18,7 @@ use Rattle.answers.specs.Answer.{number_answer}
 use Rattle.complex.specs.declared.SimplicialComplex.{SimplicialComplex}
 use Rattle.complex.specs.Complex.{Complex, complex_of}
 use Rattle.complex.specs.Judge.{Accepted}
-use Rattle.complex.specs.Sides.{sides, side}
+use Rattle.complex.specs.Sides.{side}
 use Rattle.complex.proofs.TriangleEdges.{triangle_sides}
 use Rattle.gauss_law.specs.Listing.{states}
 use Rattle.gauss_law.proofs.Accepted.{listing_complete}

@@ -6,7 +6,7 @@ use mathlib.Core.Path.{◌≡◌, refl, sym, ap, ◌∙◌}
 use native.Mathlib.Omega.{arith}
 use native.Mathlib.Numerals.{add-one}
 use native.Mathlib.Decide.{dec_le, dec_lt}
-use lib.IntN.{ℤ, pos, neg_ℤ, ◌+ℤ◌, ◌*ℤ◌, *ℤ-zero, +ℤ_idr}
+use lib.IntN.{ℤ, pos, neg_ℤ, ◌+ℤ◌, *ℤ-zero, +ℤ_idr}
 use lib.Signed.{lt_z}
 use lib.ListN.{get_or, length}
 use Rattle.mathematics.proofs.Integers.{positive, negative, linear, parts, the, ◌⊞◌, ⊖◌, less_test, not_less_test, times_one}

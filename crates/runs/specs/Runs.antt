@@ -1,5 +1,5 @@
 -- A run: the blocks that agree on all free edges but the first two.
-use Rattle.std.specs.Prelude.{ℕ, ◌+◌, ◌-◌, ◌*◌, ◌^◌, ◌<◌, ◌≤◌, true, ◌≡◌, ℤ, pos, nat_abs, ◌+ℤ◌, ◌*ℤ◌, get_or, length}
+use Rattle.std.specs.Prelude.{ℕ, ◌+◌, ◌-◌, ◌^◌, ◌<◌, ◌≤◌, true, ◌≡◌, ℤ, pos, nat_abs, ◌+ℤ◌, ◌*ℤ◌, get_or, length}
 use mathlib.Core.List.{List, flat_map}
 use Rattle.mathematics.specs.Integers.{equal}
 use Rattle.mathematics.specs.Counting.{below}

@@ -1,4 +1,4 @@
-use Prim.Native.Nat.{◌<◌, ◌≤◌, ◌-◌, ◌+◌}
+use Prim.Native.Nat.{◌<◌, ◌≤◌, ◌-◌}
 use mathlib.Core.List.{◌++◌}
 use mathlib.Core.Path.{◌≡◌, refl, ap, ◌∙◌}
 use native.Mathlib.Omega.{arith}

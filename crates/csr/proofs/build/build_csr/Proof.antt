@@ -10,7 +10,6 @@ use Rattle.mathematics.specs.Refusals.{first}
 use Rattle.mathematics.proofs.Tests.{or_fell}
 use Rattle.mathematics.proofs.Calls.{none, here, past, refuses, ends}
 use Rattle.complex.specs.Complex.{Complex, complex_of}
-use Rattle.complex.specs.Judge.{refusal}
 use Rattle.complex.proofs.Accepting.{accepted}
 use Rattle.enumeration.specs.Enumeration.{short, BasisWalks, Answerable}
 use Rattle.gauss_law.specs.Listing.{states}

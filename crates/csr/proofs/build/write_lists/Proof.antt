@@ -5,7 +5,6 @@ use lib.ListN.{length}
 use Rattle.complex.specs.Complex.{Complex, complex_of}
 use Rattle.triangles.proofs.SidesFound.{triangles_long}
 use Rattle.matrices.specs.Weights.{weight}
-use Rattle.gauss_law.specs.Listing.{states}
 use Rattle.plaquettes.specs.Targets.{BasisList}
 use Rattle.plaquettes.proofs.Listed.{small_rows}
 use Rattle.entries.specs.Rows.{csr_entries}

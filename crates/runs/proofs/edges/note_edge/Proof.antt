@@ -8,9 +8,6 @@ use Rattle.runs.proofs.EdgeLists.{edges_same, edges_more}
 use borrow.Author.Rules.{rules}
 use Rattle.runs.proofs.edges.note_edge.Statement.{statement}
 use Rattle.runs.proofs.edges.note_edge.Tie as tie
-use Rattle.runs.proofs.edges.note_edge.Reads as reads
-use Rattle.runs.proofs.edges.note_edge.Lts as lts
-use Rattle.runs.proofs.edges.kind.Reads as kind-reads
 
 -- the test of the code
 test : (c : tie.After-kind) (b : Bool) → eqb c.kind.result c.before.before.before.args.k ≡ b
