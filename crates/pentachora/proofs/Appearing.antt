@@ -137,9 +137,9 @@ pub right_rises : (n : ℕ) (l : List ℕ) → pentachora_right n l ≡ true →
 unfolding pentachora_right pentachoron_right pentachora
 right_rises n l h p pl =
     let ps = simplices 5 l (length l / 5) in
-    let All-right = (and_parts (eqb (length l % 5) 0) (every_entry (pentachoron_right n) ps) h).1 in
+    let are_right = (and_parts (eqb (length l % 5) 0) (every_entry (pentachoron_right n) ps) h).1 in
     let here : p < length ps = omega (arith, simplices_length 5 l (length l / 5)) in
-    let one : pentachoron_right n (entries l (5 * p) 5) ≡ true = rw (simplex_at 5 l (length l / 5) p pl) at (all_at (pentachoron_right n) [] ps All-right p here) in
+    let one : pentachoron_right n (entries l (5 * p) 5) ≡ true = rw (simplex_at 5 l (length l / 5) p pl) at (all_at (pentachoron_right n) [] ps are_right p here) in
     let parts = and_parts _ _ one in
     sorted_rises n (entries l (5 * p) 5) parts.0 parts.1
 

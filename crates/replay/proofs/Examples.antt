@@ -15,7 +15,7 @@ use Rattle.complex.specs.Search.{whole_search, served, serve, scan, look, touche
 use Rattle.complex.specs.Sides.{sides}
 use Rattle.triangles.specs.Indices.{indices_call}
 use Rattle.sheet.specs.Sheet.{word, padded, sheet_in, header_tests}
-use Rattle.matrices.specs.Coupling.{float_of as Whole-Float}
+use Rattle.matrices.specs.Coupling.{float_of as whole_float}
 use Rattle.matrices.specs.Weights.{bounded}
 use Rattle.rows.specs.Entries.{pairs}
 use Rattle.matvec.specs.Product.{row_entries, with_products, row_sum, product, never_falls, starts_right, columns_right, value_right, product_call}

@@ -30,7 +30,7 @@ record Parts (m e : ℕ) (g : Growth) : Type 0 where
   count : total (head g) m + e ≡ m + length g.closing
 
 -- ---- one edge more
-module _ (m e : ℕ) (g : Growth) (s : Simplex) (start_below : start s < m) (end_Below : end s < m) (f : Parts m e g) where
+module _ (m e : ℕ) (g : Growth) (s : Simplex) (start_below : start s < m) (end_below : end s < m) (f : Parts m e g) where
   parts_closed : Parts m (suc e) (loop_closed g s e)
   unfolding loop_closed
   parts_closed = record { settled = f.settled; inside = f.inside; count = omega (arith, f.count, length-append g.closing (e ∷ [])) }
@@ -73,7 +73,7 @@ module _ (m e : ℕ) (g : Growth) (s : Simplex) (start_below : start s < m) (end
     parts_joined = record {
       settled = joined_settled;
       inside = joined_inside;
-      count = omega (arith, f.count, total_more (head g) (head new) r m (f.inside (end s) end_Below) joined_head (λ v l. joined_same v));
+      count = omega (arith, f.count, total_more (head g) (head new) r m (f.inside (end s) end_below) joined_head (λ v l. joined_same v));
     }
 
 -- ---- the first e edges

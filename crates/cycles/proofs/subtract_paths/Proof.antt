@@ -41,20 +41,20 @@ overflow_add-cycles-in-loop-e c = search rules
 bounds-paths-b : tie.Need-bounds-paths-b invariant-loop-e decreases-loop-e
 bounds-paths-b c = search rules
 
-abbrev x-of : tie.After-cycles-in-loop-e-1 invariant-loop-e decreases-loop-e → ℤ
-x-of c = get_or c.before.before.before.before.args.paths.now (63 * c.before.before.before.before.args.a + c.before.before.before.loop-e.e) (pos 0)
+abbrev x_of : tie.After-cycles-in-loop-e-1 invariant-loop-e decreases-loop-e → ℤ
+x_of c = get_or c.before.before.before.before.args.paths.now (63 * c.before.before.before.before.args.a + c.before.before.before.loop-e.e) (pos 0)
 
 abbrev y_of : tie.After-cycles-in-loop-e-1 invariant-loop-e decreases-loop-e → ℤ
 y_of c = get_or c.before.before.before.before.args.paths.now (63 * c.before.before.before.before.args.b + c.before.before.before.loop-e.e) (pos 0)
 
-read : (c : tie.After-cycles-in-loop-e-1 invariant-loop-e decreases-loop-e) → to_z w8 (of_z w8 (x-of c)) -ℤ to_z w8 (of_z w8 (y_of c)) ≡ x-of c -ℤ y_of c
-read c = ap₂ ◌-ℤ◌ (back8 (x-of c) c.before.cycles-1.given) (back8 (y_of c) c.cycles-in-loop-e-1.given)
+read : (c : tie.After-cycles-in-loop-e-1 invariant-loop-e decreases-loop-e) → to_z w8 (of_z w8 (x_of c)) -ℤ to_z w8 (of_z w8 (y_of c)) ≡ x_of c -ℤ y_of c
+read c = ap₂ ◌-ℤ◌ (back8 (x_of c) c.before.cycles-1.given) (back8 (y_of c) c.cycles-in-loop-e-1.given)
 
 overflow_sub-cycles : tie.Need-overflow_sub-cycles invariant-loop-e decreases-loop-e
 overflow_sub-cycles c =
     let at_loop = c.before.before.before in
-    let small : nat_abs (x-of c -ℤ y_of c) ≤ 1 = at_loop.before.requires.1.signs at_loop.loop-e.e (omega arith) in
-    rw (read c) (size_fits w8 (x-of c -ℤ y_of c) (omega arith))
+    let small : nat_abs (x_of c -ℤ y_of c) ≤ 1 = at_loop.before.requires.1.signs at_loop.loop-e.e (omega arith) in
+    rw (read c) (size_fits w8 (x_of c -ℤ y_of c) (omega arith))
 
 overflow_mul-j : tie.Need-overflow_mul-j invariant-loop-e decreases-loop-e
 overflow_mul-j c = search rules

@@ -8,13 +8,13 @@ use borrow.Author.Rules.{rules}
 use Rattle.held_rows.proofs.judge_lists.Statement.{statement}
 use Rattle.held_rows.proofs.judge_lists.Tie as tie
 
-abbrev at-start : tie.Else-starts_right-columns_right → tie.Start
-at-start c = c.before.before.before.before.before.before.before.before
+abbrev at_start : tie.Else-starts_right-columns_right → tie.Start
+at_start c = c.before.before.before.before.before.before.before.before
 
-places_fit : (c : tie.Else-starts_right-columns_right) → list_places_wrong (at-start c).args.starts.now (at-start c).args.columns.now ≡ false
+places_fit : (c : tie.Else-starts_right-columns_right) → list_places_wrong (at_start c).args.starts.now (at_start c).args.columns.now ≡ false
 places_fit c = rw (c.before.before.starts_right.ensures, c.before.columns_right.ensures, c.before.before.before.count_rows-n.ensures) at c.if-starts_right-columns_right.false
 
-values_fit : (c : tie.Else-not-values_right) → values_wrong (at-start c.before.before).args.values.now ≡ false
+values_fit : (c : tie.Else-not-values_right) → values_wrong (at_start c.before.before).args.values.now ≡ false
 values_fit c = rw c.before.values_right.ensures at (ap not c.if-not-values_right.false)
 
 returns-then-starts-columns : tie.Need-returns-then-starts-columns
@@ -49,7 +49,7 @@ unfolding lists_call product_answer
 returns c =
     let placed = c.before.before in
     let lengths = placed.before.before.before.before.if-starts-columns.false in
-    let a = (at-start placed).args in
+    let a = (at_start placed).args in
     ends (lists_call a.starts.now a.columns.now a.values.now) (past lengths (past (places_fit placed) (past (values_fit c) none))) placed.before.before.before.count_rows-n.ensures refl (lists_valid _ _ _ lengths (places_fit placed) (values_fit c))
 
 pub judge_lists_spec : {M : Type 1} → statement M

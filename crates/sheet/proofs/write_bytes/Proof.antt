@@ -45,16 +45,16 @@ copy-requires-3 c κs = search rules
 shape_of-out : tie.Need-shape_of-out
 shape_of-out c = search rules
 
-abbrev at-edges : tie.After-copy-arg-4-1 → tie.Start
-at-edges c = c.before.before.before.before.before.before.before.before.before.before.before
+abbrev at_edges : tie.After-copy-arg-4-1 → tie.Start
+at_edges c = c.before.before.before.before.before.before.before.before.before.before.before
 
-abbrev at-triangles : tie.After-copy-arg-7-1 → tie.Start
-at-triangles c = c.before.before.before.before.before.before.before.before.before.before.before.before.before.before.before.before.before
+abbrev at_triangles : tie.After-copy-arg-7-1 → tie.Start
+at_triangles c = c.before.before.before.before.before.before.before.before.before.before.before.before.before.before.before.before.before
 
-edges_long : (c : tie.After-copy-arg-4-1) → length (at-edges c).args.s.complex.edges ≡ 126
+edges_long : (c : tie.After-copy-arg-4-1) → length (at_edges c).args.s.complex.edges ≡ 126
 edges_long c = search rules
 
-triangles_long : (c : tie.After-copy-arg-7-1) → length (at-triangles c).args.s.complex.triangles ≡ 768
+triangles_long : (c : tie.After-copy-arg-7-1) → length (at_triangles c).args.s.complex.triangles ≡ 768
 triangles_long c = search rules
 
 -- src/lib.rt:166:1
@@ -62,7 +62,7 @@ returns : tie.Need-returns
 returns c =
     let third = c.before.before in
     let second = c.before.before.before.before.before.before.before.before.before in
-    let a = at-triangles c.before.before.before in
+    let a = at_triangles c.before.before.before in
     let el = edges_long second in
     let tl = triangles_long third.before in
     copied a.args.s el tl a.requires.edges a.requires.triangles _ _ _ _ _ c.header-first.ensures c.copy.ensures c.copy-2.ensures c.copy-3.ensures

@@ -40,33 +40,33 @@ sized c = c.if-configuration-m.false ∙ sym (edges_long c.before.before.before.
 edge : (c : tie.Else-m-edge) → c.before.before.before.before.args.edge < length (complex_of c.before.before.before.before.args.c).edges
 edge c = rw (edges_long c.before.before.before.before.args.c) (omega arith)
 
-abbrev at-start : tie.After-too_short → tie.Start
-at-start c = c.before.before.before.before.before.before
+abbrev at_start : tie.After-too_short → tie.Start
+at_start c = c.before.before.before.before.before.before
 
 -- the two lists are measured
-rooms : (c : tie.After-too_short) → (short (complex_of (at-start c).args.c) (at-start c).args.lambda (length (at-start c).args.states.now) || ltb (length (at-start c).args.res.now) (length (complex_of (at-start c).args.c).edges))
-    ≡ (c.too_short.result || ltb (length (at-start c).args.res.now) (at-start c).args.c.n_edges)
+rooms : (c : tie.After-too_short) → (short (complex_of (at_start c).args.c) (at_start c).args.lambda (length (at_start c).args.states.now) || ltb (length (at_start c).args.res.now) (length (complex_of (at_start c).args.c).edges))
+    ≡ (c.too_short.result || ltb (length (at_start c).args.res.now) (at_start c).args.c.n_edges)
 rooms c =
     let judged = c.before.before.before.before in
-    let start = at-start c in
+    let start = at_start c in
     let found = judged.before.prepare_basis-basis.result in
     let told = short_told (complex_of start.args.c) start.args.lambda found.walker found.blocks (basis judged) (length start.args.states.now) ∙ sym c.too_short.ensures in
     rw (told, edges_long start.args.c)
 
-room : (c : tie.Else-too_short-res) → (short (complex_of (at-start c.before).args.c) (at-start c.before).args.lambda (length (at-start c.before).args.states.now) || ltb (length (at-start c.before).args.res.now) (length (complex_of (at-start c.before).args.c).edges)) ≡ false
+room : (c : tie.Else-too_short-res) → (short (complex_of (at_start c.before).args.c) (at_start c.before).args.lambda (length (at_start c.before).args.states.now) || ltb (length (at_start c.before).args.res.now) (length (complex_of (at_start c.before).args.c).edges)) ≡ false
 room c = rooms c.before ∙ c.if-too_short-res.false
 
-enough_room : (c : tie.Else-too_short-res) → (short (complex_of (at-start c.before).args.c) (at-start c.before).args.lambda (length (at-start c.before).args.states.now) ≡ false) × (length (complex_of (at-start c.before).args.c).edges ≤ length (at-start c.before).args.res.now)
+enough_room : (c : tie.Else-too_short-res) → (short (complex_of (at_start c.before).args.c) (at_start c.before).args.lambda (length (at_start c.before).args.states.now) ≡ false) × (length (complex_of (at_start c.before).args.c).edges ≤ length (at_start c.before).args.res.now)
 enough_room c =
-    let start = at-start c.before in
+    let start = at_start c.before in
     let fell = or_fell (short (complex_of start.args.c) start.args.lambda (length start.args.states.now)) (ltb (length start.args.res.now) (length (complex_of start.args.c).edges)) (room c) in
     (fell.0, ltb-false _ _ fell.1)
 
 -- the value of the edge is in the band
-band_told : (c : tie.After-sum_within) → within (at-start c.before.before.before).args.lambda (raised (at-start c.before.before.before).args.configuration.now (at-start c.before.before.before).args.edge (at-start c.before.before.before).args.delta) ≡ c.sum_within.result
+band_told : (c : tie.After-sum_within) → within (at_start c.before.before.before).args.lambda (raised (at_start c.before.before.before).args.configuration.now (at_start c.before.before.before).args.edge (at_start c.before.before.before).args.delta) ≡ c.sum_within.result
 unfolding raised
 band_told c =
-    let start = at-start c.before.before.before in
+    let start = at_start c.before.before.before in
     rw (c.sum_within.ensures, back32 (get_or start.args.configuration.now start.args.edge (pos 0)) c.before.sum_within-arg-1.given, back32 start.args.delta start.ranges.delta.sfits)
 
 prepare_basis-basis-requires : tie.Need-prepare_basis-basis-requires
@@ -128,7 +128,7 @@ sum-value-requires : tie.Need-sum-value-requires
 unfolding within raised
 sum-value-requires c κs =
     let fits = c.before.before in
-    let start = at-start fits.before.before.before in
+    let start = at_start fits.before.before.before in
     let truncation = (basis fits.before.before.before.before.before.before.before).truncation in
     let small : nat_abs (◌+ℤ◌ (get_or start.args.configuration.now start.args.edge (pos 0)) start.args.delta) ≤ start.args.lambda = leb-true _ _ (band_told fits ∙ not-false _ (ap not c.before.if-not-sum_within.false)) in
     rw (back32 (get_or start.args.configuration.now start.args.edge (pos 0)) c.sum-arg-1.given, back32 start.args.delta start.ranges.delta.sfits) (omega (arith, small, truncation))
@@ -140,13 +140,13 @@ shifted_row-shifted-requires c κs =
     (rw (sized long) (edge edge_is), rw c.before.before.before.before.before.before.before.before.before.if-configuration-m.false (edges_few long.before))
 
 abbrev row_start : tie.After-shifted_row-shifted → tie.Start
-row_start c = at-start c.before.before.before.before.before.before.before
+row_start c = at_start c.before.before.before.before.before.before.before
 
 -- the value that goes to the edge
-value : (c : tie.After-sum-value) → to_z w32 (of_z w32 c.sum-value.result) ≡ raised (at-start c.before.before.before.before.before.before).args.configuration.now (at-start c.before.before.before.before.before.before).args.edge (at-start c.before.before.before.before.before.before).args.delta
+value : (c : tie.After-sum-value) → to_z w32 (of_z w32 c.sum-value.result) ≡ raised (at_start c.before.before.before.before.before.before).args.configuration.now (at_start c.before.before.before.before.before.before).args.edge (at_start c.before.before.before.before.before.before).args.delta
 unfolding raised
 value c =
-    let start = at-start c.before.before.before.before.before.before in
+    let start = at_start c.before.before.before.before.before.before in
     back32 c.sum-value.result c.sum-value.type_inv ∙ c.sum-value.ensures ∙ rw (back32 (get_or start.args.configuration.now start.args.edge (pos 0)) c.before.sum-arg-1.given, back32 start.args.delta start.ranges.delta.sfits)
 
 -- the front of the row is the shifted configuration

@@ -25,8 +25,8 @@ use borrow.Author.Rules.{rules}
 use Rattle.su2_loops.proofs.loop_expectation.Statement.{statement}
 use Rattle.su2_loops.proofs.loop_expectation.Tie as tie
 
-abbrev at-start : tie.Else-count-gt20 → tie.Start
-at-start c = c.before.before.before.before.before.before.before
+abbrev at_start : tie.Else-count-gt20 → tie.Start
+at_start c = c.before.before.before.before.before.before.before
 
 good : (c : tie.Else-number-ne0) → refusal (complex_of c.before.before.before.before.before.args.c) ≡ 0
 good c = sym c.before.judge-number.ensures ∙ c.if-number-ne0.false
@@ -34,26 +34,26 @@ good c = sym c.before.judge-number.ensures ∙ c.if-number-ne0.false
 few : (c : tie.Else-count-gt20) → c.before.closing_loops-f.result.count ≤ 20
 few c = omega arith
 
-loops : (c : tie.Else-count-gt20) → LoopsOf (complex_of (at-start c).args.c) c.before.closing_loops-f.result
+loops : (c : tie.Else-count-gt20) → LoopsOf (complex_of (at_start c).args.c) c.before.closing_loops-f.result
 loops c = loops_of _ (good c.before.before) _ c.before.closing_loops-f.ensures
 
 -- the number of states, as the code makes it
-number : (c : tie.Else-count-gt20) → 1 * 2 ^ c.before.closing_loops-f.result.count % 2 ^ 64 ≡ length (su2_states (complex_of (at-start c).args.c))
+number : (c : tie.Else-count-gt20) → 1 * 2 ^ c.before.closing_loops-f.result.count % 2 ^ 64 ≡ length (su2_states (complex_of (at_start c).args.c))
 number c = power_shifted c.before.closing_loops-f.result.count (omega (arith, few c)) ∙ sym (states_number _ _ (loops c))
 
 -- the amplitudes and the path are judged by the definition's own tests
 abbrev tested : tie.Else-count-gt20 → List (ℕ × Bool)
 tested c =
-    let a = (at-start c).args in
+    let a = (at_start c).args in
     loop_tests (length (su2_states (complex_of a.c))) (length (complex_of a.c).edges) a.vector.now a.path.now
 
 judged : (c : tie.After-judge_loop-other) → c.judge_loop-other.result ≡ first (tested c.before)
-judged c = rw (edges_long (at-start c.before).args.c, ← (number c.before)) c.judge_loop-other.ensures
+judged c = rw (edges_long (at_start c.before).args.c, ← (number c.before)) c.judge_loop-other.ensures
 
 passed : (c : tie.Else-other-ne0) → first (tested c.before.before) ≡ 0
 passed c = sym (judged c.before) ∙ c.if-other-ne0.false
 
-room : (c : tie.Else-states-n) → length (su2_states (complex_of (at-start c.before.before.before).args.c)) ≤ length (at-start c.before.before.before).args.states.now
+room : (c : tie.Else-states-n) → length (su2_states (complex_of (at_start c.before.before.before).args.c)) ≤ length (at_start c.before.before.before).args.states.now
 room c = rw (number c.before.before.before) at c.if-states-n.false
 
 judge-number-requires : tie.Need-judge-number-requires

@@ -27,8 +27,8 @@ use borrow.Author.Rules.{rules}
 use Rattle.su2_products.proofs.su2_hamiltonian_matvec.Statement.{statement}
 use Rattle.su2_products.proofs.su2_hamiltonian_matvec.Tie as tie
 
-abbrev at-start : tie.Else-count-gt20 → tie.Start
-at-start c = c.before.before.before.before.before.before.before.before
+abbrev at_start : tie.Else-count-gt20 → tie.Start
+at_start c = c.before.before.before.before.before.before.before.before
 
 good : (c : tie.Else-number-ne0) → refusal (complex_of c.before.before.before.before.before.before.args.c) ≡ 0
 good c = sym c.before.judge-number.ensures ∙ c.if-number-ne0.false
@@ -36,28 +36,28 @@ good c = sym c.before.judge-number.ensures ∙ c.if-number-ne0.false
 few : (c : tie.Else-count-gt20) → c.before.closing_loops-f.result.count ≤ 20
 few c = omega arith
 
-loops : (c : tie.Else-count-gt20) → LoopsOf (complex_of (at-start c).args.c) c.before.closing_loops-f.result
+loops : (c : tie.Else-count-gt20) → LoopsOf (complex_of (at_start c).args.c) c.before.closing_loops-f.result
 loops c = loops_of _ (good c.before.before) _ c.before.closing_loops-f.ensures
 
 -- the number of states, as the code makes it
-number : (c : tie.Else-count-gt20) → 1 * 2 ^ c.before.closing_loops-f.result.count % 2 ^ 64 ≡ length (su2_states (complex_of (at-start c).args.c))
+number : (c : tie.Else-count-gt20) → 1 * 2 ^ c.before.closing_loops-f.result.count % 2 ^ 64 ≡ length (su2_states (complex_of (at_start c).args.c))
 number c = power_shifted c.before.closing_loops-f.result.count (omega (arith, few c)) ∙ sym (states_number _ _ (loops c))
 
 -- the weights, the coupling and the amplitudes are judged by the definition's own tests
 abbrev tested : tie.Else-count-gt20 → List (ℕ × Bool)
 tested c =
-    let a = (at-start c).args in
+    let a = (at_start c).args in
     vector_tests (length (su2_states (complex_of a.c))) a.vector.now (length (complex_of a.c).triangles) (su2_right a.p) a.given a.weights.now
 
 judged : (c : tie.After-judge_vector-other) → c.judge_vector-other.result ≡ first (tested c.before.before)
-judged c = rw (triangles_long (at-start c.before.before).args.c, ← (number c.before.before), ← c.before.is_su2.ensures) c.judge_vector-other.ensures
+judged c = rw (triangles_long (at_start c.before.before).args.c, ← (number c.before.before), ← c.before.is_su2.ensures) c.judge_vector-other.ensures
 
 passed : (c : tie.Else-other-ne0) → first (tested c.before.before.before) ≡ 0
 passed c = sym (judged c.before) ∙ c.if-other-ne0.false
 
 abbrev too_short : tie.Else-count-gt20 → Bool
 too_short c =
-    let a = (at-start c).args in
+    let a = (at_start c).args in
     let n = length (su2_states (complex_of a.c)) in
     ltb (length a.states.now) n || ltb (length a.res.now) n
 

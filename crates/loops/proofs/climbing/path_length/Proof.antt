@@ -95,21 +95,21 @@ across-y-requires c κs =
     let down = c.before.before.before in
     rw c.byte-else-parents-y.ensures (second_edge (start (down_turn down)).requires.0 (apart (down_turn down)) down.if-parents-y.false)
 
-abbrev down-from : tie.After-across-y invariant-loop-x decreases-loop-x → Down
-down-from c = c.before.before.before.before
+abbrev down_from : tie.After-across-y invariant-loop-x decreases-loop-x → Down
+down_from c = c.before.before.before.before
 
 reached : (c : tie.After-across-y invariant-loop-x decreases-loop-x)
-    → let turn = down_turn (down-from c) in SecondClimbs (start turn).args.c (start turn).args.parents (at_loop turn).loop-x.x (at_loop turn).loop-x.y c.across-y.result
+    → let turn = down_turn (down_from c) in SecondClimbs (start turn).args.c (start turn).args.parents (at_loop turn).loop-x.x (at_loop turn).loop-x.y c.across-y.result
 reached c =
-    let turn = down_turn (down-from c) in
-    second_climbs (start turn).requires.0 (apart turn) (down-from c).if-parents-y.false (rw c.before.byte-else-parents-y.ensures at c.across-y.ensures)
+    let turn = down_turn (down_from c) in
+    second_climbs (start turn).requires.0 (apart turn) (down_from c).if-parents-y.false (rw c.before.byte-else-parents-y.ensures at c.across-y.ensures)
 
 loop-x-smaller : tie.Need-loop-x-smaller invariant-loop-x decreases-loop-x
 loop-x-smaller c = let q = (reached c).shorter in omega arith
 
 loop-x-preserved : tie.Need-loop-x-preserved invariant-loop-x decreases-loop-x
 loop-x-preserved c =
-    let inv = (at_loop (down_turn (down-from c))).loop-x.invariant in
+    let inv = (at_loop (down_turn (down_from c))).loop-x.invariant in
     let q = (reached c).shorter in
     (inv.0, (reached c).below, omega (arith, inv.2))
 

@@ -85,20 +85,20 @@ byte-requires c κs = tt
 direction-requires : tie.Need-direction-requires invariant-loop-x decreases-loop-x
 direction-requires c κs = rw c.byte.ensures (up_edge c.before.before.before)
 
-abbrev up-directed : tie.After-direction invariant-loop-x decreases-loop-x → Up
-up-directed c = c.before.before.before.before
+abbrev up_directed : tie.After-direction invariant-loop-x decreases-loop-x → Up
+up_directed c = c.before.before.before.before
 
 bounds-directions-front : tie.Need-bounds-directions-front invariant-loop-x decreases-loop-x
-bounds-directions-front c = let r = room (up_turn (up-directed c)) in omega (arith, r.some, r.directions)
+bounds-directions-front c = let r = room (up_turn (up_directed c)) in omega (arith, r.some, r.directions)
 
 byte-requires-then-parents-y : tie.Need-byte-requires-then-parents-y invariant-loop-x decreases-loop-x
 byte-requires-then-parents-y c κs = tt
 
 across-x-requires : tie.Need-across-x-requires invariant-loop-x decreases-loop-x
-across-x-requires c κs = rw c.byte-then-parents-y.ensures (up_edge (up-directed c.before.before))
+across-x-requires c κs = rw c.byte-then-parents-y.ensures (up_edge (up_directed c.before.before))
 
 abbrev up_from : tie.After-across-x invariant-loop-x decreases-loop-x → Up
-up_from c = up-directed c.before.before.before
+up_from c = up_directed c.before.before.before
 
 overflow_add-front : tie.Need-overflow_add-front invariant-loop-x decreases-loop-x
 overflow_add-front c = let r = room (up_turn (up_from c)) in search rules
@@ -114,7 +114,7 @@ loop-x-smaller-then-parents-y c = let q = (climbed c).shorter in omega arith
 
 -- the direction is stored as it was found
 way_up : (c : tie.After-direction invariant-loop-x decreases-loop-x)
-    → let turn = up_turn (up-directed c) in
+    → let turn = up_turn (up_directed c) in
     to_z w8 (of_z w8 c.direction.result) ≡ direction_of (step_read (start turn).args.c (led_by (start turn).args.parents (at_loop turn).loop-x.x) (at_loop turn).loop-x.x)
 way_up c = back8 c.direction.result c.direction.type_inv ∙ (rw c.before.byte.ensures at c.direction.ensures)
 
@@ -148,52 +148,52 @@ byte-requires-else-parents-y c κs = tt
 across-y-requires : tie.Need-across-y-requires invariant-loop-x decreases-loop-x
 across-y-requires c κs = rw c.byte-else-parents-y.ensures (down_edge c.before.before.before)
 
-abbrev down-from : tie.After-across-y invariant-loop-x decreases-loop-x → Down
-down-from c = c.before.before.before.before
+abbrev down_from : tie.After-across-y invariant-loop-x decreases-loop-x → Down
+down_from c = c.before.before.before.before
 
 overflow_sub-back : tie.Need-overflow_sub-back invariant-loop-x decreases-loop-x
-overflow_sub-back c = let r = room (down_turn (down-from c)) in omega (arith, r.some)
+overflow_sub-back c = let r = room (down_turn (down_from c)) in omega (arith, r.some)
 
 bounds-edges-back : tie.Need-bounds-edges-back invariant-loop-x decreases-loop-x
-bounds-edges-back c = let r = room (down_turn (down-from c)) in omega (arith, r.some, r.edges)
+bounds-edges-back c = let r = room (down_turn (down_from c)) in omega (arith, r.some, r.edges)
 
 byte-requires-else-parents-y-2 : tie.Need-byte-requires-else-parents-y-2 invariant-loop-x decreases-loop-x
 byte-requires-else-parents-y-2 c κs = tt
 
 direction-requires-else-parents-y : tie.Need-direction-requires-else-parents-y invariant-loop-x decreases-loop-x
-direction-requires-else-parents-y c κs = rw c.byte-else-parents-y-2.ensures (down_edge (down-from c.before.before))
+direction-requires-else-parents-y c κs = rw c.byte-else-parents-y-2.ensures (down_edge (down_from c.before.before))
 
-abbrev down-directed : tie.After-direction-else-parents-y invariant-loop-x decreases-loop-x → tie.After-across-y invariant-loop-x decreases-loop-x
-down-directed c = c.before.before.before
+abbrev down_directed : tie.After-direction-else-parents-y invariant-loop-x decreases-loop-x → tie.After-across-y invariant-loop-x decreases-loop-x
+down_directed c = c.before.before.before
 
 bounds-directions-back : tie.Need-bounds-directions-back invariant-loop-x decreases-loop-x
-bounds-directions-back c = let r = room (down_turn (down-from (down-directed c))) in omega (arith, r.some, r.directions)
+bounds-directions-back c = let r = room (down_turn (down_from (down_directed c))) in omega (arith, r.some, r.directions)
 
 reached : (c : tie.After-across-y invariant-loop-x decreases-loop-x)
-    → let turn = down_turn (down-from c) in SecondClimbs (start turn).args.c (start turn).args.parents (at_loop turn).loop-x.x (at_loop turn).loop-x.y c.across-y.result
+    → let turn = down_turn (down_from c) in SecondClimbs (start turn).args.c (start turn).args.parents (at_loop turn).loop-x.x (at_loop turn).loop-x.y c.across-y.result
 reached c =
-    let turn = down_turn (down-from c) in
-    second_climbs (start turn).requires.0 (apart turn) (down-from c).if-parents-y.false (rw c.before.byte-else-parents-y.ensures at c.across-y.ensures)
+    let turn = down_turn (down_from c) in
+    second_climbs (start turn).requires.0 (apart turn) (down_from c).if-parents-y.false (rw c.before.byte-else-parents-y.ensures at c.across-y.ensures)
 
 loop-x-smaller : tie.Need-loop-x-smaller invariant-loop-x decreases-loop-x
-loop-x-smaller c = let q = (reached (down-directed c)).shorter in omega arith
+loop-x-smaller c = let q = (reached (down_directed c)).shorter in omega arith
 
 way_down : (c : tie.After-direction-else-parents-y invariant-loop-x decreases-loop-x)
-    → let turn = down_turn (down-from (down-directed c)) in
-    to_z w8 (of_z w8 c.direction-else-parents-y.result) ≡ direction_of (step_read (start turn).args.c (led_by (start turn).args.parents (at_loop turn).loop-x.y) (down-directed c).across-y.result)
+    → let turn = down_turn (down_from (down_directed c)) in
+    to_z w8 (of_z w8 c.direction-else-parents-y.result) ≡ direction_of (step_read (start turn).args.c (led_by (start turn).args.parents (at_loop turn).loop-x.y) (down_directed c).across-y.result)
 way_down c = back8 c.direction-else-parents-y.result c.direction-else-parents-y.type_inv ∙ (rw c.before.byte-else-parents-y-2.ensures at c.direction-else-parents-y.ensures)
 
 -- the place before back is the one behind the rest of the path
 last_place : (c : tie.After-across-y invariant-loop-x decreases-loop-x)
-    → let turn = down_turn (down-from c) in
+    → let turn = down_turn (down_from c) in
     (at_loop turn).loop-x.back - 1 ≡ (at_loop turn).loop-x.front + length (path (complex_of (start turn).args.c) (at_loop turn).loop-x.x c.across-y.result)
-last_place c = let q = (reached c).shorter in omega (arith, (at_loop (down_turn (down-from c))).loop-x.invariant.2)
+last_place c = let q = (reached c).shorter in omega (arith, (at_loop (down_turn (down_from c))).loop-x.invariant.2)
 
 loop-x-preserved : tie.Need-loop-x-preserved invariant-loop-x decreases-loop-x
 loop-x-preserved c =
-    let d = reached (down-directed c) in
-    let k = last_place (down-directed c) in
-    let inv = (at_loop (down_turn (down-from (down-directed c)))).loop-x.invariant in (
+    let d = reached (down_directed c) in
+    let k = last_place (down_directed c) in
+    let inv = (at_loop (down_turn (down_from (down_directed c)))).loop-x.invariant in (
       inv.0,
       d.below,
       k,

@@ -8,16 +8,16 @@ use borrow.Author.Rules.{rules}
 use Rattle.matvec.proofs.product.matvec.Statement.{statement}
 use Rattle.matvec.proofs.product.matvec.Tie as tie
 
-abbrev at-start : tie.Else-starts_right-columns_right → tie.Start
-at-start c = c.before.before.before.before.before.before.before.before.before
+abbrev at_start : tie.Else-starts_right-columns_right → tie.Start
+at_start c = c.before.before.before.before.before.before.before.before.before
 
-places_fit : (c : tie.Else-starts_right-columns_right) → places_wrong (at-start c).args.starts.now (at-start c).args.columns.now (at-start c).args.vector.now ≡ false
+places_fit : (c : tie.Else-starts_right-columns_right) → places_wrong (at_start c).args.starts.now (at_start c).args.columns.now (at_start c).args.vector.now ≡ false
 places_fit c = rw (c.before.before.starts_right.ensures, c.before.columns_right.ensures) at c.if-starts_right-columns_right.false
 
-numbers_fit : (c : tie.Else-values_right-all_bounded) → numbers_wrong (at-start c.before.before.before).args.values.now (at-start c.before.before.before).args.vector.now ≡ false
+numbers_fit : (c : tie.Else-values_right-all_bounded) → numbers_wrong (at_start c.before.before.before).args.values.now (at_start c.before.before.before).args.vector.now ≡ false
 numbers_fit c = rw (c.before.before.values_right.ensures, c.before.all_bounded.ensures) at c.if-values_right-all_bounded.false
 
-valid : (c : tie.Else-values_right-all_bounded) → Valid (at-start c.before.before.before).args.starts.now (at-start c.before.before.before).args.columns.now (at-start c.before.before.before).args.values.now (at-start c.before.before.before).args.vector.now
+valid : (c : tie.Else-values_right-all_bounded) → Valid (at_start c.before.before.before).args.starts.now (at_start c.before.before.before).args.columns.now (at_start c.before.before.before).args.values.now (at_start c.before.before.before).args.vector.now
 valid c = fit_valid _ _ _ _ c.before.before.before.before.before.before.if-starts-n.false (places_fit c.before.before.before) (numbers_fit c)
 
 overflow_add-n : tie.Need-overflow_add-n
@@ -70,7 +70,7 @@ returns c =
     let enough = c.before.before.before.before in
     let right = enough.before in
     let placed = right.before.before.before in
-    let a = (at-start placed).args in
+    let a = (at_start placed).args in
     ends (product_call a.starts.now a.columns.now a.values.now a.vector.now a.res.now) (past placed.before.before.before.if-starts-n.false (past (places_fit placed) (past (numbers_fit right) (past (le-ltb _ _ enough.if-res-n.false) none)))) refl c.before.before.multiply.ensures (valid right)
 
 pub matvec_spec : {M : Type 1} → statement M

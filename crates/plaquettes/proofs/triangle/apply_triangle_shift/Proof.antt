@@ -35,19 +35,19 @@ edges_few c = rw (← (edges_long c.before.before.args.c)) (basis c).walks.accep
 counted : (c : tie.After-count_states-n) → c.count_states-n.result ≡ length (states (complex_of c.before.before.before.before.args.c) c.before.before.before.before.args.lambda)
 counted c = c.count_states-n.ensures ∙ ap length (basis c.before.before).listed
 
-abbrev at-start : tie.Else-c-triangle → tie.Start
-at-start c = c.before.before.before.before.before.before
+abbrev at_start : tie.Else-c-triangle → tie.Start
+at_start c = c.before.before.before.before.before.before
 
 abbrev judged : tie.Else-c-triangle → tie.Else-number-ne0
 judged c = c.before.before.before.before
 
-numbers : (c : tie.Else-c-triangle) → (leb (length (complex_of (at-start c).args.c).triangles) (at-start c).args.triangle || leb (length (states (complex_of (at-start c).args.c) (at-start c).args.lambda)) (at-start c).args.state) ≡ false
-numbers c = rw (triangles_long (at-start c).args.c, ← (counted c.before.before)) c.if-c-triangle.false
+numbers : (c : tie.Else-c-triangle) → (leb (length (complex_of (at_start c).args.c).triangles) (at_start c).args.triangle || leb (length (states (complex_of (at_start c).args.c) (at_start c).args.lambda)) (at_start c).args.state) ≡ false
+numbers c = rw (triangles_long (at_start c).args.c, ← (counted c.before.before)) c.if-c-triangle.false
 
 -- the triangle and the state are there
-there : (c : tie.Else-c-triangle) → ((at-start c).args.triangle < length (complex_of (at-start c).args.c).triangles) × ((at-start c).args.state < length (states (complex_of (at-start c).args.c) (at-start c).args.lambda))
+there : (c : tie.Else-c-triangle) → ((at_start c).args.triangle < length (complex_of (at_start c).args.c).triangles) × ((at_start c).args.state < length (states (complex_of (at_start c).args.c) (at_start c).args.lambda))
 there c =
-    let start = at-start c in
+    let start = at_start c in
     let fell = or_fell (leb (length (complex_of start.args.c).triangles) start.args.triangle) (leb (length (states (complex_of start.args.c) start.args.lambda)) start.args.state) (numbers c) in
     (leb-false _ _ fell.0, leb-false _ _ fell.1)
 
@@ -70,11 +70,11 @@ returns-then-c-triangle c =
 overflow_mul-n : tie.Need-overflow_mul-n
 overflow_mul-n c =
     let few : c.before.before.count_states-n.result ≤ 1048576 = rw (counted c.before.before) (basis (judged c)).few in
-    let most : c.before.before.count_states-n.result * (at-start c).args.c.n_edges ≤ 1048576 * 63 = mul-le-mul few (edges_few (judged c)) in
+    let most : c.before.before.count_states-n.result * (at_start c).args.c.n_edges ≤ 1048576 * 63 = mul-le-mul few (edges_few (judged c)) in
     search rules
 
 -- the front of the row is the state
-front : (c : tie.After-state_at-row) → take (length (complex_of (at-start c.before.before.before).args.c).edges) c.state_at-row.result ≡ get_or (states (complex_of (at-start c.before.before.before).args.c) (at-start c.before.before.before).args.lambda) (at-start c.before.before.before).args.state []
+front : (c : tie.After-state_at-row) → take (length (complex_of (at_start c.before.before.before).args.c).edges) c.state_at-row.result ≡ get_or (states (complex_of (at_start c.before.before.before).args.c) (at_start c.before.before.before).args.lambda) (at_start c.before.before.before).args.state []
 front c =
     let here = c.before.before.before in
     let b = basis (judged here) in
@@ -84,15 +84,15 @@ returns-then-states-n : tie.Need-returns-then-states-n
 unfolding short triangle_call number_answer
 returns-then-states-n c =
     let found = c.before in
-    shift_demanded _ _ _ _ _ _ _ (refuses _ (past_basis (judged found).before.prepare_basis-basis.ensures (judged found).if-number-ne0.false (past (numbers found) (here (rw (edges_long (at-start found).args.c, ← (counted found.before.before)) (lt-ltb _ _ c.if-states-n.true))))) refl)
+    shift_demanded _ _ _ _ _ _ _ (refuses _ (past_basis (judged found).before.prepare_basis-basis.ensures (judged found).if-number-ne0.false (past (numbers found) (here (rw (edges_long (at_start found).args.c, ← (counted found.before.before)) (lt-ltb _ _ c.if-states-n.true))))) refl)
 
-room : (c : tie.Else-states-n) → short (complex_of (at-start c.before).args.c) (at-start c.before).args.lambda (length (at-start c.before).args.states.now) ≡ false
+room : (c : tie.Else-states-n) → short (complex_of (at_start c.before).args.c) (at_start c.before).args.lambda (length (at_start c.before).args.states.now) ≡ false
 unfolding short
-room c = rw (edges_long (at-start c.before).args.c, ← (counted c.before.before.before)) (le-ltb _ _ c.if-states-n.false)
+room c = rw (edges_long (at_start c.before).args.c, ← (counted c.before.before.before)) (le-ltb _ _ c.if-states-n.false)
 
 triangle_sides-sides-requires : tie.Need-triangle_sides-sides-requires
 triangle_sides-sides-requires c κs =
-    let start = at-start c.before in
+    let start = at_start c.before in
     ((accepted _).1 (basis (judged c.before)).walks.accepted, rw (← (triangles_long start.args.c)) (there c.before).0)
 
 state_at-row-requires : tie.Need-state_at-row-requires
@@ -103,7 +103,7 @@ state_at-row-requires c κs =
 shiftable : (c : tie.After-state_at-row) → Shiftable c.state_at-row.result c.before.triangle_sides-sides.result
 shiftable c =
     let here = c.before.before.before in
-    let start = at-start here in
+    let start = at_start here in
     let b = basis (judged here) in
     row_shiftable (complex_of start.args.c) b.walks.accepted start.args.lambda start.args.triangle b.truncation (there here).0 c.before.triangle_sides-sides.result c.before.triangle_sides-sides.ensures
     c.state_at-row.result _ c.state_at-row.ensures.0 (front c) (state_there (complex_of start.args.c) b.walks.accepted start.args.lambda start.args.state (there here).1)
@@ -118,7 +118,7 @@ three_within-requires c κs =
     (rw made.shift_row.ensures (moved_row_long _ _ ready (pos 1)), (basis (judged made.before.before.before.before.before)).truncation, ready.first_below, ready.second_below, ready.third_below)
 
 abbrev row_start : tie.After-shift_row → tie.Start
-row_start c = at-start c.before.before.before.before.before
+row_start c = at_start c.before.before.before.before.before
 
 -- the front of the shifted row is the shifted state
 shifted_front : (c : tie.After-shift_row) → take (length (complex_of (row_start c).args.c).edges) c.shift_row.new.row ≡ shifted_state (complex_of (row_start c).args.c) (row_start c).args.lambda (row_start c).args.triangle (row_start c).args.state

@@ -40,24 +40,24 @@ loops c = loops_of _ (good c.before.before) _ c.before.closing_loops-f.ensures
 number : (c : tie.Else-count-gt20) → 1 * 2 ^ c.before.closing_loops-f.result.count % 2 ^ 64 ≡ 2 ^ c.before.closing_loops-f.result.count
 number c = power_shifted c.before.closing_loops-f.result.count (omega (arith, few c))
 
-abbrev at-start : tie.Else-other-ne0 → tie.Start
-at-start c = c.before.before.before.before.before.before.before.before.before.before
+abbrev at_start : tie.Else-other-ne0 → tie.Start
+at_start c = c.before.before.before.before.before.before.before.before.before.before
 
 -- the weights and the coupling are judged by the definition's own tests
 judged : (c : tie.After-judge_weights-other) → c.judge_weights-other.result ≡ first (weights_tests (length (complex_of c.before.before.before.before.before.before.before.before.before.args.c).triangles) (su2_right c.before.before.before.before.before.before.before.before.before.args.p) c.before.before.before.before.before.before.before.before.before.args.given c.before.before.before.before.before.before.before.before.before.args.weights.now)
 judged c = rw (triangles_long c.before.before.before.before.before.before.before.before.before.args.c, ← c.before.is_su2.ensures) c.judge_weights-other.ensures
 
-weighed : (c : tie.Else-other-ne0) → first (weights_tests (length (complex_of (at-start c).args.c).triangles) (su2_right (at-start c).args.p) (at-start c).args.given (at-start c).args.weights.now) ≡ 0
+weighed : (c : tie.Else-other-ne0) → first (weights_tests (length (complex_of (at_start c).args.c).triangles) (su2_right (at_start c).args.p) (at_start c).args.given (at_start c).args.weights.now) ≡ 0
 weighed c = sym (judged c.before) ∙ c.if-other-ne0.false
 
 abbrev states : tie.Else-other-ne0 → ℕ
 states c = 2 ^ c.before.before.before.before.closing_loops-f.result.count
 
-not_short : (c : tie.Else-states-n) → (ltb (length (at-start c.before).args.states.now) (states c.before) || ltb (length (at-start c.before).args.res.now) (states c.before * states c.before)) ≡ false
+not_short : (c : tie.Else-states-n) → (ltb (length (at_start c.before).args.states.now) (states c.before) || ltb (length (at_start c.before).args.res.now) (states c.before * states c.before)) ≡ false
 not_short c = rw (number c.before.before.before.before) at c.if-states-n.false
 
-room : (c : tie.Else-states-n) → (states c.before ≤ length (at-start c.before).args.states.now) × (states c.before * states c.before ≤ length (at-start c.before).args.res.now)
-room c = long_enough (states c.before) (length (at-start c.before).args.states.now) (length (at-start c.before).args.res.now) (not_short c)
+room : (c : tie.Else-states-n) → (states c.before ≤ length (at_start c.before).args.states.now) × (states c.before * states c.before ≤ length (at_start c.before).args.res.now)
+room c = long_enough (states c.before) (length (at_start c.before).args.states.now) (length (at_start c.before).args.res.now) (not_short c)
 
 judge-number-requires : tie.Need-judge-number-requires
 judge-number-requires c κs = search rules

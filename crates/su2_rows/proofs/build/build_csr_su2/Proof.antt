@@ -45,17 +45,17 @@ few_triangles c = rw (triangles_long c.before.before.before.before.before.before
 number : (c : tie.Else-count-gt20) → 1 * 2 ^ c.before.closing_loops-f.result.count % 2 ^ 64 ≡ 2 ^ c.before.closing_loops-f.result.count
 number c = power_shifted c.before.closing_loops-f.result.count (omega (arith, few c))
 
-abbrev at-start : tie.Else-other-ne0 → tie.Start
-at-start c = c.before.before.before.before.before.before.before.before.before.before.before.before
+abbrev at_start : tie.Else-other-ne0 → tie.Start
+at_start c = c.before.before.before.before.before.before.before.before.before.before.before.before
 
 -- the weights and the coupling are judged by the definition's own tests
 judged : (c : tie.After-judge_weights-other) → c.judge_weights-other.result ≡ first (weights_tests (length (complex_of c.before.before.before.before.before.before.before.before.before.before.before.args.c).triangles) (su2_right c.before.before.before.before.before.before.before.before.before.before.before.args.p) c.before.before.before.before.before.before.before.before.before.before.before.args.given c.before.before.before.before.before.before.before.before.before.before.before.args.weights.now)
 judged c = rw (triangles_long c.before.before.before.before.before.before.before.before.before.before.before.args.c, ← c.before.is_su2.ensures) c.judge_weights-other.ensures
 
-weighed : (c : tie.Else-other-ne0) → first (weights_tests (length (complex_of (at-start c).args.c).triangles) (su2_right (at-start c).args.p) (at-start c).args.given (at-start c).args.weights.now) ≡ 0
+weighed : (c : tie.Else-other-ne0) → first (weights_tests (length (complex_of (at_start c).args.c).triangles) (su2_right (at_start c).args.p) (at_start c).args.given (at_start c).args.weights.now) ≡ 0
 weighed c = sym (judged c.before) ∙ c.if-other-ne0.false
 
-right_coupling : (c : tie.Else-other-ne0) → su2_right (at-start c).args.p ≡ true
+right_coupling : (c : tie.Else-other-ne0) → su2_right (at_start c).args.p ≡ true
 right_coupling c = coupling_fits _ _ _ _ (weighed c)
 
 abbrev states : tie.Else-other-ne0 → ℕ
@@ -63,17 +63,17 @@ states c = 2 ^ c.before.before.before.before.closing_loops-f.result.count
 
 -- the number of entries, as the code makes it
 abbrev entries : tie.Else-other-ne0 → ℕ
-entries c = ((at-start c).args.c.n_triangles + 1) * states c - 1
+entries c = ((at_start c).args.c.n_triangles + 1) * states c - 1
 
-entries_are : (c : tie.Else-other-ne0) → su2_entries (complex_of (at-start c).args.c) (at-start c).args.p (weight (at-start c).args.given (at-start c).args.weights.now) ≡ entries c
+entries_are : (c : tie.Else-other-ne0) → su2_entries (complex_of (at_start c).args.c) (at_start c).args.p (weight (at_start c).args.given (at_start c).args.weights.now) ≡ entries c
 entries_are c =
     let of = loops c.before.before.before in
-    entries_number _ of.accepted _ (right_coupling c) _ ∙ rw (triangles_long (at-start c).args.c, states_number _ _ of)
+    entries_number _ of.accepted _ (right_coupling c) _ ∙ rw (triangles_long (at_start c).args.c, states_number _ _ of)
 
-not_short : (c : tie.Else-states-n) → (((ltb (length (at-start c.before.before).args.states.now) (states c.before.before) || ltb (length (at-start c.before.before).args.starts.now) (states c.before.before + 1)) || ltb (length (at-start c.before.before).args.columns.now) (entries c.before.before)) || ltb (length (at-start c.before.before).args.values.now) (entries c.before.before)) ≡ false
+not_short : (c : tie.Else-states-n) → (((ltb (length (at_start c.before.before).args.states.now) (states c.before.before) || ltb (length (at_start c.before.before).args.starts.now) (states c.before.before + 1)) || ltb (length (at_start c.before.before).args.columns.now) (entries c.before.before)) || ltb (length (at_start c.before.before).args.values.now) (entries c.before.before)) ≡ false
 not_short c = rw (number c.before.before.before.before.before) at c.if-states-n.false
 
-room : (c : tie.Else-states-n) → (states c.before.before ≤ length (at-start c.before.before).args.states.now) × (states c.before.before < length (at-start c.before.before).args.starts.now) × (entries c.before.before ≤ length (at-start c.before.before).args.columns.now) × (entries c.before.before ≤ length (at-start c.before.before).args.values.now)
+room : (c : tie.Else-states-n) → (states c.before.before ≤ length (at_start c.before.before).args.states.now) × (states c.before.before < length (at_start c.before.before).args.starts.now) × (entries c.before.before ≤ length (at_start c.before.before).args.columns.now) × (entries c.before.before ≤ length (at_start c.before.before).args.values.now)
 room c = long_enough (states c.before.before) (entries c.before.before) _ _ _ _ (not_short c)
 
 judge-number-requires : tie.Need-judge-number-requires
@@ -157,8 +157,8 @@ write_lists-requires c κs =
         states = number small;
         right = right_coupling right;
         starts_fit = rw (number small) (room enough).1;
-        columns_fit = rw (number small, triangles_long (at-start right).args.c) (room enough).2;
-        values_fit = rw (number small, triangles_long (at-start right).args.c) (room enough).3;
+        columns_fit = rw (number small, triangles_long (at_start right).args.c) (room enough).2;
+        values_fit = rw (number small, triangles_long (at_start right).args.c) (room enough).3;
       },
       weights_fit _ _ _ _ (weighed right),
       (_, rw (masks_are _ _ (loops small)) at masks.write_masks.ensures),
