@@ -105,5 +105,5 @@ record Floats : Type 0 where
   other_float : replayed (listed_cases (multiplying 28)) ≡ Cases 1 1
 
 floats : Floats
-unfolding replayed ends behind cases cases_from case_at size place field word well_formed differing keep agreed chosen rows_agreed matvec_agrees agrees tells leaves written zero_told product_call product row_sum with_products row_entries pairs starts_right never_falls columns_right value_right bounded Whole-Float every_entry every below first outcome signed equal number_at float_of numbers_in holds is_whole float_is is_nan nan_bits of_bits to_bits add mul neg le of_int
+unfolding replayed ends behind cases cases_from case_at size place field word well_formed differing keep agreed chosen rows_agreed matvec_agrees agrees tells leaves written zero_told product_call product row_sum with_products row_entries pairs starts_right never_falls columns_right value_right bounded whole_float every_entry every below first outcome signed equal number_at float_of numbers_in holds is_whole float_is is_nan nan_bits of_bits to_bits add mul neg le of_int
 floats = record { same_float = refl; other_float = refl }
