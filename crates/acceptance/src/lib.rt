@@ -9,7 +9,9 @@ ghost use Rattle.mathematics.specs.Refusals.{first};
 ghost use Rattle.complex.specs.Judge.{counts_right, rising, sides_listed, refusal, truncated_tests};
 ghost use Rattle.complex.specs.Numbering.{key, triangle_key, Keyed, EdgeTable, Judged};
 ghost use Rattle.acceptance.specs.Once.{EdgesIndexed, Marked};
+ghost use Rattle.answers.specs.Refusal.{judged};
 
+use answers::refusal::{Refusal, number_of};
 use complex::SimplicialComplex;
 use complex::search::connected;
 use numbers::sizes::{
@@ -150,50 +152,73 @@ pub fn counts_right(n: usize, m: usize, t: usize) -> bool
     (((1 <= n) & (n <= MOST_VERTICES)) & (m <= MOST_EDGES)) & (t <= MOST_TRIANGLES)
 }
 
-// The judge, with a table of zeros that is the index of the edges where the record is accepted.
-pub fn judge_indexed(c: SimplicialComplex, table: &mut [u8; 4096]) -> u8
+// Whether a record is accepted, or the first of 4, 7, 8 and 9 that refuses it. A table of zeros becomes the index of the edges of a record
+// that is accepted.
+pub fn accept_indexed(c: SimplicialComplex, table: &mut [u8; 4096]) -> Result<(), Refusal>
     requires { table.old ≡ replicate 4096 0 }
-    ensures { Judged c table.new result }
+    ensures { Judged c table.new (judged result) }
 {
     let n = c.n_vertices;
     let m = c.n_edges;
     let t = c.n_triangles;
     if !counts_right(n, m, t) {
-        return 4;
+        return Err(Refusal::WrongCounts);
     }
     if !edges_rise(&c.edges, n, m) {
-        return 7;
+        return Err(Refusal::WrongEdge);
     }
     if !index_edges(&c.edges, m, table) {
-        return 7;
+        return Err(Refusal::WrongEdge);
     }
     if !triangles_fit(&c.triangles, n, table, t) {
-        return 8;
+        return Err(Refusal::WrongTriangle);
     }
     if !triangles_once(&c.triangles, table, t) {
-        return 8;
+        return Err(Refusal::WrongTriangle);
     }
-    if connected(&c.edges, n, m) { 0 } else { 9 }
+    if !connected(&c.edges, n, m) {
+        return Err(Refusal::Disconnected);
+    }
+    Ok(())
 }
 
-// The judge of a record: the first of 4, 7, 8 and 9 that holds, or 0 where it is accepted.
+// The same without the index.
+pub fn accept(c: SimplicialComplex) -> Result<(), Refusal>
+    ensures { judged result ≡ refusal (complex_of c) }
+{
+    accept_indexed(c, &mut [0u8; 4096])
+}
+
+// The same of a record and a truncation: 5 has its place between 4 and 7.
+#[tactic(auto, using(crate::proofs::Truncation::counts_told, crate::proofs::Truncation::truncation_told, crate::proofs::Truncation::shape_told))]
+pub fn accept_truncated(c: SimplicialComplex, lambda: usize) -> Result<(), Refusal>
+    ensures { judged result ≡ first (truncated_tests (complex_of c) lambda) }
+{
+    if !counts_right(c.n_vertices, c.n_edges, c.n_triangles) {
+        return Err(Refusal::WrongCounts);
+    }
+    if LARGEST_TRUNCATION < lambda {
+        return Err(Refusal::LargeTruncation);
+    }
+    accept(c)
+}
+
+// The same as a number, 0 where the record is accepted.
 pub fn judge(c: SimplicialComplex) -> u8
     ensures { result ≡ refusal (complex_of c) }
 {
-    let mut table = [0u8; 4096];
-    judge_indexed(c, &mut table)
+    number_of(accept(c))
 }
 
-// The judge of a record and a truncation: 5 has its place between 4 and 7.
+pub fn judge_indexed(c: SimplicialComplex, table: &mut [u8; 4096]) -> u8
+    requires { table.old ≡ replicate 4096 0 }
+    ensures { Judged c table.new result }
+{
+    number_of(accept_indexed(c, table))
+}
+
 pub fn judge_truncated(c: SimplicialComplex, lambda: usize) -> u8
     ensures { result ≡ first (truncated_tests (complex_of c) lambda) }
 {
-    let number = judge(c);
-    if number == 4 {
-        return 4;
-    }
-    if LARGEST_TRUNCATION < lambda {
-        return 5;
-    }
-    number
+    number_of(accept_truncated(c, lambda))
 }

@@ -2,6 +2,7 @@
 #![tactic(auto)]
 
 pub mod expectation;
+pub mod refusal;
 
 // The number, or the refusal.
 #[derive(Clone, Copy)]

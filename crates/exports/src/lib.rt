@@ -5,12 +5,14 @@ ghost use Rattle.std.specs.Prelude.{◌≡◌, ◌<◌, ◌^◌, pos, neg_ℤ, F
 ghost use Rattle.mathematics.specs.Calls.{Answered, none_lent};
 ghost use Rattle.answers.specs.Answer.{number_answer};
 ghost use Rattle.answers.specs.Expectation.{expectation_answer};
+ghost use Rattle.answers.specs.Refusal.{answer_of};
 ghost use Rattle.matrices.specs.declared.coupling.KSParams.{KSParams};
 ghost use Rattle.matrices.specs.Coupling.{coupling_answer, coupling_call};
 ghost use Rattle.exports.specs.Exports.{signed, outcome_told, signed_of, zero_of, value_or, reading_number, OpenedOf, stored, three_floats, Exported};
 
 use answers::Answer;
 use answers::expectation::Expectation;
+use answers::refusal::Refusal;
 use matrices::coupling::Coupling;
 use sheet::{Reading, Sheet, read_sheet};
 
@@ -56,6 +58,22 @@ pub fn told_number(answer: Answer) -> Told
         },
         Answer::Refused(number) => Told {
             refusal: number,
+            value: 0,
+        },
+    }
+}
+
+#[tactic(auto, unfolding(crate::specs::Exports::outcome_told))]
+pub fn told_result(answer: Result<usize, Refusal>) -> Told
+    ensures { result ≡ outcome_told (answer_of answer) }
+{
+    match answer {
+        Ok(count) => Told {
+            refusal: 0,
+            value: count,
+        },
+        Err(refusal) => Told {
+            refusal: refusal.number(),
             value: 0,
         },
     }

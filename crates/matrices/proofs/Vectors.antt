@@ -61,6 +61,36 @@ module _ (n : ℕ) (v : List Float) (triangles : ℕ) (right given : Bool) (weig
       unfolding vector_tests first
       right_told h = let e = rw ranges at h in rw (fit, e)
 
+  pub miscounted_told : (miscounted || not (eqb (length v) n)) ≡ true → 12 ≡ first tests
+  unfolding vector_tests first
+  miscounted_told h = rw h
+
+  module _ (fits : (miscounted || not (eqb (length v) n)) ≡ false) where
+    pub weights_told : (first (weights_tests triangles right given weights) ≡ 0 → ⊥) → first (weights_tests triangles right given weights) ≡ first tests
+    unfolding weights_tests vector_tests first
+    weights_told some = let e : miscounted ≡ false = (or_fell miscounted _ fits).0 in rw (fits, e) (go unfit _ (rw e at some))
+      where
+        go : (a b : Bool) → (◌≡◌ {A = ℕ} (cond a 14 0) 0 → ⊥) → ◌≡◌ {A = ℕ} (cond a 14 0) (cond (a || b) 14 0)
+        go true b s = refl
+        go false b s = absurd (s refl)
+
+    module _ (passed : first (weights_tests triangles right given weights) ≡ 0) where
+      fit_weights : unfit ≡ false
+      unfolding weights_tests first
+      fit_weights = let e : miscounted ≡ false = (or_fell miscounted _ fits).0 in go unfit (rw e at passed)
+        where
+          go : (a : Bool) → ◌≡◌ {A = ℕ} (cond a 14 0) 0 → a ≡ false
+          go true s = absurd (omega (arith, s))
+          go false s = refl
+
+      pub amplitude_told : every_entry bounded v ≡ false → 14 ≡ first tests
+      unfolding vector_tests first
+      amplitude_told h = rw (fits, fit_weights, h)
+
+      pub all_told : every_entry bounded v ≡ true → 0 ≡ first tests
+      unfolding vector_tests first
+      all_told h = rw (fits, fit_weights, h)
+
   -- they are refused, or what is judged after them decides
   pub vector_refuses : {k : ℕ} → k ≡ first tests → (k ≡ 0 → ⊥) → (rest : List (ℕ × Bool)) → Tells (tests ++ rest) k
   vector_refuses e some rest = among tests rest e some

@@ -1,5 +1,6 @@
 -- The weights of the triangles: given, or 1 everywhere.
-use Rattle.std.specs.Prelude.{ℕ, ◌^◌, List, [], ◌∷◌, Bool, true, not, ◌&&◌, ◌||◌, cond, ◌≡◌, eqb, Float, get_or, length}
+use Rattle.std.specs.Prelude.{ℕ, ◌^◌, List, [], ◌∷◌, Bool, true, false, Option, Some, None, not, ◌&&◌, ◌||◌, cond, ◌≡◌, eqb, Float, get_or, length}
+use Rattle.std.specs.Borrow.{Bor}
 use Rattle.std.specs.Float.{nan}
 use Rattle.std.specs.Float.Ieee.{neg, le}
 use Rattle.mathematics.specs.Tests.{every_entry}
@@ -28,3 +29,13 @@ vector_tests n vector triangles coupling-ok given weights =
 -- weights that were judged: one for each of n triangles where they are given
 pub record Weighed (n : ℕ) (given : Bool) (weights : List Float) : Type 0 where
   pub one_each : given ≡ true → length weights ≡ n
+
+-- ---- weights that are lent as an option
+abbrev pub is_given : Option (Bor (List Float)) → Bool
+is_given (Some _) = true
+is_given None = false
+
+-- the list, where weights are given
+abbrev pub given_list : Option (Bor (List Float)) → List Float
+given_list (Some l) = l.now
+given_list None = []

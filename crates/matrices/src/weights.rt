@@ -1,8 +1,11 @@
 // The weights of the triangles: given, or 1 everywhere.
-ghost use Rattle.std.specs.Prelude.{◌≡◌, true, ◌<◌, length};
+ghost use Rattle.std.specs.Prelude.{◌≡◌, true, ◌<◌, length, not, ◌&&◌, eqb};
 ghost use Rattle.mathematics.specs.Tests.{every_entry};
 ghost use Rattle.mathematics.specs.Refusals.{first};
-ghost use Rattle.matrices.specs.Weights.{bounded, weight, weights_tests, vector_tests};
+ghost use Rattle.matrices.specs.Weights.{bounded, weight, weights_tests, vector_tests, is_given, given_list};
+ghost use Rattle.answers.specs.Refusal.{judged};
+
+use answers::refusal::Refusal;
 
 // Whether a float is from -2^32 to 2^32; the tests are written so that what is not a number fails.
 fn bounded(x: f64) -> bool
@@ -15,12 +18,75 @@ pub fn all_bounded(list: &[f64]) -> bool
     ensures { result ≡ every_entry bounded list.now }
 {
     let mut so_far = true;
-    for i in 0..list.len() {
-        so_far = so_far & bounded(list[i]);
+    for x in list {
+        so_far &= bounded(*x);
     }
     so_far
 }
 
+// Whether weights are given that are not one for each of n triangles.
+#[tactic(auto, unfolding(crate::specs::Weights::is_given, crate::specs::Weights::given_list))]
+fn miscounted(weights: Option<&[f64]>, n: usize) -> bool
+    ensures { result ≡ (is_given weights.entry && not (eqb (length (given_list weights.entry)) n)) }
+{
+    match weights {
+        Some(list) => list.len() != n,
+        None => false,
+    }
+}
+
+// 12 for the number of the given weights, 14 for a coupling that is not right or a weight out of its range.
+#[tactic(auto, using(crate::proofs::Weighing::number_told, crate::proofs::Weighing::coupling_told, crate::proofs::Weighing::absent_told, crate::proofs::Weighing::range_told, crate::proofs::Weighing::right_told))]
+pub fn accept_weights(
+    n_triangles: usize,
+    right: bool,
+    weights: Option<&[f64]>,
+) -> Result<(), Refusal>
+    ensures { judged result ≡ first (weights_tests n_triangles right (is_given weights.entry) (given_list weights.entry)) }
+{
+    if miscounted(weights, n_triangles) {
+        return Err(Refusal::WrongListLength);
+    }
+    if !right {
+        return Err(Refusal::WrongFloat);
+    }
+    match weights {
+        Some(list) if !all_bounded(list) => Err(Refusal::WrongFloat),
+        _ => Ok(()),
+    }
+}
+
+// 12 for the number of the given weights or of the amplitudes, 14 for a coupling that is not right or for a weight or an amplitude out of
+// its range.
+pub fn accept_vector(
+    n_triangles: usize,
+    right: bool,
+    weights: Option<&[f64]>,
+    n: usize,
+    vector: &[f64],
+) -> Result<(), Refusal>
+    ensures { judged result ≡ first (vector_tests n vector.now n_triangles right (is_given weights.entry) (given_list weights.entry)) }
+{
+    if miscounted(weights, n_triangles) | (vector.len() != n) {
+        return Err(Refusal::WrongListLength);
+    }
+    accept_weights(n_triangles, right, weights)?;
+    if !all_bounded(vector) {
+        return Err(Refusal::WrongFloat);
+    }
+    Ok(())
+}
+
+// The weight of triangle t.
+pub fn weight_at(weights: Option<&[f64]>, t: usize) -> f64
+    requires { is_given weights ≡ true → t < length (given_list weights) }
+    ensures { result ≡ weight (is_given weights.entry) (given_list weights.entry) t }
+{
+    match weights {
+        Some(list) => list[t],
+        None => 1.0,
+    }
+}
 // 12 for the number of the given weights, 14 for a coupling that is not right or a weight out of its range, 0 for neither. Weights
 // that are not given are not read.
 pub fn judge_weights(n_triangles: usize, right: bool, given: bool, weights: &[f64]) -> u8

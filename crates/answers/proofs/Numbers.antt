@@ -1,0 +1,31 @@
+-- The variants of a refusal stand in the order of their numbers.
+use mathlib.Core.Path.{◌≡◌, refl}
+use Rattle.std.proofs.Common.{◌+◌, arith}
+use denote.Enum.Declared.{tag_of}
+use Rattle.answers.specs.Refusal.{refusal_number}
+use Rattle.answers.specs.contracts.refusal.Refusal.{the_type}
+use Rattle.answers.specs.declared.refusal.Refusal.{Refusal}
+use Rattle.answers.specs.declared.refusal.Refusal.TheVariants.{ShortSheet, NoMark, OtherVersion, WrongCounts, LargeTruncation, WrongLength, WrongEdge, WrongTriangle, Disconnected, ManyCandidates, WrongPentachoron, WrongListLength, OutOfRange, WrongFloat, NoRoom, OutOfBand, NotInBasis}
+
+pub numbered : (r : Refusal) → tag_of the_type r + 1 ≡ refusal_number r
+numbered ShortSheet = refl
+numbered NoMark = refl
+numbered OtherVersion = refl
+numbered WrongCounts = refl
+numbered LargeTruncation = refl
+numbered WrongLength = refl
+numbered WrongEdge = refl
+numbered WrongTriangle = refl
+numbered Disconnected = refl
+numbered ManyCandidates = refl
+numbered WrongPentachoron = refl
+numbered WrongListLength = refl
+numbered OutOfRange = refl
+numbered WrongFloat = refl
+numbered NoRoom = refl
+numbered OutOfBand = refl
+numbered NotInBasis = refl
+
+-- no reason has the number 0
+pub number_positive : (r : Refusal) → refusal_number r ≡ 0 → ⊥
+number_positive r h = let e = numbered r in omega (arith, e)
