@@ -23,8 +23,8 @@ fn in_band(configuration: &[i32], lambda: usize) -> bool
     ensures { result ≡ every_entry (within lambda) configuration.now }
 {
     let mut so_far = true;
-    for e in 0..configuration.len() {
-        so_far = so_far & within(configuration[e], lambda);
+    for value in configuration {
+        so_far &= within(*value, lambda);
     }
     so_far
 }

@@ -1,10 +1,9 @@
 // The place of a configuration in the list of the basis.
-ghost use Rattle.std.specs.Prelude.{◌≡◌, ℕ, ◌≤◌, length};
+ghost use Rattle.std.specs.Prelude.{◌≡◌, ℕ, ◌<◌, ◌≤◌, length};
 ghost use Rattle.walker.specs.Steps.{FreeFit};
 ghost use Rattle.hilbert.specs.Basis.{smaller};
-ghost use Rattle.hilbert.specs.Search.{Rows, Ranked};
+ghost use Rattle.hilbert.specs.Search.{row, Rows, Ranked};
 
-use numbers::byte;
 use numbers::sizes::MOST_EDGES;
 
 // Whether a row has the smaller value on the last free edge where it differs from a configuration: from the last free edge down.
@@ -12,10 +11,8 @@ fn row_before(row: &[i32], config: &[i32], free: &[u8; MOST_EDGES], n_free: usiz
     requires { (length row.now ≡ length config.now) × (length config.now ≤ 63) × (n_free ≤ 63) × FreeFit (length config.now) n_free free.now }
     ensures { result ≡ smaller free.now row.now config.now n_free }
 {
-    let mut j = n_free;
-    while 0 < j {
-        j -= 1;
-        let e = byte(free[j]);
+    for j in (0..n_free).rev() {
+        let e = usize::from(free[j]);
         let x = row[e];
         let y = config[e];
         if x != y {
@@ -25,7 +22,25 @@ fn row_before(row: &[i32], config: &[i32], free: &[u8; MOST_EDGES], n_free: usiz
     false
 }
 
-// How many of the first n rows come before a configuration, where they are in order: by halving.
+// Whether row i of the first n comes before a configuration.
+fn before_at(
+    states: &[i32],
+    n: usize,
+    i: usize,
+    config: &[i32],
+    free: &[u8; MOST_EDGES],
+    n_free: usize,
+) -> bool
+    requires { Rows states.now n config.now free.now n_free × (i < n) }
+    ensures { result ≡ smaller free.now (row (length config.now) states.now i) config.now n_free }
+{
+    let m = config.len();
+    let at = i * m;
+    row_before(&states[at..at + m], config, free, n_free)
+}
+
+// How many of the first n rows come before a configuration, where they are in order: by halving. The halving is written out: a row may
+// have no values, so that the list need not have n chunks.
 pub fn find_place(
     states: &[i32],
     n: usize,
@@ -36,13 +51,11 @@ pub fn find_place(
     requires { Rows states.now n config.now free.now n_free }
     ensures { (p : ℕ) → Ranked states.now n config.now free.now n_free p → result ≡ p }
 {
-    let m = config.len();
     let mut low = 0;
     let mut high = n;
     while low < high {
         let middle = low + (high - low) / 2;
-        let at = middle * m;
-        if row_before(&states[at..at + m], config, free, n_free) {
+        if before_at(states, n, middle, config, free, n_free) {
             low = middle + 1;
         } else {
             high = middle;
@@ -63,14 +76,10 @@ pub fn advance(
     requires { Rows states.now n config.now free.now n_free × (from ≤ n) }
     ensures { (p : ℕ) → Ranked states.now n config.now free.now n_free p → from ≤ p → result ≡ p }
 {
-    let m = config.len();
-    let mut place = from;
-    while place < n {
-        let at = place * m;
-        if !row_before(&states[at..at + m], config, free, n_free) {
+    for place in from..n {
+        if !before_at(states, n, place, config, free, n_free) {
             return place;
         }
-        place += 1;
     }
-    place
+    n
 }
