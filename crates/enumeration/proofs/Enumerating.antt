@@ -50,7 +50,7 @@ module _ (c : Complex) (L : ℕ) where
 
   module _ (none : first (truncated_tests c L) ≡ 0) (truncation : L ≤ 1000) (w : Walker) (walks : Walks c L w) where
     -- the candidates decide
-    by_candidates : first (basis_tests c L) ≡ cond (ltb 1048576 ((2 * L + 1) ^ w.n_free)) 10 0
+    pub by_candidates : first (basis_tests c L) ≡ cond (ltb 1048576 ((2 * L + 1) ^ w.n_free)) 10 0
     unfolding first numbered every_entry
     by_candidates = rw walks.count (first_goes_on (truncated_tests c L) (limit_test c L ∷ []) refl none)
 
@@ -71,12 +71,14 @@ module _ (c : Complex) (L : ℕ) where
           let every_entry : length (states_of w L blocks) ≤ 1048576 = omega (arith, states_within w L blocks blocks_fit) in
           rw states_are at every_entry
 
+      pub basis_walks : BasisWalks c L w blocks
+      basis_walks = record { truncation = truncation; walks = walks; fit = blocks_fit; listed = states_are; few = few_states }
+
+      pub basis_accepted : 0 ≡ first (basis_tests c L)
+      basis_accepted = sym (by_candidates ∙ rw (le-ltb 1048576 ((2 * L + 1) ^ w.n_free) within))
+
       pub basis_prepared : PreparedFor c L (record { refusal = 0; blocks = blocks; walker = w })
-      basis_prepared =
-          record {
-            refusal = sym (by_candidates ∙ rw (le-ltb 1048576 ((2 * L + 1) ^ w.n_free) within));
-            basis = λ z. record { truncation = truncation; walks = walks; fit = blocks_fit; listed = states_are; few = few_states };
-          }
+      basis_prepared = record { refusal = basis_accepted; basis = λ z. basis_walks }
 
   -- ---- the basis goes to a list
   module _ (w : Walker) (blocks : ℕ) (basis : BasisWalks c L w blocks) where

@@ -1,3 +1,4 @@
+pub mod Bases
 pub mod Limits
 pub mod Enumerating
 pub mod Demanded

@@ -1,1 +1,2 @@
+pub mod Basis
 pub mod Enumeration

@@ -1,6 +1,7 @@
 // The list of all states of a complex.
 #![tactic(auto)]
 
+pub mod basis;
 pub mod count;
 
 ghost use Rattle.std.specs.Prelude.{◌≡◌, cond, ◌+◌, ◌*◌, ◌-◌, ◌^◌, ◌≤◌, ltb, length};
