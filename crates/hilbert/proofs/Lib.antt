@@ -1,4 +1,4 @@
 pub mod Searching
 pub mod Order
 pub mod Found
-pub mod Indexing
+pub mod Prepared

@@ -1,19 +1,10 @@
 -- What config_to_index tells, and what its list then holds.
-use Rattle.std.specs.Prelude.{ℕ, List, [], ◌∷◌, ◌++◌, Bool, not, ◌≢◌, ℤ, length}
-use Rattle.mathematics.specs.Refusals.{Outcome, value, refused}
-use Rattle.mathematics.specs.Calls.{Call, Answered}
+use Rattle.std.specs.Prelude.{ℕ, List, [], ◌∷◌, ◌++◌, Bool, not, ℤ, length}
+use Rattle.mathematics.specs.Calls.{Call}
 use Rattle.complex.specs.Complex.{Complex}
 use Rattle.complex.specs.Judge.{length_test}
 use Rattle.enumeration.specs.Enumeration.{basis_tests, short, basis_first}
-use Rattle.hilbert.specs.declared.index.Index.{Index}
-use Rattle.hilbert.specs.declared.index.Index.TheVariants.{Place, NotInBasis, Refused}
 use Rattle.hilbert.specs.Basis.{in_basis, place, PlaceKnown}
-
--- what an answer says
-unfoldable pub index_answer : Index → Outcome ℕ
-index_answer (Place p) = value p
-index_answer NotInBasis = refused 17
-index_answer (Refused n) = refused n
 
 -- 4, 5, 7 to 10, then 12, 15 for a list that has too few entries for the basis, and 17
 abbrev pub index_tests : Complex → ℕ → List ℤ → ℕ → List (ℕ × Bool)
@@ -30,8 +21,3 @@ index_call c L s old =
       after = basis_first c L old;
       known = PlaceKnown c L s;
     }
-
--- an answer is that of a call, and 17 has a case of its own
-pub record Indexed {B : Type 0} (call : Call ℕ B) (r : Index) (l : B) : Type 0 where
-  pub told : Answered call (index_answer r) l
-  pub own : r ≢ Refused 17

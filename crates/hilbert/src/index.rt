@@ -1,5 +1,5 @@
 // The place of a configuration in the basis.
-ghost use Rattle.std.specs.Prelude.{◌≡◌, ◌≤◌, length};
+ghost use Rattle.std.specs.Prelude.{◌≡◌, ℕ, ◌≤◌, length};
 ghost use Rattle.mathematics.specs.Tests.{every_entry};
 ghost use Rattle.complex.specs.Complex.{Complex, complex_of};
 ghost use Rattle.complex.specs.Judge.{refusal};
@@ -7,11 +7,15 @@ ghost use Rattle.enumeration.specs.Enumeration.{BasisWalks};
 ghost use Rattle.hilbert.specs.Basis.{in_basis};
 ghost use Rattle.gauss_law.specs.Gauss.{within};
 ghost use Rattle.hilbert.specs.Search.{Sought, FoundIn};
-ghost use Rattle.hilbert.specs.Index.{index_call, Indexed};
+ghost use Rattle.hilbert.specs.Index.{index_call};
+ghost use Rattle.enumeration.specs.Basis.{BasisOf};
+ghost use Rattle.mathematics.specs.Calls.{Answered};
+ghost use Rattle.answers.specs.Refusal.{answer_of};
 
 use crate::search::find_place;
+use answers::refusal::Refusal;
 use complex::SimplicialComplex;
-use enumeration::{prepare_basis, too_short};
+use enumeration::basis::Basis;
 use law_check::find_unlawful;
 use runs::write_states;
 use walker::blocks::within;
@@ -49,18 +53,16 @@ pub fn list_and_find(
     requires { Sought w lambda blocks configuration.now (length states.old) }
     ensures { (c : Complex) → BasisWalks c lambda w blocks → FoundIn c lambda configuration.now states.old states.new result }
 {
-    let free = w.free;
-    let n_free = w.n_free;
     let n = write_states(w, lambda, blocks, states);
-    find_place(states, n, configuration, &free, n_free)
+    find_place(states, n, configuration, &w.free, w.n_free)
 }
 
-// NotInBasis is 17.
-#[derive(Clone, Copy)]
-pub enum Index {
-    Place(usize),
-    NotInBasis,
-    Refused(u8),
+// The same of a basis that was prepared.
+pub fn list_and_seek(basis: &Basis, configuration: &[i32], states: &mut [i32]) -> usize
+    requires { Sought basis.now.walker basis.now.lambda basis.now.blocks configuration.now (length states.old) }
+    ensures { (c : Complex) (L : ℕ) → BasisOf c L basis.now → FoundIn c L configuration.now states.old states.new result }
+{
+    list_and_find(basis.walker, basis.lambda, basis.blocks, configuration, states)
 }
 
 // The place of a configuration in the basis of a record, which goes to the beginning of the list. All is judged first.
@@ -69,24 +71,18 @@ pub fn config_to_index(
     lambda: usize,
     configuration: &[i32],
     states: &mut [i32],
-) -> Index
-    ensures { Indexed (index_call (complex_of c) lambda configuration.now states.old) result states.new }
+) -> Result<usize, Refusal>
+    ensures { Answered (index_call (complex_of c) lambda configuration.now states.old) (answer_of result) states.new }
 {
-    let basis = prepare_basis(c, lambda);
-    let number = basis.refusal;
-    if number != 0 {
-        return Index::Refused(number);
-    }
+    let basis = Basis::prepare(c, lambda)?;
     if configuration.len() != c.n_edges {
-        return Index::Refused(12);
+        return Err(Refusal::WrongListLength);
     }
-    let w = basis.walker;
-    let blocks = basis.blocks;
-    if too_short(w, lambda, blocks, states.len()) {
-        return Index::Refused(15);
+    if basis.is_too_short(states.len()) {
+        return Err(Refusal::NoRoom);
     }
     if !in_basis(c, lambda, configuration) {
-        return Index::NotInBasis;
+        return Err(Refusal::NotInBasis);
     }
-    Index::Place(list_and_find(w, lambda, blocks, configuration, states))
+    Ok(list_and_seek(&basis, configuration, states))
 }

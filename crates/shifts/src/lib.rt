@@ -1,26 +1,29 @@
 // A shift of one edge.
 #![tactic(auto)]
 
-ghost use Rattle.std.specs.Prelude.{◌≡◌, ◌++◌, ◌<◌, ◌≤◌, pos, ◌+ℤ◌, length, set, drop, replicate};
+ghost use Rattle.std.specs.Prelude.{◌≡◌, ◌++◌, ◌<◌, ◌≤◌, true, false, pos, ◌+ℤ◌, length, set, drop, replicate, MatchOption};
+ghost use Rattle.mathematics.specs.Calls.{Answered};
 ghost use Rattle.complex.specs.Complex.{complex_of};
 ghost use Rattle.gauss_law.specs.Gauss.{within};
-ghost use Rattle.hilbert.specs.Index.{Indexed};
+ghost use Rattle.answers.specs.Refusal.{answer_of};
 ghost use Rattle.shifts.specs.Shift.{shift_call};
 
+use answers::refusal::Refusal;
 use complex::SimplicialComplex;
-use enumeration::{prepare_basis, too_short};
-use hilbert::index::{Index, in_basis, list_and_find};
+use enumeration::basis::Basis;
+use hilbert::index::{in_basis, list_and_seek};
 use numbers::sizes::MOST_EDGES;
-use numbers::{i32_to_i64, plus, sum, usize_to_i32};
+use walker::blocks::within;
 
-// Whether the true sum of two values is within -lambda to lambda.
-fn sum_within(x: i32, delta: i32, lambda: usize) -> bool
+// The sum of two values, where it is within -lambda to lambda.
+fn sum_within(x: i32, delta: i32, lambda: usize) -> Option<i32>
     requires { lambda ≤ 1000 }
-    ensures { result ≡ within lambda (x +ℤ delta) }
+    ensures { MatchOption result (within lambda (x +ℤ delta) ≡ false) (λ sum. (sum ≡ x +ℤ delta) × (within lambda sum ≡ true)) }
 {
-    let sum = plus(i32_to_i64(x), delta);
-    let limit = i32_to_i64(usize_to_i32(lambda));
-    (-limit <= sum) & (sum <= limit)
+    match x.checked_add(delta) {
+        Some(sum) if within(sum, lambda) => Some(sum),
+        _ => None,
+    }
 }
 
 // A configuration with another value on one edge goes to the front of a list.
@@ -28,9 +31,7 @@ fn write_shifted(configuration: &[i32], edge: usize, value: i32, to: &mut [i32])
     requires { (edge < length configuration.now) × (length configuration.now ≤ length to.old) }
     ensures { to.new ≡ set configuration.now edge value ++ drop (length configuration.now) to.old }
 {
-    for e in 0..configuration.len() {
-        to[e] = configuration[e];
-    }
+    to[..configuration.len()].copy_from_slice(configuration);
     to[edge] = value;
 }
 
@@ -54,34 +55,27 @@ pub fn apply_shift(
     delta: i32,
     states: &mut [i32],
     res: &mut [i32],
-) -> Index
-    ensures { Indexed (shift_call (complex_of c) lambda configuration.now edge delta states.old res.old) result (states.new, res.new) }
+) -> Result<usize, Refusal>
+    ensures { Answered (shift_call (complex_of c) lambda configuration.now edge delta states.old res.old) (answer_of result) (states.new, res.new) }
 {
-    let basis = prepare_basis(c, lambda);
-    let number = basis.refusal;
-    if number != 0 {
-        return Index::Refused(number);
-    }
+    let basis = Basis::prepare(c, lambda)?;
     let m = c.n_edges;
     if configuration.len() != m {
-        return Index::Refused(12);
+        return Err(Refusal::WrongListLength);
     }
     if m <= edge {
-        return Index::Refused(13);
+        return Err(Refusal::OutOfRange);
     }
-    let w = basis.walker;
-    let blocks = basis.blocks;
-    if too_short(w, lambda, blocks, states.len()) | (res.len() < m) {
-        return Index::Refused(15);
+    if basis.is_too_short(states.len()) | (res.len() < m) {
+        return Err(Refusal::NoRoom);
     }
-    if !sum_within(configuration[edge], delta, lambda) {
-        return Index::Refused(16);
-    }
-    let value = sum(configuration[edge], delta);
+    let Some(value) = sum_within(configuration[edge], delta, lambda) else {
+        return Err(Refusal::OutOfBand);
+    };
     let shifted = shifted_row(configuration, edge, value);
-    if !in_basis(c, lambda, &shifted[0..m]) {
-        return Index::NotInBasis;
+    if !in_basis(c, lambda, &shifted[..m]) {
+        return Err(Refusal::NotInBasis);
     }
     write_shifted(configuration, edge, value, res);
-    Index::Place(list_and_find(w, lambda, blocks, &shifted[0..m], states))
+    Ok(list_and_seek(&basis, &shifted[..m], states))
 }

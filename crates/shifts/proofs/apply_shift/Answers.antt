@@ -1,0 +1,135 @@
+use Rattle.std.proofs.Common.{◌≡◌, ◌≤◌, sym, ◌∙◌, refl, length, take, false, arith, rules, leb, ltb, ◌||◌, not, pos, get_or, w32, to_z, of_z, FitsSigned}
+use borrow.Author.Tests.{eq-eqb, ne_eqb, le-leb, lt-leb}
+use Rattle.mathematics.proofs.Tests.{or_fell}
+use Rattle.mathematics.proofs.Calls.{none, here, past, refuses, ends, both}
+use Rattle.complex.specs.Complex.{complex_of}
+use Rattle.complex.proofs.Accepting.{accepted}
+use Rattle.gauss_law.proofs.Spanned.{edges_long}
+use Rattle.gauss_law.specs.Shifts.{raised, shifted}
+use Rattle.gauss_law.proofs.Shifts.{shifted_length}
+use Rattle.answers.proofs.Passing.{answer_passed}
+use Rattle.enumeration.proofs.Bases.{basis_refused, basis_passed}
+use Rattle.hilbert.proofs.Order.{in_basis_at}
+use Rattle.hilbert.proofs.Prepared.{told_refused, short_by}
+use Rattle.shifts.specs.Shift.{shift_call}
+use Rattle.shifts.proofs.Shifting.{raised_is, row_is, begins_shifted}
+use Rattle.enumeration.specs.Enumeration.{short}
+use Rattle.gauss_law.specs.Gauss.{within}
+use Rattle.mathematics.proofs.Signed.{back32}
+use Rattle.shifts.proofs.apply_shift.Goals as goal
+
+pub returns-in_err-basis : goal.returns-in_err-basis
+unfolding shift_call
+returns-in_err-basis c =
+    rw (answer_passed _ _ c.from_residual.ensures.1) (told_refused _ _ (basis_refused c.in_err-basis.ensures _))
+
+pub returns-then-configuration-m : goal.returns-then-configuration-m
+unfolding shift_call
+returns-then-configuration-m c =
+    refuses _ (basis_passed c.in_ok-basis.ensures (here (rw (ne_eqb _ _ (λ z. c.if-configuration-m.true (z ∙ edges_long c.args.c)))))) refl
+
+pub returns-then-m-edge : goal.returns-then-m-edge
+unfolding shift_call
+returns-then-m-edge c =
+    let edges = edges_long c.args.c in
+    refuses _ (basis_passed c.in_ok-basis.ensures
+    (past (rw (eq-eqb _ _ (c.if-configuration-m.false ∙ sym edges))) (here (rw edges (le-leb _ _ c.if-m-edge.true))))) refl
+
+pub returns-then-is_too_short-res : goal.returns-then-is_too_short-res
+unfolding shift_call
+returns-then-is_too_short-res c =
+    let prepared = c.in_ok-basis.ensures in
+    let edges = edges_long c.args.c in
+    refuses _ (basis_passed prepared
+    (past (rw (eq-eqb _ _ (c.if-configuration-m.false ∙ sym edges))) (past (rw edges (lt-leb _ _ c.if-m-edge.false))
+    (here (rw (short_by prepared.basis (length c.args.states.now), ← c.is_too_short.ensures, edges) c.if-is_too_short-res.true))))) refl
+
+pub returns-in_default : goal.returns-in_default
+unfolding shift_call
+returns-in_default c =
+    let prepared = c.in_ok-basis.ensures in
+    let basis = prepared.basis in
+    let edges = edges_long c.args.c in
+    let long = c.if-configuration-m.false ∙ sym edges in
+    let inside : leb (length (complex_of c.args.c).edges) c.args.edge ≡ false = rw edges (lt-leb _ _ c.if-m-edge.false) in
+    let room : (short (complex_of c.args.c) c.args.lambda (length c.args.states.now) || ltb (length c.args.res.now) (length (complex_of c.args.c).edges)) ≡ false = rw (short_by basis (length c.args.states.now), ← c.is_too_short.ensures, edges) c.if-is_too_short-res.false in
+    let x : FitsSigned w32 (get_or c.args.configuration.now c.args.edge (pos 0)) = search rules in
+    let left : within c.args.lambda (raised c.args.configuration.now c.args.edge c.args.delta) ≡ false = rw (← raised_is c.args.configuration.now c.args.edge c.args.delta x c.ranges.delta) c.in_default.ensures in
+    refuses _ (basis_passed prepared (past (rw (eq-eqb _ _ long)) (past inside (past room (here (rw left)))))) refl
+
+pub shifted_row-shifted-requires : goal.shifted_row-shifted-requires
+shifted_row-shifted-requires c =
+    let few : c.args.c.n_edges ≤ 63 = rw (← edges_long c.args.c) c.in_ok-basis.ensures.basis.walks.walks.accepted.few_edges in
+    (omega arith, omega arith)
+
+pub in_basis-requires : goal.in_basis-requires
+in_basis-requires c =
+    let walks = c.in_ok-basis.ensures.basis.walks in
+    let x : FitsSigned w32 (get_or c.args.configuration.now c.args.edge (pos 0)) = search rules in
+    let fits : FitsSigned w32 c.in-Some.value = search rules in
+    let is : c.in-Some.value ≡ raised c.args.configuration.now c.args.edge c.args.delta = c.in-Some.ensures.0 ∙ raised_is c.args.configuration.now c.args.edge c.args.delta x c.ranges.delta in
+    let value : to_z w32 (of_z w32 c.in-Some.value) ≡ raised c.args.configuration.now c.args.edge c.args.delta = back32 _ fits.sfits ∙ is in
+    let row : take c.args.c.n_edges c.shifted_row-shifted.result ≡ shifted c.args.configuration.now c.args.edge c.args.delta = row_is c.args.configuration.now c.args.edge c.args.delta c.args.c.n_edges _ _ _ c.if-configuration-m.false value c.shifted_row-shifted.ensures in
+    ((accepted _).1 walks.walks.accepted, walks.truncation, rw row (shifted_length c.args.configuration.now c.args.edge c.args.delta ∙ c.if-configuration-m.false))
+
+pub returns-then-not-in_basis : goal.returns-then-not-in_basis
+unfolding shift_call
+returns-then-not-in_basis c =
+    let prepared = c.in_ok-basis.ensures in
+    let basis = prepared.basis in
+    let edges = edges_long c.args.c in
+    let long = c.if-configuration-m.false ∙ sym edges in
+    let inside : leb (length (complex_of c.args.c).edges) c.args.edge ≡ false = rw edges (lt-leb _ _ c.if-m-edge.false) in
+    let room : (short (complex_of c.args.c) c.args.lambda (length c.args.states.now) || ltb (length c.args.res.now) (length (complex_of c.args.c).edges)) ≡ false = rw (short_by basis (length c.args.states.now), ← c.is_too_short.ensures, edges) c.if-is_too_short-res.false in
+    let x : FitsSigned w32 (get_or c.args.configuration.now c.args.edge (pos 0)) = search rules in
+    let fits : FitsSigned w32 c.in-Some.value = search rules in
+    let is : c.in-Some.value ≡ raised c.args.configuration.now c.args.edge c.args.delta = c.in-Some.ensures.0 ∙ raised_is c.args.configuration.now c.args.edge c.args.delta x c.ranges.delta in
+    let value : to_z w32 (of_z w32 c.in-Some.value) ≡ raised c.args.configuration.now c.args.edge c.args.delta = back32 _ fits.sfits ∙ is in
+    let row : take c.args.c.n_edges c.shifted_row-shifted.result ≡ shifted c.args.configuration.now c.args.edge c.args.delta = row_is c.args.configuration.now c.args.edge c.args.delta c.args.c.n_edges _ _ _ c.if-configuration-m.false value c.shifted_row-shifted.ensures in
+    let band : not (within c.args.lambda (raised c.args.configuration.now c.args.edge c.args.delta)) ≡ false = rw (← is, c.in-Some.ensures.1) in
+    let unlisted = rw row at (sym c.in_basis.ensures ∙ c.if-not-in_basis.true) in
+    refuses _ (basis_passed prepared (past (rw (eq-eqb _ _ long)) (past inside (past room (past band (here (rw unlisted))))))) refl
+
+pub list_and_seek-requires : goal.list_and_seek-requires
+list_and_seek-requires c =
+    let prepared = c.in_ok-basis.ensures in
+    let basis = prepared.basis in
+    let edges = edges_long c.args.c in
+    let long = c.if-configuration-m.false ∙ sym edges in
+    let inside : leb (length (complex_of c.args.c).edges) c.args.edge ≡ false = rw edges (lt-leb _ _ c.if-m-edge.false) in
+    let room : (short (complex_of c.args.c) c.args.lambda (length c.args.states.now) || ltb (length c.args.res.now) (length (complex_of c.args.c).edges)) ≡ false = rw (short_by basis (length c.args.states.now), ← c.is_too_short.ensures, edges) c.if-is_too_short-res.false in
+    let x : FitsSigned w32 (get_or c.args.configuration.now c.args.edge (pos 0)) = search rules in
+    let fits : FitsSigned w32 c.in-Some.value = search rules in
+    let is : c.in-Some.value ≡ raised c.args.configuration.now c.args.edge c.args.delta = c.in-Some.ensures.0 ∙ raised_is c.args.configuration.now c.args.edge c.args.delta x c.ranges.delta in
+    let value : to_z w32 (of_z w32 c.in-Some.value) ≡ raised c.args.configuration.now c.args.edge c.args.delta = back32 _ fits.sfits ∙ is in
+    let row : take c.args.c.n_edges c.shifted_row-shifted.result ≡ shifted c.args.configuration.now c.args.edge c.args.delta = row_is c.args.configuration.now c.args.edge c.args.delta c.args.c.n_edges _ _ _ c.if-configuration-m.false value c.shifted_row-shifted.ensures in
+    rw (basis.truncated, row) (record {
+      complex = complex_of c.args.c;
+      basis = basis.walks;
+      sized = shifted_length c.args.configuration.now c.args.edge c.args.delta ∙ long;
+      listed = rw row at (sym c.in_basis.ensures ∙ c.if-not-in_basis.false);
+      long = (or_fell _ _ room).0;
+    })
+
+pub returns : goal.returns
+unfolding shift_call
+returns c =
+    let prepared = c.in_ok-basis.ensures in
+    let basis = prepared.basis in
+    let edges = edges_long c.args.c in
+    let long = c.if-configuration-m.false ∙ sym edges in
+    let inside : leb (length (complex_of c.args.c).edges) c.args.edge ≡ false = rw edges (lt-leb _ _ c.if-m-edge.false) in
+    let room : (short (complex_of c.args.c) c.args.lambda (length c.args.states.now) || ltb (length c.args.res.now) (length (complex_of c.args.c).edges)) ≡ false = rw (short_by basis (length c.args.states.now), ← c.is_too_short.ensures, edges) c.if-is_too_short-res.false in
+    let x : FitsSigned w32 (get_or c.args.configuration.now c.args.edge (pos 0)) = search rules in
+    let fits : FitsSigned w32 c.in-Some.value = search rules in
+    let is : c.in-Some.value ≡ raised c.args.configuration.now c.args.edge c.args.delta = c.in-Some.ensures.0 ∙ raised_is c.args.configuration.now c.args.edge c.args.delta x c.ranges.delta in
+    let value : to_z w32 (of_z w32 c.in-Some.value) ≡ raised c.args.configuration.now c.args.edge c.args.delta = back32 _ fits.sfits ∙ is in
+    let row : take c.args.c.n_edges c.shifted_row-shifted.result ≡ shifted c.args.configuration.now c.args.edge c.args.delta = row_is c.args.configuration.now c.args.edge c.args.delta c.args.c.n_edges _ _ _ c.if-configuration-m.false value c.shifted_row-shifted.ensures in
+    let band : not (within c.args.lambda (raised c.args.configuration.now c.args.edge c.args.delta)) ≡ false = rw (← is, c.in-Some.ensures.1) in
+    let listed = rw row at (sym c.in_basis.ensures ∙ c.if-not-in_basis.false) in
+    let found = rw row at (c.list_and_seek.ensures _ _ basis) in
+    let sized = shifted_length c.args.configuration.now c.args.edge c.args.delta ∙ long in
+    ends _ (basis_passed prepared (past (rw (eq-eqb _ _ long)) (past inside (past room (past band (past (rw listed) none))))))
+    (found.found (sized, listed))
+    (both found.list (begins_shifted c.args.configuration.now c.args.edge c.args.delta _ c.args.res.now _ value c.write_shifted.ensures))
+    (record { found = in_basis_at _ basis.walks.walks.accepted _ _ sized listed; few = basis.walks.few })
