@@ -1,6 +1,10 @@
 -- Floats at the beginning of a list, entry by entry, and what the list then is.
-use Prim.Native.Nat.{ℕ, ◌+◌, ◌-◌, ◌≤◌, ◌<◌}
+use Prim.Native.Nat.{ℕ, ◌+◌, ◌-◌, ◌*◌, ◌^◌, ◌≤◌, ◌<◌}
+use native.Mathlib.Nat.{mul-le-mul, mul-le-mul_right}
 use mathlib.Core.List.{List, map, ◌++◌}
+use Rattle.std.proofs.Common.{replicate}
+use Rattle.std.proofs.lemmas.List.{length-replicate, get_or-replicate}
+use Rattle.matrices.specs.Coupling.{float_of}
 use mathlib.Core.Bool.{cond}
 use mathlib.Core.Path.{◌≡◌, sym, ap, ◌∙◌}
 use mathlib.Core.Logic.{◌≢◌}
@@ -8,14 +12,15 @@ use native.Mathlib.Omega.{arith}
 use native.Mathlib.Decide.{ℕ_discrete, dec_lt}
 use borrow.Author.Tests.{lt-ltb, le-ltb}
 use lib.Dec.{ltb}
-use lib.Ieee.{Float, nan}
-use lib.ListN.{get_or, length, drop, set, length-set, length-map, length-append, length-drop, get_or-append}
-use lib.Seq.{get_or-set_same, get_or-set_other, get_or-append-add, get_or-drop, ext_get_or}
+use lib.IntN.{ℤ, pos}
+use lib.Ieee.{Float, binary64, nan, add}
+use lib.ListN.{get_or, length, take, drop, set, length-set, length-map, length-append, length-drop, get_or-append}
+use lib.Seq.{length-take-le, get_or-set_same, get_or-set_other, get_or-append-add, get_or-drop, ext_get_or}
 use Rattle.mathematics.specs.Counting.{below}
 use Rattle.mathematics.specs.Writing.{front}
 use Rattle.mathematics.proofs.Below.{length_below, map_below_at}
 use Rattle.matrices.proofs.Matrices.{one_higher}
-use Rattle.electric.specs.Electric.{Begins}
+use Rattle.electric.specs.Electric.{field_term, Begins}
 
 -- the same entries, said in another way
 pub begins_same : (f g : ℕ → Float) (m : ℕ) (old new : List Float) → ((e : ℕ) → e < m → f e ≡ g e) → Begins f m old new → Begins g m old new
@@ -76,3 +81,28 @@ module _ (f g : ℕ → Float) (m : ℕ) (old : List Float) where
     pub replaced_all : m ≤ k → Begins g m old new
     unfolding replaced
     replaced_all h = begins_same (replaced f g k) g m old new (λ e l. rw (lt-ltb e k (omega arith))) b
+
+-- what the entries are after one state more
+abbrev pub with_state : List ℤ → Float → (ℕ → Float) → ℕ → Float
+with_state state square f e = add binary64 (f e) (field_term square (get_or state e (pos 0)))
+
+-- m zeros were put before what stood after the first m
+pub begins_zero : (m : ℕ) (old zeros : List Float) → m ≤ length old → zeros ≡ replicate (length (take m old)) (float_of 0) → Begins (λ e. float_of 0) m old (zeros ++ drop m old)
+begins_zero m old zeros room is =
+    rw (is, length-take-le m old room) (record {
+      long = length-append (replicate m (float_of 0)) (drop m old) ∙ rw (length-replicate m (float_of 0), length-drop m old) (omega arith);
+      entries = λ e h. get_or-append (replicate m (float_of 0)) (drop m old) nan e (rw (length-replicate m (float_of 0)) h) ∙ get_or-replicate m e (float_of 0) nan h;
+      beyond = λ e h. after e h;
+    })
+  where
+    after : (e : ℕ) → m ≤ e → get_or (replicate m (float_of 0) ++ drop m old) e nan ≡ get_or old e nan
+    after e h =
+        let q : m + (e - m) ≡ e = omega arith in
+        ap (λ (i : ℕ). get_or (replicate m (float_of 0) ++ drop m old) i nan) (sym q)
+        ∙ (rw (length-replicate m (float_of 0)) at (get_or-append-add (replicate m (float_of 0)) (drop m old) (e - m) nan)) ∙ get_or-drop m old (e - m) nan ∙ ap (λ (i : ℕ). get_or old i nan) q
+
+-- where row i of n lies in a list
+pub row_room : (n m i room : ℕ) → n ≤ 2 ^ 20 → m ≤ 63 → i < n → n * m ≤ room → (i * m + m ≤ room) × (i * m ≤ 2 ^ 20 * 63)
+row_room n m i room few small inside long =
+    let below : i ≤ 2 ^ 20 = omega arith in
+    (omega (arith, long, mul-le-mul_right m inside), mul-le-mul below small)

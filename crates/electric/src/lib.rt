@@ -5,33 +5,22 @@ ghost use Rattle.std.specs.Prelude.{◌≡◌, List, ℕ, ◌*◌, ◌^◌, ◌�
 ghost use Rattle.std.specs.Float.{binary64};
 ghost use Rattle.std.specs.Float.Ieee.{add};
 ghost use Rattle.mathematics.specs.Calls.{Answered};
-ghost use Rattle.answers.specs.Answer.{number_answer};
+ghost use Rattle.answers.specs.Refusal.{answer_of};
 ghost use Rattle.complex.specs.Complex.{complex_of};
-ghost use Rattle.matrices.specs.Coupling.{float_of};
 ghost use Rattle.hilbert.specs.Search.{row};
 ghost use Rattle.electric.specs.Electric.{field_term, field_sum, Begins, electric_call};
 
-use answers::Answer;
+use answers::refusal::Refusal;
 use complex::SimplicialComplex;
-use enumeration::prepare_basis;
+use enumeration::basis::Basis;
 use matrices::weights::all_bounded;
-use runs::{count_states, write_states};
 
 // (square × n) × n
+#[tactic(auto, unfolding(crate::specs::Electric::field_term))]
 fn field_term(square: f64, n: i32) -> f64
     ensures { result ≡ field_term square n }
 {
-    square * (n as f64) * (n as f64)
-}
-
-// The list begins with m zeros.
-fn clear(res: &mut [f64], m: usize)
-    requires { m ≤ length res.old }
-    ensures { Begins (λ e. float_of 0) m res.old res.new }
-{
-    for e in 0..m {
-        res[e] = 0.0;
-    }
+    square * f64::from(n) * f64::from(n)
 }
 
 // (square × n) × n is added to each of the first entries, n the value of a state on its edge.
@@ -39,21 +28,22 @@ fn add_state(state: &[i32], square: f64, res: &mut [f64])
     requires { length state.now ≤ length res.old }
     ensures { (f : ℕ → Float) (old : List Float) → Begins f (length state.now) old res.old → Begins (λ e. add binary64 (f e) (field_term square (get_or state.now e (pos 0)))) (length state.now) old res.new }
 {
-    for e in 0..state.len() {
-        res[e] = res[e] + field_term(square, state[e]);
+    for (e, n) in state.iter().enumerate() {
+        res[e] += field_term(square, *n);
     }
 }
 
-// The sums over n rows of m values go to the beginning of the result.
-fn write_sums(list: &[i32], n: usize, m: usize, amplitudes: &[f64], res: &mut [f64])
-    requires { (n ≤ 2 ^ 20) × (m ≤ 63) × (n * m ≤ length list.now) × (length amplitudes.now ≡ n) × (m ≤ length res.old) }
-    ensures { Begins (λ e. field_sum amplitudes.now (λ i. get_or (row m list.now i) e (pos 0)) n) m res.old res.new }
+// The sums over rows of m values, one for each amplitude, go to the beginning of the result. The rows are no chunks: a row may have no
+// values.
+fn write_sums(list: &[i32], m: usize, amplitudes: &[f64], res: &mut [f64])
+    requires { (length amplitudes.now ≤ 2 ^ 20) × (m ≤ 63) × (length amplitudes.now * m ≤ length list.now) × (m ≤ length res.old) }
+    ensures { Begins (λ e. field_sum amplitudes.now (λ i. get_or (row m list.now i) e (pos 0)) (length amplitudes.now)) m res.old res.new }
 {
-    clear(res, m);
-    for i in 0..n {
+    res[..m].fill(0.0);
+    for (i, amplitude) in amplitudes.iter().enumerate() {
         let at = i * m;
-        let amplitude = amplitudes[i];
-        add_state(&list[at..at + m], amplitude * amplitude, res);
+        let square = *amplitude * *amplitude;
+        add_state(&list[at..at + m], square, res);
     }
 }
 
@@ -65,28 +55,21 @@ pub fn electric_field_sq(
     amplitudes: &[f64],
     states: &mut [i32],
     res: &mut [f64],
-) -> Answer
-    ensures { Answered (electric_call (complex_of c) lambda amplitudes.now states.old res.old) (number_answer result) (states.new, res.new) }
+) -> Result<usize, Refusal>
+    ensures { Answered (electric_call (complex_of c) lambda amplitudes.now states.old res.old) (answer_of result) (states.new, res.new) }
 {
-    let basis = prepare_basis(c, lambda);
-    let number = basis.refusal;
-    if number != 0 {
-        return Answer::Refused(number);
-    }
-    let w = basis.walker;
-    let blocks = basis.blocks;
-    let n = count_states(w, lambda, blocks);
-    if amplitudes.len() != n {
-        return Answer::Refused(12);
+    let basis = Basis::prepare(c, lambda)?;
+    if amplitudes.len() != basis.count() {
+        return Err(Refusal::WrongListLength);
     }
     if !all_bounded(amplitudes) {
-        return Answer::Refused(14);
+        return Err(Refusal::WrongFloat);
     }
-    let m = w.n_edges;
-    if (states.len() < n * m) | (res.len() < m) {
-        return Answer::Refused(15);
+    let m = basis.walker.n_edges;
+    if (states.len() < amplitudes.len() * m) | (res.len() < m) {
+        return Err(Refusal::NoRoom);
     }
-    write_states(w, lambda, blocks, states);
-    write_sums(states, n, m, amplitudes, res);
-    Answer::Number(m)
+    basis.write(states);
+    write_sums(states, m, amplitudes, res);
+    Ok(m)
 }
