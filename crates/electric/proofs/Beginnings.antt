@@ -1,6 +1,5 @@
 -- Floats at the beginning of a list, entry by entry, and what the list then is.
-use Prim.Native.Nat.{ℕ, ◌+◌, ◌-◌, ◌*◌, ◌^◌, ◌≤◌, ◌<◌}
-use native.Mathlib.Nat.{mul-le-mul, mul-le-mul_right}
+use Prim.Native.Nat.{ℕ, ◌+◌, ◌-◌, ◌≤◌, ◌<◌}
 use mathlib.Core.List.{List, map, ◌++◌}
 use Rattle.std.proofs.Common.{replicate}
 use Rattle.std.proofs.lemmas.List.{length-replicate, get_or-replicate}
@@ -100,9 +99,3 @@ begins_zero m old zeros room is =
         let q : m + (e - m) ≡ e = omega arith in
         ap (λ (i : ℕ). get_or (replicate m (float_of 0) ++ drop m old) i nan) (sym q)
         ∙ (rw (length-replicate m (float_of 0)) at (get_or-append-add (replicate m (float_of 0)) (drop m old) (e - m) nan)) ∙ get_or-drop m old (e - m) nan ∙ ap (λ (i : ℕ). get_or old i nan) q
-
--- where row i of n lies in a list
-pub row_room : (n m i room : ℕ) → n ≤ 2 ^ 20 → m ≤ 63 → i < n → n * m ≤ room → (i * m + m ≤ room) × (i * m ≤ 2 ^ 20 * 63)
-row_room n m i room few small inside long =
-    let below : i ≤ 2 ^ 20 = omega arith in
-    (omega (arith, long, mul-le-mul_right m inside), mul-le-mul below small)

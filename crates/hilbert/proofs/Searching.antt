@@ -46,13 +46,15 @@ module _ (free : List ℕ) (s t : List ℤ) (j : ℕ) (some : 0 < j) (e : ℕ) (
   smaller_equals same = last_decides ∙ decided_equal (smaller free s t (j - 1)) (get_or s e (pos 0)) (get_or t e (pos 0)) same
 
 -- ---- a row of the list
-module _ (list : List ℤ) (n : ℕ) (config : List ℤ) (free : List ℕ) (n_free : ℕ) (rows : Rows list n config free n_free) (i : ℕ) (inside : i < n) where
-  pub row_inside : i * length config + length config ≤ length list
-  row_inside = omega (arith, rows.long, mul-le-mul_right (length config) inside)
+-- where row i of n lies in a list with a given room, and where it starts
+pub row_room : (n m i room : ℕ) → n ≤ 2 ^ 20 → m ≤ 63 → i < n → n * m ≤ room → (i * m + m ≤ room) × (i * m ≤ 2 ^ 20 * 63)
+row_room n m i room few small inside long =
+    let below : i ≤ 2 ^ 20 = omega arith in
+    (omega (arith, long, mul-le-mul_right m inside), mul-le-mul below small)
 
-  -- where it starts is a number of the machine
-  pub row_small : i * length config ≤ 2 ^ 20 * 63
-  row_small = let few : i ≤ 2 ^ 20 = omega (arith, rows.few) in mul-le-mul few rows.edges_few
+module _ (list : List ℤ) (n : ℕ) (config : List ℤ) (free : List ℕ) (n_free : ℕ) (rows : Rows list n config free n_free) (i : ℕ) (inside : i < n) where
+  row_inside : i * length config + length config ≤ length list
+  row_inside = (row_room n (length config) i (length list) rows.few rows.edges_few inside rows.long).0
 
   pub row_long : length (row (length config) list i) ≡ length config
   row_long = rw (length-take, length-drop) (omega (arith, row_inside))

@@ -7,10 +7,13 @@ use native.Mathlib.Omega.{arith}
 use native.Mathlib.Numerals.{add-one}
 use native.Mathlib.Decide.{ℕ_discrete}
 use borrow.Author.Tests.{leb-true}
-use lib.IntN.{ℤ, pos, nat_abs}
+use lib.IntN.{ℤ, pos, nat_abs, ◌+ℤ◌}
+use lib.Signed.{mag}
+use mir.Syntax.{w32}
+use mir.Val.{to_z, of_z}
 use lib.ListN.{get_or, length, take, drop}
 use lib.Seq.{drop-cons, drop-length, get_or-take}
-use Rattle.mathematics.proofs.Signed.{size_sum}
+use Rattle.mathematics.proofs.Signed.{size_sum, back32}
 use Rattle.gauss_law.specs.Gauss.{within}
 use Rattle.gauss_law.specs.Shifts.{raised, shifted}
 use Rattle.gauss_law.proofs.Shifts.{shifted_length, shifted_at, shifted_elsewhere}
@@ -109,3 +112,9 @@ module _ (L m : ℕ) (s : List ℤ) (es : List ℕ) (ds : List ℤ) (fits : Path
   pub walk_leads : walked s (path_of es ds) ≡ take m row
   unfolding walked
   walk_leads = u.leading ∙ rw nothing_left
+
+-- ---- a value and a direction, as the machine adds them
+pub sum_is : (row : List ℤ) (e : ℕ) (d : ℤ) (e' : ℕ) (d' : ℤ) → e' ≡ e → mag (get_or row e' (pos 0)) < 2 ^ 31 → d' ≡ d → mag d' < 2 ^ 31
+    → to_z w32 (of_z w32 (get_or row e' (pos 0))) +ℤ to_z w32 (of_z w32 d') ≡ raised row e d
+unfolding raised
+sum_is row e d e' d' is x is' y = rw (back32 (get_or row e' (pos 0)) x, back32 d' y) (rw (is, is'))

@@ -1,27 +1,32 @@
 // The Wilson loop along a path.
 #![tactic(auto)]
 
-ghost use Rattle.std.specs.Prelude.{◌≡◌, ◌||◌, ◌*◌, ◌^◌, ◌<◌, ◌≤◌, pos, negsuc, nat_abs, length};
+ghost use Rattle.std.specs.Prelude.{◌≡◌, ◌||◌, ◌*◌, ◌^◌, ◌<◌, ◌≤◌, ℕ, pos, negsuc, nat_abs, get_or, length, take};
 ghost use Rattle.mathematics.specs.Integers.{equal};
 ghost use Rattle.mathematics.specs.Tests.{every_entry};
 ghost use Rattle.mathematics.specs.Calls.{Answered};
-ghost use Rattle.answers.specs.Expectation.{expectation_answer};
+ghost use Rattle.answers.specs.Refusal.{answer_of};
 ghost use Rattle.complex.specs.Complex.{Complex, complex_of};
 ghost use Rattle.gauss_law.specs.Shifts.{raised};
 ghost use Rattle.plaquettes.specs.Targets.{BasisList};
 ghost use Rattle.wilson.specs.Wilson.{path_of, wilson, step_right, wilson_call};
-ghost use Rattle.wilson.specs.Walking.{PathFits, Amplitudes, same_values, with_product, Stepped};
+ghost use Rattle.wilson.specs.Walking.{PathFits, Amplitudes, same_values, with_product, Stepped, Arrived};
 
-use answers::expectation::Expectation;
+use answers::refusal::Refusal;
 use complex::SimplicialComplex;
-use enumeration::prepare_basis;
+use enumeration::basis::Basis;
 use hilbert::search::advance;
 use matrices::weights::all_bounded;
 use numbers::sizes::MOST_EDGES;
-use numbers::{byte, i8_to_i32, sum};
 use plaquettes::target::{Sizes, copy_state};
-use runs::{count_states, write_states};
 use walker::blocks::within;
+
+// A path: the edges of its steps, and the direction of each.
+#[derive(Clone, Copy)]
+pub struct Path<'a> {
+    pub edges: &'a [u8],
+    pub directions: &'a [i8],
+}
 
 fn is_direction(d: i8) -> bool
     ensures { result ≡ (equal d (pos 1) || equal d (negsuc 0)) }
@@ -29,27 +34,42 @@ fn is_direction(d: i8) -> bool
     (d == 1) | (d == -1)
 }
 
-// Whether every step of a path is over one of m edges, in the direction 1 or -1.
-fn path_right(edges: &[u8], directions: &[i8], m: usize) -> bool
-    requires { length directions.now ≡ length edges.now }
-    ensures { result ≡ every_entry (step_right m) (path_of edges.now directions.now) }
-{
-    let mut so_far = true;
-    for k in 0..edges.len() {
-        so_far = so_far & ((byte(edges[k]) < m) & is_direction(directions[k]));
-    }
-    so_far
-}
-
 // A step of a walk: whether it stays within -lambda to lambda.
 fn take_step(row: &mut [i32; MOST_EDGES], edge: u8, direction: i8, lambda: usize) -> bool
     requires { (length row.old ≡ 63) × (edge < 63) × (lambda ≤ 1000) × (nat_abs (raised row.old edge direction) ≤ 2 ^ 20) }
     ensures { Stepped lambda row.old edge direction result row.new }
 {
-    let e = byte(edge);
-    let x = sum(row[e], i8_to_i32(direction));
+    let e = usize::from(edge);
+    let x = row[e] + i32::from(direction);
     row[e] = x;
     within(x, lambda)
+}
+
+impl Path<'_> {
+    // Whether every step is over one of m edges, in the direction 1 or -1.
+    fn is_right(self, m: usize) -> bool
+        requires { length self.directions.now ≡ length self.edges.now }
+        ensures { result ≡ every_entry (step_right m) (path_of self.entry.edges.now self.entry.directions.now) }
+    {
+        let mut so_far = true;
+        for (edge, direction) in self.edges.iter().zip(self.directions) {
+            so_far &= (usize::from(*edge) < m) & is_direction(*direction);
+        }
+        so_far
+    }
+
+    // The walk from a row's configuration of m values: whether no step leaves -lambda to lambda. At the first that does it stops.
+    fn walk(self, row: &mut [i32; MOST_EDGES], m: usize, lambda: usize) -> bool
+        requires { (length row.old ≡ 63) × (m ≤ 63) × (lambda ≤ 1000) × PathFits m self.edges.now self.directions.now × ((e : ℕ) → e < m → nat_abs (get_or row.old e (pos 0)) ≤ lambda) }
+        ensures { Arrived lambda m (take m row.old) (path_of self.entry.edges.now self.entry.directions.now) result row.new }
+    {
+        for (edge, direction) in self.edges.iter().zip(self.directions) {
+            if !take_step(row, *edge, *direction, lambda) {
+                return false;
+            }
+        }
+        true
+    }
 }
 
 // Whether two rows of one length have the same values.
@@ -58,8 +78,8 @@ fn same_values(s: &[i32], t: &[i32]) -> bool
     ensures { result ≡ same_values s.now t.now }
 {
     let mut so_far = true;
-    for e in 0..s.len() {
-        so_far = so_far & (s[e] == t[e]);
+    for (x, y) in s.iter().zip(t) {
+        so_far &= *x == *y;
     }
     so_far
 }
@@ -95,28 +115,23 @@ fn wilson_sum(
     s: Sizes,
     free: &[u8; MOST_EDGES],
     amplitudes: &[f64],
-    edges: &[u8],
-    directions: &[i8],
+    path: Path<'_>,
 ) -> f64
-    requires { Amplitudes list.now s free.now amplitudes.now × PathFits s.edges edges.now directions.now }
-    ensures { (c : Complex) → BasisList c list.now s free.now → result ≡ wilson c s.lambda amplitudes.now (path_of edges.now directions.now) }
+    requires { Amplitudes list.now s free.now amplitudes.now × PathFits s.edges path.edges.now path.directions.now }
+    ensures { (c : Complex) → BasisList c list.now s free.now → result ≡ wilson c s.lambda amplitudes.now (path_of path.entry.edges.now path.entry.directions.now) }
 {
-    let n = s.states;
     let m = s.edges;
-    let lambda = s.lambda;
     let mut reached = [0i32; MOST_EDGES];
     let mut from = 0;
     let mut total = 0.0;
-    'states: for i in 0..n {
+    for i in 0..s.states {
         let at = i * m;
         copy_state(&mut reached, &list[at..at + m]);
-        for k in 0..edges.len() {
-            if !take_step(&mut reached, edges[k], directions[k], lambda) {
-                continue 'states;
-            }
+        if !path.walk(&mut reached, m, s.lambda) {
+            continue;
         }
-        from = advance(list, n, from, &reached[0..m], free, s.free);
-        total = add_reached(list, n, amplitudes, i, from, &reached[0..m], total);
+        from = advance(list, s.states, from, &reached[..m], free, s.free);
+        total = add_reached(list, s.states, amplitudes, i, from, &reached[..m], total);
     }
     total
 }
@@ -126,39 +141,30 @@ pub fn wilson_loop(
     c: SimplicialComplex,
     lambda: usize,
     amplitudes: &[f64],
-    edges: &[u8],
-    directions: &[i8],
+    path: Path<'_>,
     states: &mut [i32],
-) -> Expectation
-    ensures { Answered (wilson_call (complex_of c) lambda amplitudes.now edges.now directions.now states.old) (expectation_answer result) states.new }
+) -> Result<f64, Refusal>
+    ensures { Answered (wilson_call (complex_of c) lambda amplitudes.now path.entry.edges.now path.entry.directions.now states.old) (answer_of result) states.new }
 {
-    let basis = prepare_basis(c, lambda);
-    let number = basis.refusal;
-    if number != 0 {
-        return Expectation::Refused(number);
+    let basis = Basis::prepare(c, lambda)?;
+    if (amplitudes.len() != basis.count()) | (path.directions.len() != path.edges.len()) {
+        return Err(Refusal::WrongListLength);
     }
     let w = basis.walker;
-    let blocks = basis.blocks;
-    let n = count_states(w, lambda, blocks);
-    if (amplitudes.len() != n) | (directions.len() != edges.len()) {
-        return Expectation::Refused(12);
-    }
-    let m = w.n_edges;
-    if !path_right(edges, directions, m) {
-        return Expectation::Refused(13);
+    if !path.is_right(w.n_edges) {
+        return Err(Refusal::OutOfRange);
     }
     if !all_bounded(amplitudes) {
-        return Expectation::Refused(14);
+        return Err(Refusal::WrongFloat);
     }
-    if states.len() < n * m {
-        return Expectation::Refused(15);
+    if states.len() < amplitudes.len() * w.n_edges {
+        return Err(Refusal::NoRoom);
     }
-    let free = w.free;
     let s = Sizes {
-        states: write_states(w, lambda, blocks, states),
-        edges: m,
+        states: basis.write(states),
+        edges: w.n_edges,
         free: w.n_free,
-        lambda: lambda,
+        lambda,
     };
-    Expectation::Value(wilson_sum(states, s, &free, amplitudes, edges, directions))
+    Ok(wilson_sum(states, s, &w.free, amplitudes, path))
 }

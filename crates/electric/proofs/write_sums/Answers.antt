@@ -2,10 +2,10 @@ use Rattle.std.proofs.Common.{◌≡◌, length, arith, rules, pos, get_or, ◌�
 use lib.ListN.{length-take, length-drop}
 use Rattle.matrices.proofs.Literals.{zero}
 use Rattle.hilbert.specs.Search.{row}
-use Rattle.hilbert.proofs.Searching.{row_part}
+use Rattle.hilbert.proofs.Searching.{row_part, row_room}
 use Rattle.electric.specs.Electric.{field_sum}
 use Rattle.electric.proofs.FieldSums.{sum_next}
-use Rattle.electric.proofs.Beginnings.{begins_same, begins_zero, row_room}
+use Rattle.electric.proofs.Beginnings.{begins_same, begins_zero}
 use Rattle.electric.proofs.write_sums.Goals as goal
 
 pub loop-i-init : goal.loop-i-init
