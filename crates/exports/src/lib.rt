@@ -13,7 +13,7 @@ ghost use Rattle.exports.specs.Exports.{signed, outcome_told, signed_of, zero_of
 use answers::Answer;
 use answers::expectation::Expectation;
 use answers::refusal::Refusal;
-use matrices::coupling::Coupling;
+use matrices::coupling::{Coupling, KSParams};
 use sheet::{Reading, Sheet, sheet_read};
 
 // A value, or the refusal, which is not 0.
@@ -150,5 +150,32 @@ pub fn store_expectation(answer: Expectation, expectation: &mut f64) -> i64
             0
         }
         Expectation::Refused(number) => refused(number),
+    }
+}
+
+// The value of an answer goes to the place that is lent for it: 0.
+#[tactic(auto, unfolding(crate::specs::Exports::signed, crate::specs::Exports::zero_of, crate::specs::Exports::value_or))]
+pub fn store_value<T: Copy>(answer: Result<T, Refusal>, place: &mut T) -> i64
+    ensures { (result ≡ signed (zero_of (answer_of answer))) × (place.new ≡ value_or (answer_of answer) place.old) }
+{
+    match answer {
+        Ok(x) => {
+            *place = x;
+            0
+        }
+        Err(refusal) => signed_refusal(refusal),
+    }
+}
+
+// The same of a coupling, which goes to three floats.
+pub fn store_params(params: Result<KSParams, Refusal>, floats: &mut [f64; 3]) -> i64
+    ensures { (g : Float) (own : KSParams) → Answered (coupling_call g own) (answer_of params) none_lent → Exported (stored (coupling_call g own) three_floats floats.old) result floats.new }
+{
+    match params {
+        Ok(p) => {
+            *floats = [p.g_squared, p.electric, p.magnetic];
+            0
+        }
+        Err(refusal) => signed_refusal(refusal),
     }
 }
