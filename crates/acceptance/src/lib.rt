@@ -176,7 +176,7 @@ pub fn accept_indexed(c: SimplicialComplex, table: &mut [u8; 4096]) -> Result<()
     if !triangles_once(&c.triangles, table, t) {
         return Err(Refusal::WrongTriangle);
     }
-    if !connected(&c.edges, n, m) {
+    if !connected(&c) {
         return Err(Refusal::Disconnected);
     }
     Ok(())
