@@ -8,7 +8,7 @@ use borrow.Author.Tests.{ltb-false}
 use Rattle.std.specs.Io.KnownBytes.{Appends}
 use Rattle.std.proofs.KnownBytes.{Appends-trans}
 use Rattle.pages.specs.declared.Filled.{Filled}
-use Rattle.pages.specs.Pages.{Piece}
+use Rattle.pages.specs.Pages.{Piece, follows}
 
 -- all before a piece was written, and then the whole piece
 pub written : (a b c : Option (List ℕ)) (text out : List ℕ) (place n : ℕ) (r : Filled) → Piece text place out r → Appends a b (take place text)
@@ -20,7 +20,7 @@ written a b c text out place n r piece before whole inside more =
     subst (Appends a c) (ap (λ l. take place text ++ l) same ∙ sym (take-add place r.len text)) (Appends-trans a b c _ _ before more)
 
 -- behind the last piece no more of the text is to come
-pub to_the_end : (text out : List ℕ) (place : ℕ) (r : Filled) → Piece text place out r → r.more ≡ false → take (place + r.len) text ≡ text
+pub to_the_end : (text out : List ℕ) (place : ℕ) (r : Filled) → Piece text place out r → follows r.next ≡ false → take (place + r.len) text ≡ text
 to_the_end text out place r piece last =
     take_all (place + r.len) text (ltb-false (place + r.len) (length text) (sym piece.more ∙ last))
 

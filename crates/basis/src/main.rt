@@ -1,13 +1,14 @@
 // `basis list`: reads a sheet from standard input and prints its states, or the number of its refusal.
 #![tactic(auto)]
 
-ghost use Rattle.std.specs.Prelude.{◌≡◌, true, ℕ, ◌+◌, ◌≤◌, List, OnOk, length};
+ghost use Rattle.std.specs.Prelude.{◌≡◌, ℕ, ◌+◌, ◌≤◌, List, OnOk, IfSome, length};
 ghost use Rattle.std.specs.Io.KnownBytes.{Appends};
 ghost use Rattle.pages.specs.Pages.{PageReady, Piece};
 ghost use Rattle.pages.specs.Text.{basis_refusal, basis_text};
 ghost use Rattle.basis.specs.Status.{status_digit, status_of, Told};
 
 use answers::Answer;
+use answers::refusal::Refusal;
 use numbers::sizes::INPUT_ROOM;
 use pages::{Filled, fill_begin, fill_more};
 use refusals::refusal_text;
@@ -72,7 +73,8 @@ fn fail(rt: &HostRuntime, what: &[u8], why: Error) {
 }
 
 // The number and the sentence of a refusal go to standard error.
-fn say_refusal(rt: &HostRuntime, number: usize) {
+fn say_refusal(rt: &HostRuntime, refusal: Refusal) {
+    let number = usize::from(refusal.number());
     let mut text = [0u8; 256];
     say(rt, b"basis: refused ");
     let _ = eprint!(rt; "{number}");
@@ -99,7 +101,7 @@ fn unwritten(written: Output) -> Error {
 
 // What stands in the list goes out, and then all that is to come, piece by piece. Or why not all of it could be written: nothing follows a piece that could not.
 fn print<W: Write>(output: &mut W, out: &mut [u8], first: Filled) -> Result<()>
-    requires { (400 ≤ length out.old) × (first.len ≤ length out.old) × (first.more ≡ true → PageReady first.page) }
+    requires { (400 ≤ length out.old) × (first.len ≤ length out.old) × IfSome first.next PageReady }
     ensures { OnOk result ((text : List ℕ) → Piece text 0 out.old first → Appends (W.contents output.old) (W.contents output.new) text) }
 {
     let mut piece = first;
@@ -109,10 +111,10 @@ fn print<W: Write>(output: &mut W, out: &mut [u8], first: Filled) -> Result<()>
         if written.n < len {
             return Err(unwritten(written));
         }
-        if !piece.more {
+        let Some(page) = piece.next else {
             return output.flush();
-        }
-        piece = fill_more(out, piece.page);
+        };
+        piece = fill_more(out, page);
     }
 }
 
@@ -123,7 +125,6 @@ fn answer<W: Write>(rt: &HostRuntime, output: &mut W, bytes: &[u8]) -> Status
 {
     let mut out = buffer();
     let begun = fill_begin(&mut out, bytes);
-    let refusal = begun.refusal;
     if let Err(why) = print(output, &mut out, begun.filled) {
         fail(
             rt,
@@ -132,11 +133,13 @@ fn answer<W: Write>(rt: &HostRuntime, output: &mut W, bytes: &[u8]) -> Status
         );
         return Status::Failed;
     }
-    if refusal == 0 {
-        return Status::Answered;
+    match begun.refusal {
+        None => Status::Answered,
+        Some(refusal) => {
+            say_refusal(rt, refusal);
+            Status::Refused
+        }
     }
-    say_refusal(rt, refusal);
-    Status::Refused
 }
 
 fn list(rt: &HostRuntime) -> Status {

@@ -1,15 +1,13 @@
 -- From one page to the next.
 use Prim.Native.Nat.{ℕ, ◌+◌, ◌-◌, ◌^◌, ◌≤◌, ◌<◌}
 use mathlib.Core.List.{List, [], ◌∷◌, ◌++◌, append-nil}
-use mathlib.Core.Bool.{false}
-use mathlib.Core.Path.{◌≡◌, refl, sym, ap, ◌∙◌}
+use mathlib.Core.Path.{◌≡◌, ap, ◌∙◌}
 use native.Mathlib.Omega.{arith}
 use native.Mathlib.Nat.{sub-zero}
-use borrow.Author.Tests.{ltb-true, ltb-false}
-use lib.Dec.{ltb}
 use lib.IntN.{ℤ}
 use lib.ListN.{length, take, drop, length-append}
 use lib.Seq.{take_at, length-take-le}
+use Rattle.std.proofs.Common.{Option, Some, None, MatchOption}
 use Rattle.cycles.specs.Cycles.{row}
 use Rattle.walker.specs.declared.tables.Walker.{Walker}
 use Rattle.walker.specs.Walker.{walked_states}
@@ -21,7 +19,6 @@ use Rattle.cursor.proofs.Cursors.{few_states, anew_long}
 use Rattle.lines.specs.Put.{Put}
 use Rattle.lines.specs.Lines.{ascii, named, counts_text, state_lines, first_line, refused_line}
 use Rattle.pages.specs.declared.Page.{Page}
-use Rattle.pages.specs.declared.Filled.{Filled}
 use Rattle.pages.specs.declared.states.Lines.{Lines}
 use Rattle.pages.specs.Pages.{lines_from, Part, to_come, PageReady, Fills, LinesFilled}
 use Rattle.pages.proofs.Parts.{put_part}
@@ -35,13 +32,10 @@ nothing_left p none =
     let c = p.cursor in
     ap (λ k. state_lines c.number (states_left w.free (row (length s) w.cycles) p.lambda w.n_free s k c.d c.to)) none
 
-pub fills : (text out : List ℕ) (r : Filled) → Part text out r.len (to_come r.page) → r.more ≡ ltb 0 r.page.cursor.left → (0 < r.page.cursor.left → PageReady r.page) → Fills text out r
-fills text out r part told ready =
-    record {
-      part = part;
-      more = λ h. ready (ltb-true 0 r.page.cursor.left (sym told ∙ h));
-      last = λ h. let none = ltb-false 0 r.page.cursor.left (sym told ∙ h) in nothing_left r.page (omega arith);
-    }
+pub fills : (text out : List ℕ) (len : ℕ) (p : Page) (q : Option Page) → MatchOption q (p.cursor.left ≡ 0) (λ n. (n ≡ p) × (0 < p.cursor.left)) → Part text out len (to_come p)
+    → (0 < p.cursor.left → PageReady p) → Fills text out (record { len = len; next = q })
+fills text out len p None none part ready = record { part = rw (← (nothing_left p none)) part; ready = tt }
+fills text out len p (Some n) h part ready = record { part = rw h.0 part; ready = rw h.0 (ready h.1) }
 
 -- ---- a whole text
 refused_some : (n : ℕ) → 0 < length (refused_line n)
@@ -52,15 +46,10 @@ pub first_some : (v e t lambda dim : ℕ) → 0 < length (first_line v e t lambd
 unfolding first_line ascii
 first_some v e t lambda dim = omega (arith, length-append (counts_text v e t lambda ++ named " dim " dim) (10 ∷ []))
 
-pub refused_fills : (n : ℕ) (before after : List ℕ) (r : Filled) → 0 + length (refused_line n) ≤ length before → r.more ≡ false → r.page.cursor.left ≡ 0 → Put (refused_line n) before 0 after r.len → Fills (refused_line n) after r
-refused_fills n before after r room no_more none written =
+pub refused_fills : (n len : ℕ) (before after : List ℕ) → 0 + length (refused_line n) ≤ length before → Put (refused_line n) before 0 after len → Fills (refused_line n) after (record { len = len; next = None })
+refused_fills n len before after room written =
     let text = refused_line n in
-    let nothing = nothing_left r.page none in
-    record {
-      part = rw nothing (rw (append-nil text) at (put_part text [] before after r.len room (refused_some n) written));
-      more = λ h. let z : ◌≡◌ {A = ℕ} 0 1 = cc in absurd (omega arith);
-      last = λ h. nothing;
-    }
+    record { part = rw (append-nil text) at (put_part text [] before after len room (refused_some n) written); ready = tt }
 
 -- ---- a page whose assignment stands at the front of its list
 module _ (w : Walker) (L : ℕ) (c : Cursor) (s rest : List ℤ) (long : length s ≡ w.n_edges) where
@@ -105,12 +94,12 @@ module _ (p : Page) (ready : PageReady p) where
   lines_here = rw (sub-zero m)
 
   pub turned : (out : List ℕ) (new rest : List ℤ) (r : Lines) → length new ≡ length config → rest ≡ drop (m - 0) p.config → LinesFilled p.walker.free p.walker.cycles p.lambda p.walker.n_free config p.cursor out new r
-      → Fills (to_come p) out (record { len = r.len; more = ltb 0 r.cursor.left; page = record { lambda = p.lambda; walker = p.walker; cursor = r.cursor; config = new ++ rest } })
-  turned out new rest r same is filled =
+      → (q : Option Page) → MatchOption q (r.cursor.left ≡ 0) (λ n. (n ≡ record { lambda = p.lambda; walker = p.walker; cursor = r.cursor; config = new ++ rest }) × (0 < r.cursor.left))
+      → Fills (to_come p) out (record { len = r.len; next = q })
+  turned out new rest r same is filled q told =
       let w = p.walker in
       let long = same ∙ config_long in
       let all : length (new ++ rest) ≡ 63 = rw is (anew_long new p.config m long ready.edges ready.long) in
-      fills (to_come p) out _
+      fills (to_come p) out r.len (record { lambda = p.lambda; walker = w; cursor = r.cursor; config = new ++ rest }) q told
       (rw (page_lines w p.lambda r.cursor new rest long, ← lines_here) filled.part)
-      refl
       (page_ready w p.lambda r.cursor new rest long ready.edges all filled.standing)

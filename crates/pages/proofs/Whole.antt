@@ -1,20 +1,20 @@
 -- Pieces by their place; the pieces, one behind the other, are the whole text.
 use Prim.Native.Nat.{ℕ, suc, ◌+◌, ◌<◌, ◌≤◌}
 use mathlib.Core.List.{List, ◌++◌}
-use mathlib.Core.Bool.{Bool, true, false}
 use mathlib.Core.Path.{◌≡◌, refl, sym, ap, ◌∙◌}
 use native.Mathlib.Omega.{arith}
 use borrow.Author.Tests.{lt-ltb, le-ltb, ltb-false}
 use lib.Dec.{ltb}
 use lib.ListN.{length, take, drop, length-append, length-drop, take-append-drop}
 use lib.Seq.{take_at, take_all, drop_at, drop-drop, length-take-le}
+use Rattle.std.proofs.Common.{Option, Some, None}
 use Rattle.cycles.specs.Cycles.{row}
 use Rattle.cursor.specs.Cursor.{states_left, state_here}
 use Rattle.cursor.proofs.Cursors.{more_rows}
 use Rattle.lines.specs.Lines.{state_line, state_lines}
 use Rattle.pages.specs.declared.Page.{Page}
 use Rattle.pages.specs.declared.Filled.{Filled}
-use Rattle.pages.specs.Pages.{lines_from, to_come, PageReady, Fills, Piece, Pieces, last, then}
+use Rattle.pages.specs.Pages.{lines_from, to_come, rest_of, follows, PageReady, Fills, Piece, Pieces, last, then}
 use Rattle.pages.proofs.Parts.{line_some}
 
 -- where a page can be turned, something is to come
@@ -35,7 +35,7 @@ module _ (text out : List ℕ) (place : ℕ) (r : Filled) (inside : place ≤ le
   part = take r.len out
 
   abbrev rest : List ℕ
-  rest = to_come r.page
+  rest = rest_of r.next
 
   part_long : length part ≡ r.len
   part_long = length-take-le r.len out filled.part.inside
@@ -50,17 +50,19 @@ module _ (text out : List ℕ) (place : ℕ) (r : Filled) (inside : place ≤ le
         fits = filled.part.inside;
         some = filled.part.some;
         inside = omega (arith, text_long);
-        more = go r.more refl;
-        ready = filled.more;
-        next = record {
-          rest = sym (sym (drop-drop r.len place text) ∙ ap (drop r.len) filled.part.joined ∙ drop_at part rest r.len part_long);
-          inside = omega (arith, text_long);
-        };
+        more = go r.next refl;
+        ready = filled.ready;
+        rest = sym (sym (drop-drop r.len place text) ∙ ap (drop r.len) filled.part.joined ∙ drop_at part rest r.len part_long);
       }
     where
-      go : (b : Bool) → r.more ≡ b → r.more ≡ ltb (place + r.len) (length text)
-      go true h = h ∙ sym (lt-ltb (place + r.len) (length text) (omega (arith, text_long, ready_some r.page (filled.more h))))
-      go false h = h ∙ sym (le-ltb (place + r.len) (length text) (omega (arith, text_long, ap length (filled.last h))))
+      go : (q : Option Page) → r.next ≡ q → follows r.next ≡ ltb (place + r.len) (length text)
+      go (Some p) h =
+          let ready : PageReady p = rw h at filled.ready in
+          let long : length rest ≡ length (to_come p) = ap (λ q. length (rest_of q)) h in
+          ap follows h ∙ sym (lt-ltb (place + r.len) (length text) (omega (arith, text_long, long, ready_some p ready)))
+      go None h =
+          let long : length rest ≡ 0 = ap (λ q. length (rest_of q)) h in
+          ap follows h ∙ sym (le-ltb (place + r.len) (length text) (omega (arith, text_long, long)))
 
 -- pieces up to the last, one behind the other, are the text from their place on
 pub whole : {text l : List ℕ} {place : ℕ} → Pieces text place l → l ≡ drop place text

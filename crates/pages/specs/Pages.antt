@@ -1,7 +1,9 @@
 -- The text of `basis list`, a piece at a time.
-use Rattle.std.specs.Prelude.{ℕ, ◌+◌, ◌<◌, ◌≤◌, List, [], ◌++◌, true, false, ◌≡◌, ℤ, ltb, length, take, drop}
+use Rattle.std.specs.Prelude.{ℕ, ◌+◌, ◌<◌, ◌≤◌, List, [], ◌++◌, Bool, true, false, Option, Some, None, IfSome, ◌≡◌, ℤ, ltb, length, take, drop}
 use Rattle.cursor.specs.declared.Cursor.{Cursor}
 use Rattle.cursor.specs.Cursor.{states_from, Standing}
+use Rattle.answers.specs.Refusal.{refusal_number}
+use Rattle.answers.specs.declared.refusal.Refusal.{Refusal}
 use Rattle.lines.specs.Lines.{state_lines}
 use Rattle.pages.specs.declared.states.Lines.{Lines}
 use Rattle.pages.specs.declared.Page.{Page}
@@ -19,6 +21,21 @@ to_come p =
     let w = p.walker in
     lines_from w.free w.cycles p.lambda w.n_free (take w.n_edges p.config) p.cursor
 
+-- what is still to come where a page follows, or none
+abbrev pub rest_of : Option Page → List ℕ
+rest_of None = []
+rest_of (Some p) = to_come p
+
+-- whether a page follows
+abbrev pub follows : Option Page → Bool
+follows None = false
+follows (Some p) = true
+
+-- the number of a refusal, 0 for none
+abbrev pub number_of : Option Refusal → ℕ
+number_of None = 0
+number_of (Some r) = refusal_number r
+
 -- a page after which another comes
 pub record PageReady (p : Page) : Type 0 where
   pub edges : p.walker.n_edges ≤ 63
@@ -31,21 +48,21 @@ pub record PageAt (text : List ℕ) (place : ℕ) (p : Page) : Type 0 where
   pub rest : to_come p ≡ drop place text
   pub inside : place ≤ length text
 
--- The next piece of a text, from a place on. The bytes at the front of a list are those of the text, at least one of them. More is told exactly
+-- The next piece of a text, from a place on. The bytes at the front of a list are those of the text, at least one of them. A page follows exactly
 -- where they are not its last, and then the next piece can be asked for. The page stands right behind them.
 pub record Piece (text : List ℕ) (place : ℕ) (out : List ℕ) (r : Filled) : Type 0 where
   pub bytes : take r.len out ≡ take r.len (drop place text)
   pub fits : r.len ≤ length out
   pub some : 0 < r.len
   pub inside : place + r.len ≤ length text
-  pub more : r.more ≡ ltb (place + r.len) (length text)
-  pub ready : r.more ≡ true → PageReady r.page
-  pub next : PageAt text (place + r.len) r.page
+  pub more : follows r.next ≡ ltb (place + r.len) (length text)
+  pub ready : IfSome r.next PageReady
+  pub rest : rest_of r.next ≡ drop (place + r.len) text
 
 -- the first piece of the answer to the bytes of a sheet, and the number of its refusal, 0 where it has none
 pub record Begins (bytes out : List ℕ) (r : Begun) : Type 0 where
   pub piece : Piece (basis_text bytes) 0 out r.filled
-  pub refusal : r.refusal ≡ basis_refusal bytes
+  pub refusal : number_of r.refusal ≡ basis_refusal bytes
 
 -- the piece after a page, of every text and place that the page stands at
 abbrev pub Continues : List ℕ → Page → Filled → Type 0
@@ -53,8 +70,8 @@ Continues out p r = (text : List ℕ) (place : ℕ) → PageAt text place p → 
 
 -- For a theorem: pieces of a text, from a place on, each where the one before it ends, until no more is told.
 pub data Pieces (text : List ℕ) : ℕ → List ℕ → Type 0 where
-  last : {place : ℕ} (out : List ℕ) (r : Filled) → Piece text place out r → r.more ≡ false → Pieces text place (take r.len out)
-  then : {place : ℕ} {l : List ℕ} (out : List ℕ) (r : Filled) → Piece text place out r → r.more ≡ true → Pieces text (place + r.len) l → Pieces text place (take r.len out ++ l)
+  last : {place : ℕ} (out : List ℕ) (r : Filled) → Piece text place out r → follows r.next ≡ false → Pieces text place (take r.len out)
+  then : {place : ℕ} {l : List ℕ} (out : List ℕ) (r : Filled) → Piece text place out r → follows r.next ≡ true → Pieces text (place + r.len) l → Pieces text place (take r.len out ++ l)
 
 -- ---- the steps of the code
 -- What is to come begins with what stands in the front of a list, which is something; the rest of it is still to come.
@@ -63,16 +80,15 @@ pub record Part (before out : List ℕ) (len : ℕ) (after : List ℕ) : Type 0 
   pub inside : len ≤ length out
   pub some : 0 < len
 
--- the first part of a text is in the list, and it is told whether more is to come
+-- the first part of a text is in the list, and where more is to come a page follows
 pub record Fills (text out : List ℕ) (r : Filled) : Type 0 where
-  pub part : Part text out r.len (to_come r.page)
-  pub more : r.more ≡ true → PageReady r.page
-  pub last : r.more ≡ false → to_come r.page ≡ []
+  pub part : Part text out r.len (rest_of r.next)
+  pub ready : IfSome r.next PageReady
 
 -- the same of a text that a refusal decides
 pub record Told (number : ℕ) (text out : List ℕ) (r : Begun) : Type 0 where
   pub fills : Fills text out r.filled
-  pub refusal : r.refusal ≡ number
+  pub refusal : number_of r.refusal ≡ number
 
 pub record LinesFilled (free : List ℕ) (cycles : List ℤ) (L n : ℕ) (old : List ℤ) (c : Cursor) (out : List ℕ) (new : List ℤ) (r : Lines) : Type 0 where
   pub part : Part (lines_from free cycles L n old c) out r.len (lines_from free cycles L n new r.cursor)

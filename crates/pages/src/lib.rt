@@ -3,8 +3,9 @@
 
 pub mod states;
 
-ghost use Rattle.std.specs.Prelude.{◌≡◌, ◌∷◌, [], ◌≤◌, ◌<◌, length};
+ghost use Rattle.std.specs.Prelude.{◌≡◌, ◌∷◌, [], ◌≤◌, ◌<◌, length, MatchOption};
 ghost use Rattle.mathematics.specs.Refusals.{first};
+ghost use Rattle.answers.specs.Refusal.{refusal_number};
 ghost use Rattle.complex.specs.Complex.{complex_of};
 ghost use Rattle.complex.specs.Judge.{refusal};
 ghost use Rattle.walker.specs.Tables.{states_of, Fit};
@@ -13,14 +14,13 @@ ghost use Rattle.lines.specs.Lines.{state_lines, refused_line};
 ghost use Rattle.pages.specs.Text.{told};
 ghost use Rattle.pages.specs.Pages.{to_come, PageReady, Told, Begins, Continues};
 
+use answers::refusal::Refusal;
 use cursor::{Cursor, first_state};
-use cycles::CYCLE_ENTRIES;
 use enumeration::{count_of_blocks, too_many};
 use lines::{write_first_line, write_refused_line};
-use numbers::byte;
 use numbers::sizes::MOST_EDGES;
 use runs::count_states;
-use sheet::{Reading, Sheet, sheet_read};
+use sheet::{Sheet, read_sheet};
 use states::write_lines;
 use walker::tables::{Walker, prepare};
 
@@ -33,43 +33,28 @@ pub struct Page {
     pub config: [i32; MOST_EDGES],
 }
 
-// The first len bytes of the list are the next of the text; whether more is to come, and where it goes on.
+// The first len bytes of the list are the next of the text, which goes on at a page where more is to come.
 #[derive(Clone, Copy)]
 pub struct Filled {
     pub len: usize,
-    pub more: bool,
-    pub page: Page,
+    pub next: Option<Page>,
 }
 
-// The first piece, and the number of the refusal, 0 where there is none.
+// The first piece, and why the sheet is refused where it is.
 #[derive(Clone, Copy)]
 pub struct Begun {
-    pub refusal: usize,
+    pub refusal: Option<Refusal>,
     pub filled: Filled,
 }
 
-// Nothing is to come.
-fn last_page() -> Page
-    ensures { result.cursor.left ≡ 0 }
+// A page, where something is to come after it.
+fn while_left(page: Page) -> Option<Page>
+    ensures { MatchOption result (page.cursor.left ≡ 0) (λ next. (next ≡ page) × (0 < page.cursor.left)) }
 {
-    let walker = Walker {
-        n_edges: 0,
-        n_free: 0,
-        free: [0; MOST_EDGES],
-        cycles: [0; CYCLE_ENTRIES],
-        first: [0; MOST_EDGES],
-    };
-    let cursor = Cursor {
-        left: 0,
-        d: 0,
-        to: 0,
-        number: 0,
-    };
-    Page {
-        lambda: 0,
-        walker: walker,
-        cursor: cursor,
-        config: [0; MOST_EDGES],
+    if 0 < page.cursor.left {
+        Some(page)
+    } else {
+        None
     }
 }
 
@@ -93,19 +78,14 @@ fn first_page(w: Walker, lambda: usize, blocks: usize) -> Page
     }
 }
 
-fn fill_refused(out: &mut [u8], number: usize) -> Begun
+fn fill_refused(out: &mut [u8], refusal: Refusal) -> Begun
     requires { 400 ≤ length out.old }
-    ensures { Told number (refused_line number) out.new result }
+    ensures { Told (refusal_number refusal) (refused_line (refusal_number refusal)) out.new result }
 {
-    let len = write_refused_line(out, 0, number);
-    let filled = Filled {
-        len: len,
-        more: false,
-        page: last_page(),
-    };
+    let len = write_refused_line(out, 0, usize::from(refusal.number()));
     Begun {
-        refusal: number,
-        filled: filled,
+        refusal: Some(refusal),
+        filled: Filled { len, next: None },
     }
 }
 
@@ -117,22 +97,16 @@ fn fill_first(out: &mut [u8], s: Sheet) -> Begun
     let c = s.complex;
     let lambda = s.lambda;
     let w = prepare(c, lambda);
-    let n_free = w.n_free;
-    if too_many(n_free, lambda) {
-        return fill_refused(out, 10);
+    if too_many(w.n_free, lambda) {
+        return fill_refused(out, Refusal::ManyCandidates);
     }
-    let blocks = count_of_blocks(n_free, lambda);
+    let blocks = count_of_blocks(w.n_free, lambda);
     let dim = count_states(w, lambda, blocks);
     let len = write_first_line(out, 0, c.n_vertices, c.n_edges, c.n_triangles, lambda, dim);
-    let page = first_page(w, lambda, blocks);
-    let filled = Filled {
-        len: len,
-        more: 0 < page.cursor.left,
-        page: page,
-    };
+    let next = while_left(first_page(w, lambda, blocks));
     Begun {
-        refusal: 0,
-        filled: filled,
+        refusal: None,
+        filled: Filled { len, next },
     }
 }
 
@@ -141,11 +115,9 @@ pub fn fill_begin(out: &mut [u8], bytes: &[u8]) -> Begun
     requires { 400 ≤ length out.old }
     ensures { Begins bytes.now out.new result }
 {
-    let read = sheet_read(bytes);
-    let answer = read.answer;
-    match answer {
-        Reading::Accepted => fill_first(out, read.sheet),
-        Reading::Refused(number) => fill_refused(out, byte(number)),
+    match read_sheet(bytes) {
+        Ok(sheet) => fill_first(out, sheet),
+        Err(refusal) => fill_refused(out, refusal),
     }
 }
 
@@ -164,15 +136,14 @@ pub fn fill_more(out: &mut [u8], page: Page) -> Filled
     let m = w.n_edges;
     let config = &mut space[0..m];
     let lines = write_lines(out, cursor, config, &free, n_free, &cycles, lambda);
-    let here = lines.cursor;
+    let turned = Page {
+        lambda: lambda,
+        walker: w,
+        cursor: lines.cursor,
+        config: space,
+    };
     Filled {
         len: lines.len,
-        more: 0 < here.left,
-        page: Page {
-            lambda: lambda,
-            walker: w,
-            cursor: here,
-            config: space,
-        },
+        next: while_left(turned),
     }
 }

@@ -5,7 +5,7 @@ ghost use Rattle.std.specs.Prelude.{◌≡◌};
 ghost use Rattle.mathematics.specs.Calls.{none_lent};
 ghost use Rattle.law_check.specs.Law.{law_answer, law_call};
 ghost use Rattle.enumeration.specs.Enumeration.{enumerated_call, counted_call};
-ghost use Rattle.hilbert.specs.Index.{index_answer, index_call};
+ghost use Rattle.hilbert.specs.Index.{index_call};
 ghost use Rattle.shifts.specs.Shift.{shift_call};
 ghost use Rattle.matrices.specs.Coupling.{coupling_call, u1_params};
 ghost use Rattle.plaquettes.specs.Triangle.{triangle_call};
@@ -22,15 +22,18 @@ use electric::electric_field_sq;
 use entries::count_entries;
 use enumeration::count::count_states;
 use enumeration::enumerate_gauge_invariant;
-use exports::{Told, open, refused, signed, store, store_expectation, told_number};
+use exports::{
+    Told, open, refused, signed, signed_refusal, signed_result, store, store_value, told_number,
+};
 use hamiltonian::dense::build_hamiltonian;
-use hilbert::index::{Index, config_to_index};
+use hilbert::index::config_to_index;
 use lanczos::matvec::hamiltonian_matvec;
 use law_check::{GaussCheck, check_gauss_law};
 use matrices::coupling::KSParams;
 use plaquettes::triangle::apply_triangle_shift;
+use sheet::read_sheet;
 use shifts::apply_shift;
-use wilson::wilson_loop;
+use wilson::{Path, wilson_loop};
 
 fn told_law(answer: GaussCheck) -> Told
     ensures { result ≡ outcome_told (yes_of (law_answer answer)) }
@@ -41,25 +44,6 @@ fn told_law(answer: GaussCheck) -> Told
             value: yes as usize,
         },
         GaussCheck::Refused(number) => Told {
-            refusal: number,
-            value: 0,
-        },
-    }
-}
-
-fn told_index(answer: Index) -> Told
-    ensures { result ≡ outcome_told (index_answer answer) }
-{
-    match answer {
-        Index::Place(place) => Told {
-            refusal: 0,
-            value: place,
-        },
-        Index::NotInBasis => Told {
-            refusal: 17,
-            value: 0,
-        },
-        Index::Refused(number) => Told {
             refusal: number,
             value: 0,
         },
@@ -96,16 +80,14 @@ pub fn export_enumerate_gauge_invariant(sheet: &[u8], states: &mut [i32]) -> i64
 pub fn export_config_to_index(sheet: &[u8], configuration: &[i32], states: &mut [i32]) -> i64
     ensures { Exported (on_sheet sheet.now (λ c L. index_call c L configuration.now states.old)) result states.new }
 {
-    let opened = open(sheet);
-    let number = opened.refusal;
-    if number != 0 {
-        return refused(number);
+    match read_sheet(sheet) {
+        Ok(s) => signed_result(config_to_index(s.complex, s.lambda, configuration, states)),
+        Err(refusal) => signed_refusal(refusal),
     }
-    let s = opened.sheet;
-    signed(told_index(config_to_index(s.complex, s.lambda, configuration, states)))
 }
 
 // The place of a configuration with a delta added on one edge.
+#[tactic(auto, using(crate::proofs::Small::shift_small))]
 pub fn export_apply_shift(
     sheet: &[u8],
     configuration: &[i32],
@@ -116,22 +98,18 @@ pub fn export_apply_shift(
 ) -> i64
     ensures { Exported (on_sheet sheet.now (λ c L. shift_call c L configuration.now edge delta states.old res.old)) result (states.new, res.new) }
 {
-    let opened = open(sheet);
-    let number = opened.refusal;
-    if number != 0 {
-        return refused(number);
+    match read_sheet(sheet) {
+        Ok(s) => signed_result(apply_shift(
+            s.complex,
+            s.lambda,
+            configuration,
+            edge as usize,
+            delta,
+            states,
+            res,
+        )),
+        Err(refusal) => signed_refusal(refusal),
     }
-    let s = opened.sheet;
-    let shifted = apply_shift(
-        s.complex,
-        s.lambda,
-        configuration,
-        edge as usize,
-        delta,
-        states,
-        res,
-    );
-    signed(told_index(shifted))
 }
 
 // The place of the state that a triangle's shift makes of a sheet's state at a place.
@@ -282,6 +260,7 @@ pub fn export_hamiltonian_matvec(
 }
 
 // The square of the electric field on each edge of a sheet, expected in a state: the number of edges.
+#[tactic(auto, using(crate::proofs::Small::electric_small))]
 pub fn export_electric_field_sq(
     sheet: &[u8],
     amplitudes: &[f64],
@@ -290,13 +269,10 @@ pub fn export_electric_field_sq(
 ) -> i64
     ensures { Exported (on_sheet sheet.now (λ c L. electric_call c L amplitudes.now states.old res.old)) result (states.new, res.new) }
 {
-    let opened = open(sheet);
-    let number = opened.refusal;
-    if number != 0 {
-        return refused(number);
+    match read_sheet(sheet) {
+        Ok(s) => signed_result(electric_field_sq(s.complex, s.lambda, amplitudes, states, res)),
+        Err(refusal) => signed_refusal(refusal),
     }
-    let s = opened.sheet;
-    signed(told_number(electric_field_sq(s.complex, s.lambda, amplitudes, states, res)))
 }
 
 // The Wilson loop along a path of a sheet, expected in a state: 0.
@@ -310,12 +286,12 @@ pub fn export_wilson_loop(
 ) -> i64
     ensures { Exported (on_sheet sheet.now (λ c L. value_lent (wilson_call c L amplitudes.now edges.now directions.now states.old) expectation.old)) result (states.new, expectation.new) }
 {
-    let opened = open(sheet);
-    let number = opened.refusal;
-    if number != 0 {
-        return refused(number);
+    let path = Path { edges, directions };
+    match read_sheet(sheet) {
+        Ok(s) => store_value(
+            wilson_loop(s.complex, s.lambda, amplitudes, path, states),
+            expectation,
+        ),
+        Err(refusal) => signed_refusal(refusal),
     }
-    let s = opened.sheet;
-    let answer = wilson_loop(s.complex, s.lambda, amplitudes, edges, directions, states);
-    store_expectation(answer, expectation)
 }

@@ -1,12 +1,11 @@
 -- Each piece leaves less to come, and the next one stands in the list. What was written and the piece are the beginning of a text.
-use Rattle.std.proofs.Common.{ℕ, ◌+◌, ◌<◌, List, refl, ap, ◌∙◌, arith, length, subst}
-use borrow.Author.Tests.{not-true}
+use Rattle.std.proofs.Common.{◌≡◌, ℕ, ◌+◌, ◌<◌, List, Some, refl, ap, ◌∙◌, arith, length, subst}
 use Rattle.std.specs.Io.KnownBytes.{Appends}
 use lib.ListN.{length-drop}
 use Rattle.std.proofs.KnownBytes.{Appends-nil, Appends-kept}
 use Rattle.pages.specs.declared.Page.{Page}
 use Rattle.pages.specs.declared.Filled.{Filled}
-use Rattle.pages.specs.Pages.{to_come, Piece, Continues}
+use Rattle.pages.specs.Pages.{to_come, rest_of, follows, PageAt, Piece, Continues}
 use Rattle.basis.proofs.Writing.{written, to_the_end, on_ok}
 use Rattle.basis.proofs.print.Goals as goal
 
@@ -15,8 +14,12 @@ next : (p : Page) (out : List ℕ) (r : Filled) → Continues out p r → Piece 
 next p out r more = more (to_come p) 0 (record { rest = refl; inside = omega arith })
 
 -- each piece leaves less to come
-less : (text out : List ℕ) (r : Filled) → Piece text 0 out r → length (to_come r.page) < length text
-less text out r piece = omega (arith, piece.some, piece.inside, ap length piece.next.rest, length-drop (0 + r.len) text)
+less : (text out : List ℕ) (r : Filled) → Piece text 0 out r → length (rest_of r.next) < length text
+less text out r piece = omega (arith, piece.some, piece.inside, ap length piece.rest, length-drop (0 + r.len) text)
+
+-- where a page follows, it stands behind the piece
+behind : (text out : List ℕ) (place : ℕ) (r : Filled) (p : Page) → Piece text place out r → r.next ≡ Some p → PageAt text (place + r.len) p
+behind text out place r p piece is = record { rest = rw is at piece.rest; inside = piece.inside }
 
 pub loop-piece-init : goal.loop-piece-init
 loop-piece-init g c =
@@ -27,12 +30,18 @@ loop-piece-init g c =
       given = λ text first. (0, first, Appends-nil (g.W.Write.contents c.args.output.now));
     }
 
+pub fill_more-piece-requires : goal.fill_more-piece-requires
+fill_more-piece-requires g c = (omega (arith, c.requires.0, c.loop-piece.invariant.long), rw c.in-Some.is at c.loop-piece.invariant.ready)
+
 pub loop-piece-smaller : goal.loop-piece-smaller
-loop-piece-smaller g c = less _ _ _ (next _ _ _ c.fill_more-piece.ensures)
+loop-piece-smaller g c =
+    let piece = next _ _ _ c.fill_more-piece.ensures in
+    let came : length (rest_of c.loop-piece.piece.next) ≡ length (to_come c.in-Some.page) = ap (λ q. length (rest_of q)) c.in-Some.is in
+    omega (arith, came, less _ _ _ piece)
 
 pub loop-piece-preserved : goal.loop-piece-preserved
 loop-piece-preserved g c =
-    let piece : Piece (to_come c.loop-piece.piece.page) 0 c.fill_more-piece.new.out c.fill_more-piece.result =
+    let piece : Piece (to_come c.in-Some.page) 0 c.fill_more-piece.new.out c.fill_more-piece.result =
     next _ _ _ c.fill_more-piece.ensures in
     let out = c.write_output-written in
     record {
@@ -41,15 +50,15 @@ loop-piece-preserved g c =
       ready = piece.ready;
       given = λ text first.
           let (place, at, before) = c.loop-piece.invariant.given text first in
-          (place + c.loop-piece.piece.len, c.fill_more-piece.ensures text (place + c.loop-piece.piece.len) at.next, written _ _ _ text _ place _ _ at before c.if-written-len.false out.ensures.fits out.ensures.given);
+          (place + c.loop-piece.piece.len, c.fill_more-piece.ensures text (place + c.loop-piece.piece.len) (behind text _ place c.loop-piece.piece c.in-Some.page at c.in-Some.is), written _ _ _ text _ place _ _ at before c.if-written-len.false out.ensures.fits out.ensures.given);
     }
 
-pub returns-then-not-piece : goal.returns-then-not-piece
-returns-then-not-piece g c =
+pub returns-in_default : goal.returns-in_default
+returns-in_default g c =
     let text_written : (text : List ℕ) → Piece text 0 c.args.out.now c.args.first → Appends (g.W.Write.contents c.args.output.now) (g.W.Write.contents c.flush.new.self) text =
     λ text first.
     let (place, at, before) = c.loop-piece.invariant.given text first in
     let out = c.write_output-written in
     let all = written _ _ _ text _ place _ _ at before c.if-written-len.false out.ensures.fits out.ensures.given in
-    subst (Appends _ _) (to_the_end text _ place _ at (not-true _ c.if-not-piece.true)) (Appends-kept _ _ _ _ all c.flush.ensures.bytes) in
+    subst (Appends _ _) (to_the_end text _ place _ at (ap follows c.in_default.is)) (Appends-kept _ _ _ _ all c.flush.ensures.bytes) in
     on_ok _ c.flush.result text_written
