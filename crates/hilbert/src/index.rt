@@ -38,8 +38,7 @@ pub fn in_basis(c: SimplicialComplex, lambda: usize, configuration: &[i32]) -> b
     requires { (refusal (complex_of c) ≡ 0) × (lambda ≤ 1000) × (length configuration.now ≡ c.n_edges) }
     ensures { result ≡ in_basis (complex_of c) lambda configuration.now }
 {
-    let finding = find_unlawful(c, configuration);
-    in_band(configuration, lambda) & !finding.found
+    in_band(configuration, lambda) & find_unlawful(c, configuration).is_none()
 }
 
 // The basis goes to the beginning of a list, and a configuration that is in it is found there.

@@ -1,9 +1,10 @@
 -- The sums of a configuration on an accepted record.
 use mathlib.Core.List.{List}
-use mathlib.Core.Path.{◌≡◌}
+use mathlib.Core.Path.{◌≡◌, ◌∙◌}
 use native.Mathlib.Omega.{arith}
 use lib.IntN.{ℤ, pos}
-use lib.ListN.{get_or}
+use lib.ListN.{get_or, take}
+use lib.Seq.{get_or-take}
 use Rattle.complex.specs.declared.SimplicialComplex.{SimplicialComplex}
 use Rattle.complex.specs.Complex.{simplices, complex_of, uncharged}
 use Rattle.complex.specs.Search.{Ends}
@@ -22,8 +23,8 @@ module _ (c : SimplicialComplex) (accepted : refusal (complex_of c) ≡ 0) where
       (r.0, omega (arith, r.1))
 
   pub summed_finding : (s sums : List ℤ) → Summed (simplices 2 c.edges c.n_edges) s sums
-      → lowest_broken (λ v. get_or sums v (pos 0)) uncharged c.n_vertices ≡ finding (complex_of c) (complex_of c).charges s
+      → lowest_broken (λ v. get_or (take c.n_vertices sums) v (pos 0)) uncharged c.n_vertices ≡ finding (complex_of c) (complex_of c).charges s
   unfolding finding complex_of
   summed_finding s sums h =
       let few = (accepted_searchable c accepted).vertices_fit in
-      lowest_agree (λ v. get_or sums v (pos 0)) (gauss (complex_of c).edges s) uncharged c.n_vertices (λ v k. h.sum v (omega arith))
+      lowest_agree (λ v. get_or (take c.n_vertices sums) v (pos 0)) (gauss (complex_of c).edges s) uncharged c.n_vertices (λ v k. get_or-take c.n_vertices sums v (pos 0) k ∙ h.sum v (omega arith))

@@ -5,12 +5,15 @@ use mathlib.Core.Path.{◌≡◌, refl, sym, ◌∙◌}
 use mathlib.Core.Logic.{◌≢◌}
 use native.Mathlib.Omega.{arith}
 use native.Mathlib.Decide.{ℕ_discrete}
-use lib.IntN.{ℤ, pos, neg_ℤ, ◌+ℤ◌, nat_abs}
+use lib.IntN.{ℤ, pos, neg_ℤ, ◌+ℤ◌, ◌-ℤ◌, nat_abs}
+use mir.Syntax.{w64}
+use mir.Val.{to_z, of_z}
+use Rattle.std.proofs.lemmas.Int.{to_z-of_z}
 use lib.ListN.{get_or, length, set, take, length-set, replicate, get_or-replicate}
 use lib.Seq.{get_or-set_same, get_or-set_other, length-take-le}
 use Rattle.mathematics.proofs.Front.{take_next}
 use Rattle.mathematics.proofs.Integers.{linear, the, nought, ◌⊞◌}
-use Rattle.mathematics.proofs.Signed.{size_neg, size_sum}
+use Rattle.mathematics.proofs.Signed.{size_neg, size_sum, size_difference, size_fits}
 use Rattle.complex.specs.Complex.{Simplex, start, end, entries, simplices}
 use Rattle.complex.specs.Search.{Ends}
 use Rattle.complex.proofs.Simplices.{simplices_length, simplex_at}
@@ -102,3 +105,20 @@ module _ (edges : List ℕ) (m : ℕ) (ends : Ends 64 (simplices 2 edges m)) (e 
       let same : length (take e s) ≡ length (simplices 2 edges e) = length-take-le e s (omega arith) ∙ sym (simplices_length 2 edges e) in
       rw (simplices_next 2 edges e, take_next s e (pos 0) here)
       (added_summed (entries edges (2 * e) 2) (get_or s e (pos 0)) sums h.long edge_ends.0 edge_ends.1 (simplices 2 edges e) (take e s) same h)
+
+-- ---- one value taken off and added, as the machine does it
+abbrev pub read : ℤ → ℤ
+read z = to_z w64 (of_z w64 z)
+
+back : (z : ℤ) → nat_abs z ≤ 2 ^ 62 + 2 ^ 31 → read z ≡ z
+back z h = to_z-of_z w64 z (size_fits w64 z (omega arith))
+
+pub carried : (sums : List ℤ) (a b : ℕ) (x y z : ℤ) → y ≡ x → z ≡ x → EdgeAddable sums (a ∷ b ∷ []) → a ≢ b → nat_abs x ≤ 2 ^ 31
+    → set (set sums a (read (read (get_or sums a (pos 0)) -ℤ read y))) b (read (read (get_or (set sums a (read (read (get_or sums a (pos 0)) -ℤ read y))) b (pos 0)) +ℤ read z))
+    ≡ sums_with (a ∷ b ∷ []) x sums
+unfolding sums_with
+carried sums a b x y z is also h apart small =
+    let start_small = h.start_small in
+    let end_small = h.end_small in
+    rw
+    (is, also, back (get_or sums a (pos 0)) (omega arith), back x (omega arith), back (get_or sums a (pos 0) -ℤ x) (omega (arith, size_difference (get_or sums a (pos 0)) x)), get_or-set_other sums a b (get_or sums a (pos 0) -ℤ x) (pos 0) (λ q. apart (sym q)), back (get_or sums b (pos 0)) (omega arith), back (get_or sums b (pos 0) +ℤ x) (omega (arith, size_sum (get_or sums b (pos 0)) x)))

@@ -1,28 +1,25 @@
 -- The check of Gauss's law: the lowest vertex that breaks it, the answer, and the steps of the code.
 use Prim.{Unit}
-use Rattle.std.specs.Prelude.{ℕ, ◌^◌, ◌<◌, ◌≤◌, List, [], ◌∷◌, ◌++◌, Bool, true, false, not, ◌||◌, cond, ◌≡◌, ◌≢◌, ℤ, pos, ◌+ℤ◌, ◌-ℤ◌, nat_abs, get_or, length, set}
+use Rattle.std.specs.Prelude.{ℕ, ◌^◌, ◌<◌, ◌≤◌, List, [], ◌∷◌, ◌++◌, Bool, not, Option, Some, None, ◌≡◌, ◌≢◌, ℤ, pos, ◌+ℤ◌, ◌-ℤ◌, nat_abs, get_or, length, set}
 use Rattle.mathematics.specs.Integers.{equal}
 use Rattle.mathematics.specs.Counting.{below, keep}
-use Rattle.mathematics.specs.Refusals.{Outcome, value, refused}
 use Rattle.mathematics.specs.Calls.{Call, NoneLent, none_lent}
 use Rattle.complex.specs.Complex.{Simplex, Complex, start, end}
 use Rattle.complex.specs.Judge.{complex_tests, length_test}
 use Rattle.law_check.specs.declared.Finding.{Finding}
-use Rattle.law_check.specs.declared.GaussCheck.{GaussCheck}
-use Rattle.law_check.specs.declared.GaussCheck.TheVariants.{Answer, Refused}
 use Rattle.gauss_law.specs.Gauss.{gauss, lawful}
 
 -- the first of some vertices, with its sum
-unfoldable pub first_found : (ℕ → ℤ) → List ℕ → Finding
-first_found sum [] = record { found = false; vertex = 0; sum = pos 0 }
-first_found sum (v ∷ vs) = record { found = true; vertex = v; sum = sum v }
+unfoldable pub first_found : (ℕ → ℤ) → List ℕ → Option Finding
+first_found sum [] = None
+first_found sum (v ∷ vs) = Some (record { vertex = v; sum = sum v })
 
 -- the lowest vertex below n whose sum is not its charge
-unfoldable pub lowest_broken : (ℕ → ℤ) → (ℕ → ℤ) → ℕ → Finding
+unfoldable pub lowest_broken : (ℕ → ℤ) → (ℕ → ℤ) → ℕ → Option Finding
 lowest_broken sum q n = first_found sum (keep (λ v. not (equal (sum v) (q v))) (below n))
 
 -- the lowest vertex at which the law does not hold
-unfoldable pub finding : Complex → (ℕ → ℤ) → List ℤ → Finding
+unfoldable pub finding : Complex → (ℕ → ℤ) → List ℤ → Option Finding
 finding c q s = lowest_broken (gauss c.edges s) q c.vertices
 
 -- what a finding says: the law holds at all lower vertices
@@ -31,11 +28,6 @@ pub record Found (sum q : ℕ → ℤ) (n : ℕ) (f : Finding) : Type 0 where
   pub told : f.sum ≡ sum f.vertex
   pub wrong : f.sum ≢ q f.vertex
   pub lower : (v : ℕ) → v < f.vertex → sum v ≡ q v
-
--- what an answer says
-unfoldable pub law_answer : GaussCheck → Outcome Bool
-law_answer (Answer b) = value b
-law_answer (Refused n) = refused n
 
 -- 4, 7 to 9, then 12 for a configuration of n values
 abbrev pub law_tests : Complex → ℕ → List (ℕ × Bool)
@@ -62,7 +54,3 @@ pub record EdgeAddable (sums : List ℤ) (e : Simplex) : Type 0 where
 pub record Summed (es : List Simplex) (s sums : List ℤ) : Type 0 where
   pub long : length sums ≡ 64
   pub sum : (v : ℕ) → v < 64 → get_or sums v (pos 0) ≡ gauss es s v
-
--- vertex v is noticed where its sum is not its charge, unless one was found before
-unfoldable pub noticed : Finding → ℕ → ℤ → ℤ → Finding
-noticed f v sum q = cond (f.found || equal sum q) f (record { found = true; vertex = v; sum = sum })

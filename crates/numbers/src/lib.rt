@@ -4,7 +4,7 @@
 pub mod edge_list;
 pub mod sizes;
 
-ghost use Rattle.std.specs.Prelude.{◌≡◌, ◌+◌, ◌*◌, ◌^◌, ◌<◌, ◌≤◌, min, max, get_or, pos, ◌+ℤ◌, ◌-ℤ◌, nat_abs};
+ghost use Rattle.std.specs.Prelude.{◌≡◌, ◌+◌, ◌*◌, ◌^◌, ◌<◌, ◌≤◌, min, max, get_or, pos, ◌+ℤ◌, nat_abs};
 
 use crate::sizes::EDGE_ENTRIES;
 
@@ -12,37 +12,31 @@ use crate::sizes::EDGE_ENTRIES;
 pub fn byte(x: u8) -> usize
     ensures { result ≡ x }
 {
-    x as usize
-}
-
-pub fn u8_to_u32(x: u8) -> u32
-    ensures { result ≡ x }
-{
-    x as u32
+    usize::from(x)
 }
 
 pub fn u8_to_u64(x: u8) -> u64
     ensures { result ≡ x }
 {
-    x as u64
+    u64::from(x)
 }
 
 pub fn u16_to_usize(x: u16) -> usize
     ensures { result ≡ x }
 {
-    x as usize
+    usize::from(x)
 }
 
 pub fn i8_to_i32(x: i8) -> i32
     ensures { result ≡ x }
 {
-    x as i32
+    i32::from(x)
 }
 
 pub fn i32_to_i64(x: i32) -> i64
     ensures { result ≡ x }
 {
-    x as i64
+    i64::from(x)
 }
 
 // A small number as a signed one.
@@ -56,13 +50,13 @@ pub fn usize_to_i32(x: usize) -> i32
 pub fn smaller(a: usize, b: usize) -> usize
     ensures { result ≡ min a b }
 {
-    if a < b { a } else { b }
+    a.min(b)
 }
 
 pub fn larger(a: usize, b: usize) -> usize
     ensures { result ≡ max a b }
 {
-    if a < b { b } else { a }
+    a.max(b)
 }
 
 // A value added to a sum that is far from the ends of its range.
@@ -70,15 +64,7 @@ pub fn plus(sum: i64, x: i32) -> i64
     requires { nat_abs sum ≤ 2 ^ 62 }
     ensures { result ≡ sum +ℤ x }
 {
-    sum + i32_to_i64(x)
-}
-
-// A value taken off such a sum.
-pub fn minus(sum: i64, x: i32) -> i64
-    requires { nat_abs sum ≤ 2 ^ 62 }
-    ensures { result ≡ sum -ℤ x }
-{
-    sum - i32_to_i64(x)
+    sum + i64::from(x)
 }
 
 // A small sum of two values.
@@ -94,7 +80,7 @@ pub fn edge_start(edges: &[u8; EDGE_ENTRIES], e: usize) -> usize
     requires { e < 63 }
     ensures { result ≡ get_or edges.now (2 * e) 0 }
 {
-    byte(edges[2 * e])
+    usize::from(edges[2 * e])
 }
 
 // Where it ends.
@@ -102,5 +88,5 @@ pub fn edge_end(edges: &[u8; EDGE_ENTRIES], e: usize) -> usize
     requires { e < 63 }
     ensures { result ≡ get_or edges.now (2 * e + 1) 0 }
 {
-    byte(edges[2 * e + 1])
+    usize::from(edges[2 * e + 1])
 }

@@ -3,7 +3,8 @@
 
 ghost use Rattle.std.specs.Prelude.{◌≡◌};
 ghost use Rattle.mathematics.specs.Calls.{none_lent};
-ghost use Rattle.law_check.specs.Law.{law_answer, law_call};
+ghost use Rattle.answers.specs.Refusal.{answer_of};
+ghost use Rattle.law_check.specs.Law.{law_call};
 ghost use Rattle.enumeration.specs.Enumeration.{enumerated_call, counted_call};
 ghost use Rattle.hilbert.specs.Index.{index_call};
 ghost use Rattle.shifts.specs.Shift.{shift_call};
@@ -17,6 +18,7 @@ ghost use Rattle.electric.specs.Electric.{electric_call};
 ghost use Rattle.wilson.specs.Wilson.{wilson_call};
 ghost use Rattle.exports.specs.Exports.{outcome_told, yes_of, on_sheet, as_number, stored, value_lent, three_floats, Exported};
 
+use answers::refusal::Refusal;
 use csr::build::build_csr;
 use electric::electric_field_sq;
 use entries::count_entries;
@@ -28,23 +30,24 @@ use exports::{
 use hamiltonian::dense::build_hamiltonian;
 use hilbert::index::config_to_index;
 use lanczos::matvec::hamiltonian_matvec;
-use law_check::{GaussCheck, check_gauss_law};
+use law_check::check_gauss_law;
 use matrices::coupling::KSParams;
 use plaquettes::triangle::apply_triangle_shift;
 use sheet::read_sheet;
 use shifts::apply_shift;
 use wilson::{Path, wilson_loop};
 
-fn told_law(answer: GaussCheck) -> Told
-    ensures { result ≡ outcome_told (yes_of (law_answer answer)) }
+#[tactic(auto, using(exports::proofs::Signs::yes_number), unfolding(exports::specs::Exports::outcome_told, exports::specs::Exports::yes_of))]
+fn told_law(answer: Result<bool, Refusal>) -> Told
+    ensures { result ≡ outcome_told (yes_of (answer_of answer)) }
 {
     match answer {
-        GaussCheck::Answer(yes) => Told {
+        Ok(yes) => Told {
             refusal: 0,
-            value: yes as usize,
+            value: usize::from(yes),
         },
-        GaussCheck::Refused(number) => Told {
-            refusal: number,
+        Err(refusal) => Told {
+            refusal: refusal.number(),
             value: 0,
         },
     }
