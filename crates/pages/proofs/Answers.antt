@@ -1,5 +1,5 @@
 -- What is printed, by the test that decides it.
-use Prim.Native.Nat.{ℕ, zero, suc, ◌+◌, ◌-◌, ◌*◌, ◌^◌, ◌≤◌, ◌<◌}
+use Prim.Native.Nat.{ℕ, ◌+◌, ◌-◌, ◌*◌, ◌^◌, ◌≤◌, ◌<◌}
 use mathlib.Core.List.{List, [], ◌∷◌, ◌++◌}
 use mathlib.Core.Bool.{true, false}
 use mathlib.Core.Path.{◌≡◌, refl, sym, ◌∙◌}
@@ -8,7 +8,9 @@ use lib.Dec.{ltb}
 use lib.ListN.{length}
 use borrow.Author.Tests.{ltb-false}
 use Rattle.mathematics.specs.Tests.{every_entry}
-use Rattle.mathematics.specs.Refusals.{first, written}
+use Rattle.mathematics.specs.Refusals.{value, refused, first, written}
+use Rattle.mathematics.specs.Calls.{Answered, none_lent}
+use Rattle.answers.proofs.Outcomes.{refused_number, refused_some, value_none}
 use Rattle.mathematics.proofs.Refusals.{numbered, first_stops, first_goes_on, refused_kept}
 use Rattle.complex.specs.declared.SimplicialComplex.{SimplicialComplex}
 use Rattle.complex.specs.Complex.{Complex, complex_of}
@@ -16,11 +18,10 @@ use Rattle.complex.specs.Judge.{shape_tests, refusal}
 use Rattle.complex.proofs.Simplices.{simplices_length}
 use Rattle.complex.proofs.Accepting.{accepted}
 use Rattle.gauss_law.proofs.Spanned.{edges_long}
-use Rattle.sheet.specs.declared.SheetRead.{SheetRead}
-use Rattle.sheet.specs.declared.Reading.TheVariants.{Accepted, Refused}
-use Rattle.sheet.specs.Sheet.{sheet_in, header_tests, reading_refusal, read_answer, read_of}
+use Rattle.sheet.specs.declared.Sheet.{Sheet}
+use Rattle.sheet.specs.Sheet.{sheet_in, header_tests, reading_refusal, reading_call}
 use Rattle.sheet.proofs.Sheets.{header_of, shape_decides}
-use Rattle.sheet.proofs.RoundTrips.{accepted_none, header_none}
+use Rattle.sheet.proofs.RoundTrips.{header_none}
 use Rattle.walker.specs.declared.tables.Walker.{Walker}
 use Rattle.walker.specs.Tables.{Walks, states_of, Fit}
 use Rattle.enumeration.proofs.Limits.{power_less}
@@ -72,10 +73,6 @@ module _ (c : SimplicialComplex) (L : ℕ) (w : Walker) (walks : Walks (complex_
 
 -- ---- the sheet
 module _ (b : List ℕ) where
-  sheet_is : reading_refusal b ≡ 0 → (read_of b).sheet ≡ sheet_in b
-  unfolding read_of written
-  sheet_is h = rw h
-
   in_range : reading_refusal b ≡ 0 → (refusal (complex_of (sheet_in b).complex) ≡ 0) × ((sheet_in b).lambda ≤ 1000)
   unfolding sheet_in
   in_range h = let header = header_none b h in (sym (shape_decides b header) ∙ h, (header_of b header).truncation)
@@ -91,14 +88,6 @@ module _ (b : List ℕ) where
   unfolding basis_text
   read_told n h = rw h
 
-  refusal_is : (n : ℕ) → (read_of b).answer ≡ Refused n → (reading_refusal b ≡ n) × (n ≡ 0 → ⊥)
-  unfolding read_of read_answer
-  refusal_is n = go (reading_refusal b)
-    where
-      go : (k : ℕ) → read_answer k ≡ Refused n → (k ≡ n) × (n ≡ 0 → ⊥)
-      go zero h = let z : ◌≡◌ {A = ℕ} 0 1 = cc in absurd (omega arith)
-      go (suc k) h = let e : suc k ≡ n = cc in (e, λ z. omega arith)
-
   told_refused : (n : ℕ) → (n ≡ 0 → ⊥) → (c : Complex) (L : ℕ) → refused_line n ≡ told n c L
   unfolding told
   told_refused n some c L = refused_kept n (printed c L) (refused_line n) some
@@ -113,18 +102,27 @@ module _ (b : List ℕ) where
   refusal_told n e some =
       told_refused n some (complex_of (sheet_in b).complex) (sheet_in b).lambda ∙ read_told n (refusal_number n e some)
 
-  module _ (r : SheetRead) (is : r ≡ read_of b) where
-    pub accepted_ready : r.answer ≡ Accepted → (refusal (complex_of r.sheet.complex) ≡ 0) × (r.sheet.lambda ≤ 1000)
-    accepted_ready h = let none = accepted_none b (rw is at h) in rw (is, sheet_is none) (in_range none)
+  module _ {s : Sheet} (h : Answered (reading_call b) (value s) none_lent) where
+    sheet_is : (reading_refusal b ≡ 0) × (s ≡ sheet_in b)
+    unfolding reading_call reading_refusal
+    sheet_is = value_none _ _ _ h.answer
 
-    pub accepted_number : r.answer ≡ Accepted → first (limit_test (complex_of r.sheet.complex) r.sheet.lambda ∷ []) ≡ basis_refusal b
-    accepted_number h = let none = accepted_none b (rw is at h) in rw (is, sheet_is none) (read_number none)
+    pub accepted_ready : (refusal (complex_of s.complex) ≡ 0) × (s.lambda ≤ 1000)
+    accepted_ready = rw sheet_is.1 (in_range sheet_is.0)
 
-    pub accepted_told : r.answer ≡ Accepted → told (first (limit_test (complex_of r.sheet.complex) r.sheet.lambda ∷ [])) (complex_of r.sheet.complex) r.sheet.lambda ≡ basis_text b
-    accepted_told h = let none = accepted_none b (rw is at h) in rw (is, sheet_is none) (read_told _ (read_number none))
+    pub accepted_number : first (limit_test (complex_of s.complex) s.lambda ∷ []) ≡ basis_refusal b
+    accepted_number = rw sheet_is.1 (read_number sheet_is.0)
 
-    pub refused_number : (n : ℕ) → r.answer ≡ Refused n → n ≡ basis_refusal b
-    refused_number n h = let k = refusal_is n (rw is at h) in refusal_number n k.0 k.1
+    pub accepted_told : told (first (limit_test (complex_of s.complex) s.lambda ∷ [])) (complex_of s.complex) s.lambda ≡ basis_text b
+    accepted_told = rw sheet_is.1 (read_told _ (read_number sheet_is.0))
 
-    pub refused_told : (n : ℕ) → r.answer ≡ Refused n → refused_line n ≡ basis_text b
-    refused_told n h = let k = refusal_is n (rw is at h) in refusal_told n k.0 k.1
+  module _ {n : ℕ} (h : Answered (reading_call b) (refused n) none_lent) where
+    refusal_is : (reading_refusal b ≡ n) × (n ≡ 0 → ⊥)
+    unfolding reading_call reading_refusal
+    refusal_is = (sym (refused_number n _ _ h.answer), refused_some n _ _ h.answer)
+
+    pub refused_is : n ≡ basis_refusal b
+    refused_is = refusal_number n refusal_is.0 refusal_is.1
+
+    pub refused_told : refused_line n ≡ basis_text b
+    refused_told = refusal_told n refusal_is.0 refusal_is.1
