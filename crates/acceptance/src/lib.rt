@@ -14,59 +14,31 @@ ghost use Rattle.answers.specs.Refusal.{judged};
 use answers::refusal::{Refusal, number_of};
 use complex::SimplicialComplex;
 use complex::search::connected;
-use numbers::sizes::{
-    EDGE_ENTRIES, LARGEST_TRUNCATION, MOST_EDGES, MOST_TRIANGLES, MOST_VERTICES, TRIANGLE_ENTRIES,
-};
-use numbers::{byte, edge_end, edge_start};
+use numbers::sizes::{LARGEST_TRUNCATION, MOST_EDGES, MOST_TRIANGLES, MOST_VERTICES};
 
-fn edge_rises(edges: &[u8; EDGE_ENTRIES], n: usize, e: usize) -> bool
-    requires { e < 63 }
-    ensures { result ≡ rising n (entries edges.now (2 * e) 2) }
-{
-    let a = edge_start(edges, e);
-    let b = edge_end(edges, e);
-    (a < b) & (b < n)
-}
-
-fn edges_rise(edges: &[u8; EDGE_ENTRIES], n: usize, m: usize) -> bool
-    requires { m ≤ 63 }
-    ensures { result ≡ every_entry (rising n) (simplices 2 edges.now m) }
+fn edges_rise(c: &SimplicialComplex) -> bool
+    requires { c.now.n_edges ≤ 63 }
+    ensures { result ≡ every_entry (rising c.now.n_vertices) (simplices 2 c.now.edges c.now.n_edges) }
 {
     let mut so_far = true;
-    for e in 0..m {
-        so_far = so_far & edge_rises(edges, n, e);
+    for e in 0..c.n_edges {
+        let (a, b) = c.edge(e);
+        so_far &= (a < b) & (b < c.n_vertices);
     }
     so_far
 }
 
-fn edge_key(edges: &[u8; EDGE_ENTRIES], e: usize) -> usize
-    requires { (e < 63) × (get_or edges.now (2 * e) 0 < 64) × (get_or edges.now (2 * e + 1) 0 < 64) }
-    ensures { (result ≡ key (entries edges.now (2 * e) 2)) × (result < 4096) }
-{
-    let a = edge_start(edges, e);
-    let b = edge_end(edges, e);
-    64 * a + b
-}
-
-// One edge more goes into the table: whether no edge so far is listed twice. Once one is, the table says nothing.
-fn index_edge(edges: &[u8; EDGE_ENTRIES], e: usize, table: &mut [u8; 4096], so_far: bool) -> bool
-    requires { (e < 63) × (get_or edges.now (2 * e) 0 < 64) × (get_or edges.now (2 * e + 1) 0 < 64) }
-    ensures { EdgesIndexed table.old so_far (simplices 2 edges.now e) → EdgesIndexed table.new result (simplices 2 edges.now (e + 1)) }
-{
-    let key = edge_key(edges, e);
-    let new = table[key] == 0;
-    table[key] = (e + 1) as u8;
-    so_far & new
-}
-
-// Whether no edge is listed twice; then the table is Rust's edge_index.
-pub fn index_edges(edges: &[u8; EDGE_ENTRIES], m: usize, table: &mut [u8; 4096]) -> bool
-    requires { (m ≤ 63) × (table.old ≡ replicate 4096 0) × ((e : ℕ) → e < m → (get_or edges.now (2 * e) 0 < 64) × (get_or edges.now (2 * e + 1) 0 < 64)) }
-    ensures { EdgesIndexed table.new result (simplices 2 edges.now m) }
+// Whether no edge is listed twice; then the table is Rust's edge_index. Once one is, the table says nothing.
+pub fn index_edges(c: &SimplicialComplex, table: &mut [u8; 4096]) -> bool
+    requires { (c.now.n_edges ≤ 63) × (table.old ≡ replicate 4096 0) × ((e : ℕ) → e < c.now.n_edges → (get_or c.now.edges (2 * e) 0 < 64) × (get_or c.now.edges (2 * e + 1) 0 < 64)) }
+    ensures { EdgesIndexed table.new result (simplices 2 c.now.edges c.now.n_edges) }
 {
     let mut so_far = true;
-    for e in 0..m {
-        so_far = index_edge(edges, e, table, so_far);
+    for e in 0..c.n_edges {
+        let (a, b) = c.edge(e);
+        let key = 64 * a + b;
+        so_far &= table[key] == 0;
+        table[key] = (e + 1) as u8;
     }
     so_far
 }
@@ -76,49 +48,39 @@ pub fn edge_number(table: &[u8; 4096], a: usize, b: usize) -> usize
     requires { (a < 64) × (b < 64) }
     ensures { result ≡ get_or table.now (64 * a + b) 0 }
 {
-    byte(table[64 * a + b])
+    usize::from(table[64 * a + b])
 }
 
 // Whether a triangle rises and its three edges are listed.
-fn triangle_fits(triangles: &[u8; TRIANGLE_ENTRIES], n: usize, table: &[u8; 4096], t: usize) -> bool
-    requires { (t < 256) × (n ≤ 64) }
-    ensures { (es : List Simplex) → EdgeTable table.now es → result ≡ (rising n (entries triangles.now (3 * t) 3) && sides_listed es (entries triangles.now (3 * t) 3)) }
+fn triangle_fits(c: &SimplicialComplex, table: &[u8; 4096], t: usize) -> bool
+    requires { (t < 256) × (c.now.n_vertices ≤ 64) }
+    ensures { (es : List Simplex) → EdgeTable table.now es → result ≡ (rising c.now.n_vertices (entries c.now.triangles (3 * t) 3) && sides_listed es (entries c.now.triangles (3 * t) 3)) }
 {
-    let a = byte(triangles[3 * t]);
-    let b = byte(triangles[3 * t + 1]);
-    let c = byte(triangles[3 * t + 2]);
-    if b <= a {
+    let (x, y, z) = c.triangle(t);
+    if y <= x || z <= y || c.n_vertices <= z {
         return false;
     }
-    if c <= b {
-        return false;
-    }
-    if n <= c {
-        return false;
-    }
-    (edge_number(table, a, b) != 0)
-        & ((edge_number(table, a, c) != 0) & (edge_number(table, b, c) != 0))
+    (edge_number(table, x, y) != 0)
+        & ((edge_number(table, x, z) != 0) & (edge_number(table, y, z) != 0))
 }
 
-fn triangles_fit(triangles: &[u8; TRIANGLE_ENTRIES], n: usize, table: &[u8; 4096], t: usize) -> bool
-    requires { (t ≤ 256) × (n ≤ 64) }
-    ensures { (es : List Simplex) → EdgeTable table.now es → result ≡ every_entry (λ s. rising n s && sides_listed es s) (simplices 3 triangles.now t) }
+fn triangles_fit(c: &SimplicialComplex, table: &[u8; 4096]) -> bool
+    requires { (c.now.n_triangles ≤ 256) × (c.now.n_vertices ≤ 64) }
+    ensures { (es : List Simplex) → EdgeTable table.now es → result ≡ every_entry (λ s. rising c.now.n_vertices s && sides_listed es s) (simplices 3 c.now.triangles c.now.n_triangles) }
 {
     let mut so_far = true;
-    for i in 0..t {
-        so_far = so_far & triangle_fits(triangles, n, table, i);
+    for t in 0..c.n_triangles {
+        so_far &= triangle_fits(c, table, t);
     }
     so_far
 }
 
-fn triangle_key(triangles: &[u8; TRIANGLE_ENTRIES], table: &[u8; 4096], t: usize) -> usize
-    requires { (t < 256) × Keyed table.now (entries triangles.now (3 * t) 3) }
-    ensures { (result ≡ triangle_key table.now (entries triangles.now (3 * t) 3)) × (result < 4096) }
+fn triangle_key(c: &SimplicialComplex, table: &[u8; 4096], t: usize) -> usize
+    requires { (t < 256) × Keyed table.now (entries c.now.triangles (3 * t) 3) }
+    ensures { (result ≡ triangle_key table.now (entries c.now.triangles (3 * t) 3)) × (result < 4096) }
 {
-    let a = byte(triangles[3 * t]);
-    let b = byte(triangles[3 * t + 1]);
-    let c = byte(triangles[3 * t + 2]);
-    64 * (edge_number(table, a, b) - 1) + c
+    let (x, y, z) = c.triangle(t);
+    64 * (edge_number(table, x, y) - 1) + z
 }
 
 // One key more goes into the set of bits: whether no key so far came twice. Once one has, the bits say nothing.
@@ -134,18 +96,19 @@ fn mark(seen: &mut [u64; 64], key: usize, so_far: bool) -> bool
 }
 
 // Whether no triangle is listed twice.
-fn triangles_once(triangles: &[u8; TRIANGLE_ENTRIES], table: &[u8; 4096], t: usize) -> bool
-    requires { (t ≤ 256) × ((i : ℕ) → i < t → Keyed table.now (entries triangles.now (3 * i) 3)) }
-    ensures { result ≡ distinct eqb (map (triangle_key table.now) (simplices 3 triangles.now t)) }
+fn triangles_once(c: &SimplicialComplex, table: &[u8; 4096]) -> bool
+    requires { (c.now.n_triangles ≤ 256) × ((i : ℕ) → i < c.now.n_triangles → Keyed table.now (entries c.now.triangles (3 * i) 3)) }
+    ensures { result ≡ distinct eqb (map (triangle_key table.now) (simplices 3 c.now.triangles c.now.n_triangles)) }
 {
     let mut seen = [0u64; 64];
     let mut so_far = true;
-    for i in 0..t {
-        so_far = mark(&mut seen, triangle_key(triangles, table, i), so_far);
+    for t in 0..c.n_triangles {
+        so_far = mark(&mut seen, triangle_key(c, table, t), so_far);
     }
     so_far
 }
 
+#[tactic(auto, unfolding(complex::specs::Judge::counts_right))]
 pub fn counts_right(n: usize, m: usize, t: usize) -> bool
     ensures { result ≡ counts_right n m t }
 {
@@ -158,25 +121,22 @@ pub fn accept_indexed(c: SimplicialComplex, table: &mut [u8; 4096]) -> Result<()
     requires { table.old ≡ replicate 4096 0 }
     ensures { Judged c table.new (judged result) }
 {
-    let n = c.n_vertices;
-    let m = c.n_edges;
-    let t = c.n_triangles;
-    if !counts_right(n, m, t) {
+    if !counts_right(c.n_vertices, c.n_edges, c.n_triangles) {
         return Err(Refusal::WrongCounts);
     }
-    if !edges_rise(&c.edges, n, m) {
+    if !edges_rise(&c) {
         return Err(Refusal::WrongEdge);
     }
-    if !index_edges(&c.edges, m, table) {
+    if !index_edges(&c, table) {
         return Err(Refusal::WrongEdge);
     }
-    if !triangles_fit(&c.triangles, n, table, t) {
+    if !triangles_fit(&c, table) {
         return Err(Refusal::WrongTriangle);
     }
-    if !triangles_once(&c.triangles, table, t) {
+    if !triangles_once(&c, table) {
         return Err(Refusal::WrongTriangle);
     }
-    if !connected(&c.edges, n, m) {
+    if !connected(&c) {
         return Err(Refusal::Disconnected);
     }
     Ok(())

@@ -6,10 +6,6 @@ use Rattle.complex.specs.Complex.{simplices}
 use Rattle.complex.specs.Search.{Search, Ends}
 use Rattle.complex.specs.declared.search.SpanningTree.{SpanningTree}
 
--- the record of the arrays and the number found
-abbrev pub tree_of : List ℕ → List ℕ → List ℕ → ℕ → SpanningTree
-tree_of queue tree visited found = record { queue = queue; found = found; tree_edges = tree; visited = visited }
-
 -- the search that a record stands for
 unfoldable pub search_of : SpanningTree → Search
 search_of t = record { seen = take (t.found + 1) t.queue; tree = take t.found t.tree_edges }

@@ -4,6 +4,8 @@
 pub mod numbering;
 pub mod search;
 
+ghost use Rattle.std.specs.Prelude.{◌≡◌, ◌+◌, ◌*◌, ◌<◌, get_or};
+
 use numbers::sizes::{EDGE_ENTRIES, TRIANGLE_ENTRIES};
 
 #[derive(Clone, Copy)]
@@ -15,4 +17,32 @@ pub struct SimplicialComplex {
     pub n_triangles: usize,
     // flat triples of vertices
     pub triangles: [u8; TRIANGLE_ENTRIES],
+}
+
+impl SimplicialComplex {
+    // The vertices of an edge.
+    pub fn edge(&self, e: usize) -> (usize, usize)
+        requires { e < 63 }
+        ensures first { result.0 ≡ get_or self.now.edges (2 * e) 0 }
+        ensures second { result.1 ≡ get_or self.now.edges (2 * e + 1) 0 }
+    {
+        (
+            usize::from(self.edges[2 * e]),
+            usize::from(self.edges[2 * e + 1]),
+        )
+    }
+
+    // The vertices of a triangle.
+    pub fn triangle(&self, t: usize) -> (usize, usize, usize)
+        requires { t < 256 }
+        ensures first { result.0 ≡ get_or self.now.triangles (3 * t) 0 }
+        ensures second { result.1 ≡ get_or self.now.triangles (3 * t + 1) 0 }
+        ensures third { result.2 ≡ get_or self.now.triangles (3 * t + 2) 0 }
+    {
+        (
+            usize::from(self.triangles[3 * t]),
+            usize::from(self.triangles[3 * t + 1]),
+            usize::from(self.triangles[3 * t + 2]),
+        )
+    }
 }

@@ -67,7 +67,7 @@ pub fn spanning_tree(
     ensures { Answered (tree_call (complex_of c) tree.old free.old) (answer_of result) (tree.new, free.new) }
 {
     accept(c)?;
-    let spanning = search(&c.edges, c.n_vertices, c.n_edges);
+    let spanning = search(&c);
     let rest = free_edges(c, spanning);
     if (tree.len() < spanning.found) | (free.len() < rest.len()) {
         return Err(Refusal::NoRoom);

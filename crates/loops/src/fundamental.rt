@@ -100,7 +100,7 @@ pub fn fundamental_loops(
     if number != 0 {
         return Answer::Refused(number);
     }
-    let tree = search(&c.edges, c.n_vertices, c.n_edges);
+    let tree = search(&c);
     let free = free_edges(c, tree);
     let parents = tree_parents(tree);
     let total = total_steps(c, parents, free);

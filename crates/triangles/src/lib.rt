@@ -42,7 +42,7 @@ fn edge_table(c: SimplicialComplex) -> [u8; 4096]
     ensures { EdgeTable result (complex_of c).edges }
 {
     let mut table = [0u8; 4096];
-    index_edges(&c.edges, c.n_edges, &mut table);
+    index_edges(&c, &mut table);
     table
 }
 

@@ -26,7 +26,7 @@ pub fn prepare(c: SimplicialComplex, lambda: usize) -> Walker
     requires { (refusal (complex_of c) ≡ 0) × (lambda ≤ 1000) }
     ensures { Walks (complex_of c) lambda result }
 {
-    let tree = search(&c.edges, c.n_vertices, c.n_edges);
+    let tree = search(&c);
     let free = free_edges(c, tree);
     let paths = tree_paths(c, tree);
     let cycles = fundamental_cycles(c, &paths, free);
