@@ -11,16 +11,18 @@ ghost use Rattle.refusals.specs.Sentences.{text_call};
 ghost use Rattle.exports.specs.Exports.{on_sheet, stored, second_lent, in_place, Exported};
 ghost use Rattle.complex_exports.specs.Parts.{sheet_parts};
 
-use exports::{open, refused, signed, told_number, told_result, value};
+use answers::refusal::Refusal;
+use exports::{open, refused, signed, signed_refusal, signed_result, told_number, value};
 use gauss_law::spanning::spanning_tree;
 use loops::fundamental::{fundamental_loops, su2_fundamental_loops};
 use making::make_sheet;
 use pentachora::{FromPentachorons, from_pentachorons};
 use refusals::refusal_text;
-use sheet::copy;
+use sheet::read_sheet;
 use triangles::triangle_sides;
 
 // The sheet of flat pairs and triples: the number of its bytes.
+#[tactic(auto, using(exports::proofs::Signs::told))]
 pub fn export_make_sheet(
     n_vertices: u64,
     edges: &[u8],
@@ -30,17 +32,17 @@ pub fn export_make_sheet(
 ) -> i64
     ensures { Exported (making_call n_vertices edges.now triangles.now lambda sheet.old) result sheet.new }
 {
-    let made = make_sheet(
+    signed_result(make_sheet(
         n_vertices as usize,
         edges,
         triangles,
         lambda as usize,
         sheet,
-    );
-    signed(told_number(made))
+    ))
 }
 
 // What a sheet holds: 0. Entries of the lists beyond its edges and triangles stay.
+#[tactic(auto, using(exports::proofs::OnSheets::few_edges_read, exports::proofs::OnSheets::few_triangles_read))]
 pub fn export_read_sheet(
     sheet: &[u8],
     n_vertices: &mut u64,
@@ -52,39 +54,37 @@ pub fn export_read_sheet(
 ) -> i64
     ensures { Exported (stored (reading_call sheet.now) sheet_parts (n_vertices.old, n_edges.old, n_triangles.old, lambda.old, edges.old, triangles.old)) result (n_vertices.new, n_edges.new, n_triangles.new, lambda.new, edges.new, triangles.new) }
 {
-    let opened = open(sheet);
-    let number = opened.refusal;
-    if number != 0 {
-        return refused(number);
+    match read_sheet(sheet) {
+        Ok(s) => {
+            let c = s.complex;
+            *n_vertices = c.n_vertices as u64;
+            *n_edges = c.n_edges as u64;
+            *n_triangles = c.n_triangles as u64;
+            *lambda = s.lambda as u64;
+            edges[..2 * c.n_edges].copy_from_slice(&c.edges[..2 * c.n_edges]);
+            triangles[..3 * c.n_triangles].copy_from_slice(&c.triangles[..3 * c.n_triangles]);
+            0
+        }
+        Err(refusal) => signed_refusal(refusal),
     }
-    let s = opened.sheet;
-    let c = s.complex;
-    *n_vertices = c.n_vertices as u64;
-    *n_edges = c.n_edges as u64;
-    *n_triangles = c.n_triangles as u64;
-    *lambda = s.lambda as u64;
-    copy(&c.edges, 0, 2 * c.n_edges, edges, 0);
-    copy(&c.triangles, 0, 3 * c.n_triangles, triangles, 0);
-    0
 }
 
 // The edge numbers of a triangle of a sheet: 0.
 pub fn export_tri_edge_indices(sheet: &[u8], triangle: u64, indices: &mut [u64; 3]) -> i64
     ensures { Exported (on_sheet sheet.now (λ c L. stored (indices_call c triangle) in_place indices.old)) result indices.new }
 {
-    let opened = open(sheet);
-    let number = opened.refusal;
-    if number != 0 {
-        return refused(number);
+    match read_sheet(sheet) {
+        Ok(s) => {
+            let t = triangle as usize;
+            if s.complex.n_triangles <= t {
+                return signed_refusal(Refusal::OutOfRange);
+            }
+            let found = triangle_sides(s.complex, t);
+            *indices = [found.first as u64, found.second as u64, found.third as u64];
+            0
+        }
+        Err(refusal) => signed_refusal(refusal),
     }
-    let s = opened.sheet;
-    let t = triangle as usize;
-    if s.complex.n_triangles <= t {
-        return refused(13);
-    }
-    let found = triangle_sides(s.complex, t);
-    *indices = [found.first as u64, found.second as u64, found.third as u64];
-    0
 }
 
 // The edges and triangles of pentachora: the number of edges.
@@ -111,16 +111,14 @@ pub fn export_from_pentachorons(
 }
 
 // The tree edges and the free edges of a sheet's complex: the number of free edges.
+#[tactic(auto, using(crate::proofs::Small::tree_small))]
 pub fn export_spanning_tree(sheet: &[u8], tree: &mut [u32], free: &mut [u32]) -> i64
     ensures { Exported (on_sheet sheet.now (λ c L. tree_call c tree.old free.old)) result (tree.new, free.new) }
 {
-    let opened = open(sheet);
-    let number = opened.refusal;
-    if number != 0 {
-        return refused(number);
+    match read_sheet(sheet) {
+        Ok(s) => signed_result(spanning_tree(s.complex, tree, free)),
+        Err(refusal) => signed_refusal(refusal),
     }
-    let s = opened.sheet;
-    signed(told_result(spanning_tree(s.complex, tree, free)))
 }
 
 // The fundamental loops of a sheet's complex: how many there are.

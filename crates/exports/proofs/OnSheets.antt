@@ -1,5 +1,5 @@
 -- A sheet that was read, and a call on it.
-use Prim.Native.Nat.{ℕ, zero, suc, ◌≤◌, ◌<◌, ◌^◌}
+use Prim.Native.Nat.{ℕ, ◌≤◌, ◌<◌, ◌^◌}
 use mathlib.Core.List.{List}
 use mathlib.Core.Bool.{Bool, true}
 use mathlib.Core.Path.{◌≡◌, refl, sym, ap, ◌∙◌}
@@ -12,7 +12,7 @@ use mir.Syntax.{w64}
 use mir.Val.{to_z, of_z}
 use Rattle.std.proofs.Common.{Result, Ok, Err, IfOk}
 use Rattle.mathematics.specs.Tests.{every_entry}
-use Rattle.mathematics.specs.Refusals.{Outcome, value, refused, first, written}
+use Rattle.mathematics.specs.Refusals.{Outcome, value, refused, first}
 use Rattle.mathematics.specs.Calls.{Call, Answered, none_lent}
 use Rattle.mathematics.proofs.Refusals.{numbered, first_goes_on}
 use Rattle.mathematics.proofs.Calls.{Tells, among, refuses}
@@ -23,27 +23,24 @@ use Rattle.answers.proofs.Outcomes.{refused_number, refused_some, value_none}
 use Rattle.sheet.specs.declared.Sheet.{Sheet}
 use Rattle.complex.specs.Complex.{Complex, complex_of}
 use Rattle.complex.specs.Judge.{refusal}
-use Rattle.sheet.specs.declared.SheetRead.{SheetRead}
-use Rattle.sheet.specs.Sheet.{header_tests, reading_tests, reading_call, reading_refusal, read_answer, read_of}
+use Rattle.complex.proofs.Accepting.{counts_own}
+use Rattle.sheet.specs.Sheet.{header_tests, reading_tests, reading_call, reading_refusal}
 use Rattle.sheet.proofs.Sheets.{shape_decides}
 use Rattle.sheet.proofs.RoundTrips.{header_none}
 use Rattle.exports.specs.declared.Told.{Told}
 use Rattle.exports.specs.declared.Opened.{Opened}
-use Rattle.exports.specs.Exports.{signed, outcome_told, yes_of, zero_of, reading_number, OpenedOf, complex_in, lambda_in, on_sheet, as_number, zero_told, Exported}
+use Rattle.exports.specs.Exports.{signed, outcome_told, yes_of, zero_of, OpenedOf, complex_in, lambda_in, on_sheet, as_number, zero_told, Exported}
 use Rattle.exports.proofs.Signs.{exports, small_told, yes_outcome, yes_small, zero_outcome}
 
-number_back : (n : ℕ) → reading_number (read_answer n) ≡ n
-unfolding reading_number read_answer
-number_back zero = refl
-number_back (suc n) = refl
+pub opened : (b : List ℕ) {s : Sheet} → Answered (reading_call b) (value s) none_lent → OpenedOf b (record { refusal = 0; sheet = s })
+unfolding reading_call reading_refusal
+opened b h = let v = value_none _ _ _ h.answer in record { number = sym v.0; holds = λ z. v.1 }
 
-pub opened : (b : List ℕ) (r : SheetRead) (n : ℕ) → r ≡ read_of b → n ≡ reading_number r.answer → OpenedOf b (record { refusal = n; sheet = r.sheet })
-unfolding read_of written
-opened b r n e is =
-    record {
-      number = is ∙ ap (λ (q : SheetRead). reading_number q.answer) e ∙ number_back (reading_refusal b);
-      holds = λ h. ap (λ (q : SheetRead). q.sheet) e ∙ rw h;
-    }
+pub unopened : (b : List ℕ) (s : Sheet) {n : ℕ} → Answered (reading_call b) (refused n) none_lent → OpenedOf b (record { refusal = n; sheet = s })
+unfolding reading_call reading_refusal
+unopened b s {n} h =
+    let is = refused_number n _ _ h.answer in
+    record { number = is; holds = λ z. absurd (refused_some n _ _ h.answer (is ∙ z)) }
 
 -- ---- a call on a sheet
 module _ {B : Type 0} {b : List ℕ} {o : Opened} (read : OpenedOf b o) (call : Complex → ℕ → Call ℕ B) where
@@ -124,6 +121,17 @@ module _ {B : Type 0} (b : List ℕ) (call : Complex → ℕ → Call ℕ B) {l 
         lists = rw e g.lists;
         known = λ z. g.known (sym e ∙ z);
       }
+
+-- the complex that was read is accepted
+pub complex_accepted : (b : List ℕ) {s : Sheet} → Answered (reading_call b) (value s) none_lent → refusal (complex_of s.complex) ≡ 0
+unfolding reading_call
+complex_accepted b h = read_accepted (opened b h) refl
+
+pub few_edges_read : (b : List ℕ) (s : Sheet) → Answered (reading_call b) (value s) none_lent → s.complex.n_edges ≤ 63
+few_edges_read b s h = (counts_own s.complex (complex_accepted b h)).edges
+
+pub few_triangles_read : (b : List ℕ) (s : Sheet) → Answered (reading_call b) (value s) none_lent → s.complex.n_triangles ≤ 256
+few_triangles_read b s h = (counts_own s.complex (complex_accepted b h)).triangles
 
 -- what a call answers is small where its value is
 pub small_result : {B : Type 0} {call : Call ℕ B} {l : B} (r : Result ℕ Refusal) → Answered call (answer_of r) l → (call.known → call.value < 2 ^ 31) → IfOk r (λ n. n < 2 ^ 31)

@@ -7,7 +7,8 @@ use borrow.Author.Tests.{ne_eqb}
 use lib.IntN.{ℤ, pos, neg_ℤ, ◌-ℤ◌, +ℤ_idl}
 use lib.Signed.{mag}
 use mir.Syntax.{w64}
-use mir.Val.{to_z, bool_byte}
+use mir.Val.{to_z, of_z, bool_byte}
+use Rattle.mathematics.proofs.Signed.{back64}
 use mir.Facts.{to_z_pos}
 use Rattle.mathematics.specs.Refusals.{Outcome, value, refused, outcome}
 use Rattle.mathematics.specs.Calls.{Call, Answered}
@@ -24,6 +25,9 @@ minus n h = rw (to_z_pos w64 {n = n} (omega arith)) (+ℤ_idl (neg_ℤ (pos n)))
 -- an answer of a call is exported as its signed number
 pub exports : {B : Type 0} {call : Call ℕ B} {a : Outcome ℕ} {l : B} → Answered call a l → {r : ℤ} → r ≡ signed a → Exported call r l
 exports h is = record { answer = is ∙ ap signed h.answer; lists = h.lists; known = h.known }
+
+pub told : {B : Type 0} {call : Call ℕ B} {a : Outcome ℕ} {l : B} {r : ℤ} → Answered call a l → mag r < 2 ^ 63 → r ≡ signed a → Exported call (to_z w64 (of_z w64 r)) l
+told {r = r} h fits is = exports h (back64 r fits ∙ is)
 
 -- what was told has the signed number of the answer, and a small value stays small
 signed_of_lem : (a : Outcome ℕ) → signed_of (outcome_told a) ≡ signed a

@@ -2,8 +2,6 @@
 use Rattle.std.specs.Prelude.{ℕ, List, [], ◌∷◌, ◌++◌, Bool, cond, ◌≡◌, ℤ, pos, neg_ℤ, Float, eqb}
 use Rattle.mathematics.specs.Refusals.{Outcome, value, refused, first, outcome, written}
 use Rattle.mathematics.specs.Calls.{Call, NoneLent}
-use Rattle.sheet.specs.declared.Reading.{Reading}
-use Rattle.sheet.specs.declared.Reading.TheVariants.{Accepted, Refused}
 use Rattle.matrices.specs.declared.coupling.KSParams.{KSParams}
 use Rattle.exports.specs.declared.Told.{Told}
 use Rattle.exports.specs.declared.Opened.{Opened}
@@ -100,11 +98,6 @@ zero_of (refused n) = refused n
 unfoldable pub value_or : {A : Type 0} → Outcome A → A → A
 value_or (value a) old = a
 value_or (refused n) old = old
-
--- the refusal of a reading, or 0
-unfoldable pub reading_number : Reading → ℕ
-reading_number Accepted = 0
-reading_number (Refused n) = n
 
 -- the refusal of the sheet's bytes, and where there is none the sheet
 pub record OpenedOf (b : List ℕ) (o : Opened) : Type 0 where

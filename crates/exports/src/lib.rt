@@ -8,13 +8,14 @@ ghost use Rattle.answers.specs.Expectation.{expectation_answer};
 ghost use Rattle.answers.specs.Refusal.{refusal_number, answer_of};
 ghost use Rattle.matrices.specs.declared.coupling.KSParams.{KSParams};
 ghost use Rattle.matrices.specs.Coupling.{coupling_answer, coupling_call};
-ghost use Rattle.exports.specs.Exports.{signed, outcome_told, signed_of, zero_of, value_or, reading_number, OpenedOf, stored, three_floats, Exported};
+ghost use Rattle.exports.specs.Exports.{signed, outcome_told, signed_of, zero_of, value_or, OpenedOf, stored, three_floats, Exported};
 
 use answers::Answer;
 use answers::expectation::Expectation;
 use answers::refusal::Refusal;
+use complex::SimplicialComplex;
 use matrices::coupling::{Coupling, KSParams};
-use sheet::{Reading, Sheet, sheet_read};
+use sheet::{Sheet, read_sheet};
 
 // A value, or the refusal, which is not 0.
 #[derive(Clone, Copy)]
@@ -97,16 +98,6 @@ pub fn signed_refusal(refusal: Refusal) -> i64
     refused(refusal.number())
 }
 
-// The refusal of a reading, or 0.
-pub fn refusal(answer: Reading) -> u8
-    ensures { result ≡ reading_number answer }
-{
-    match answer {
-        Reading::Accepted => 0,
-        Reading::Refused(number) => number,
-    }
-}
-
 // A sheet that was read, or its refusal.
 #[derive(Clone, Copy)]
 pub struct Opened {
@@ -117,13 +108,21 @@ pub struct Opened {
 pub fn open(sheet: &[u8]) -> Opened
     ensures { OpenedOf sheet.now result }
 {
-    let read = sheet_read(sheet);
-    let answer = read.answer;
-    let number = refusal(answer);
-    let s = read.sheet;
-    Opened {
-        refusal: number,
-        sheet: s,
+    match read_sheet(sheet) {
+        Ok(sheet) => Opened { refusal: 0, sheet },
+        Err(refusal) => Opened {
+            refusal: refusal.number(),
+            sheet: Sheet {
+                complex: SimplicialComplex {
+                    n_vertices: 0,
+                    n_edges: 0,
+                    edges: [0; 126],
+                    n_triangles: 0,
+                    triangles: [0; 768],
+                },
+                lambda: 0,
+            },
+        },
     }
 }
 

@@ -1,12 +1,11 @@
 -- A sheet's bytes from flat lists.
-use Rattle.std.specs.Prelude.{ℕ, ◌/◌, ◌%◌, ◌≤◌, List, [], ◌∷◌, ◌++◌, Bool, not, ◌&&◌, ◌≡◌, length, eqb, ltb}
+use Rattle.std.specs.Prelude.{ℕ, ◌*◌, ◌/◌, ◌%◌, ◌≤◌, List, [], ◌∷◌, ◌++◌, Bool, true, not, ◌&&◌, ◌≡◌, length, eqb, ltb}
 use Rattle.mathematics.specs.Writing.{front}
 use Rattle.mathematics.specs.Refusals.{first}
 use Rattle.mathematics.specs.Calls.{Call}
 use Rattle.complex.specs.Complex.{Complex, simplices, complex_of, uncharged}
 use Rattle.complex.specs.Judge.{counts_right, truncation_test, shape_tests}
-use Rattle.sheet.specs.declared.Reading.TheVariants.{Accepted}
-use Rattle.sheet.specs.Sheet.{read_of, sheet_bytes}
+use Rattle.sheet.specs.Sheet.{sheet_in, reading_refusal, sheet_bytes}
 
 -- the complex of flat pairs and flat triples
 unfoldable pub flat_complex : ℕ → List ℕ → List ℕ → Complex
@@ -45,12 +44,19 @@ making_call n edges triangles lambda old =
 
 -- what reading gives of the bytes that are made of flat lists
 pub record MadeBack (n : ℕ) (edges triangles : List ℕ) (lambda : ℕ) (b : List ℕ) : Type 0 where
-  pub answer : (read_of b).answer ≡ Accepted
-  pub complex : complex_of (read_of b).sheet.complex ≡ flat_complex n edges triangles
-  pub truncation : (read_of b).sheet.lambda ≡ lambda
+  pub accepted : reading_refusal b ≡ 0
+  pub complex : complex_of (sheet_in b).complex ≡ flat_complex n edges triangles
+  pub truncation : (sheet_in b).lambda ≡ lambda
 
 -- they are read back as those lists
 abbrev pub MadeThenRead : Type 0
 MadeThenRead =
     (n : ℕ) (edges triangles : List ℕ) (lambda : ℕ) (room : ℕ) → first (making_tests n edges triangles lambda room) ≡ 0
     → MadeBack n edges triangles lambda (sheet_bytes (flat_complex n edges triangles) lambda)
+
+-- ---- as the code keeps it
+-- what the tests of the sizes say of lists that pass
+pub record Sizes (n : ℕ) (edges triangles : List ℕ) : Type 0 where
+  pub counts_pass : counts_right n (length edges / 2) (length triangles / 3) ≡ true
+  pub pairs : length edges ≡ 2 * (length edges / 2)
+  pub triples : length triangles ≡ 3 * (length triangles / 3)

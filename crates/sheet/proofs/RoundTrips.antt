@@ -1,5 +1,5 @@
 -- Reading what was written gives the same complex and truncation; writing what was read gives the same bytes.
-use Prim.Native.Nat.{ℕ, zero, suc, ◌+◌, ◌-◌, ◌*◌, ◌/◌, ◌%◌, ◌<◌, ◌≤◌}
+use Prim.Native.Nat.{ℕ, ◌+◌, ◌-◌, ◌*◌, ◌/◌, ◌%◌, ◌<◌, ◌≤◌}
 use mathlib.Core.List.{List, [], ◌∷◌, ◌++◌, flatten}
 use mathlib.Core.Path.{◌≡◌, refl, sym, ap, ◌∙◌}
 use mathlib.Core.Bool.{true}
@@ -7,7 +7,7 @@ use native.Mathlib.Omega.{arith}
 use lib.ListN.{get_or, length, take, drop, replicate, length-append, length-drop}
 use lib.Seq.{drop-cons, get_or-take, length-take-le, take_at, drop_at, drop-drop, take-add, take_all}
 use Rattle.mathematics.specs.Lists.{same}
-use Rattle.mathematics.specs.Refusals.{first, written}
+use Rattle.mathematics.specs.Refusals.{first}
 use Rattle.mathematics.proofs.Lists.{lists_equal}
 use Rattle.mathematics.proofs.Refusals.{first_none}
 use Rattle.mathematics.proofs.Flat.{flatten_length}
@@ -18,10 +18,9 @@ use Rattle.complex.proofs.Accepting.{Counts, counts, passed, Sized, simplices_si
 use Rattle.complex.proofs.Judging.{truncated_passed}
 use Rattle.complex.proofs.Flattened.{flatten_simplices, simplices_flatten}
 use Rattle.sheet.specs.declared.Sheet.{Sheet}
-use Rattle.sheet.specs.declared.Reading.TheVariants.{Accepted}
 use Rattle.sheet.specs.RoundTrips.{WrittenThenRead, ReadThenWritten}
-use Rattle.sheet.specs.Sheet.{word, padded, sheet_in, header_tests, reading_refusal, read_answer, read_of, header_bytes, sheet_bytes}
-use Rattle.sheet.proofs.Sheets.{Header, header_of, of_header, read_accepted}
+use Rattle.sheet.specs.Sheet.{word, padded, sheet_in, header_tests, Header, reading_refusal, header_bytes, sheet_bytes}
+use Rattle.sheet.proofs.Sheets.{header_of, of_header, shape_decides}
 
 -- the length of a sheet of pairs and triples
 pub sheet_length : (c : Complex) (lambda : ℕ) → Sized 2 c.edges → Sized 3 c.triangles → length (sheet_bytes c lambda) ≡ 11 + 2 * length c.edges + 3 * length c.triangles
@@ -119,22 +118,13 @@ read_written s h =
     let plain = plain_of s h in
     let back : complex_of (sheet_in b).complex ≡ c = same_complex c s.lambda plain in
     let none : refusal (complex_of (sheet_in b).complex) ≡ 0 = rw back (truncated_passed s.complex s.lambda h).0 in
-    let e = read_accepted b (of_header b (written_header c s.lambda plain)) none in
     record {
-      answer = sym (ap (λ r. r.answer) e);
-      complex = sym (ap (λ r. complex_of r.sheet.complex) e) ∙ back;
-      truncation = sym (ap (λ r. r.sheet.lambda) e) ∙ truncation_read c s.lambda plain;
+      accepted = shape_decides b (of_header b (written_header c s.lambda plain)) ∙ none;
+      complex = back;
+      truncation = truncation_read c s.lambda plain;
     }
 
 -- ---- the other way
-pub accepted_none : (b : List ℕ) → (read_of b).answer ≡ Accepted → reading_refusal b ≡ 0
-unfolding read_of read_answer
-accepted_none b h = go (reading_refusal b) h
-  where
-    go : (n : ℕ) → read_answer n ≡ Accepted → n ≡ 0
-    go zero h = refl
-    go (suc n) h = absurd (let z : ◌≡◌ {A = ℕ} 0 1 = cc in omega arith)
-
 pub header_none : (b : List ℕ) → reading_refusal b ≡ 0 → first (header_tests b) ≡ 0
 unfolding reading_refusal
 header_none b h = first_none (header_tests b) (shape_tests (complex_of (sheet_in b).complex)) h
@@ -207,10 +197,9 @@ module _ (b : List ℕ) (bytes : (i : ℕ) → i < length b → get_or b i 0 < 2
 
 -- writing the sheet that was read gives the bytes again
 pub written_read : ReadThenWritten
-unfolding read_of written sheet_bytes complex_of sheet_in
+unfolding sheet_bytes complex_of sheet_in
 written_read b bytes h =
-    let none : reading_refusal b ≡ 0 = accepted_none b h in
-    let head : Header b = header_of b (header_none b none) in
+    let head : Header b = header_of b (header_none b h) in
     rw
-    (none, simplices_length 2 (padded 126 (take (2 * get_or b 6 0) (drop 11 b))) (get_or b 6 0), simplices_length 3 (padded 768 (take (3 * word b 7) (drop (11 + 2 * get_or b 6 0) b))) (word b 7), flat_edges b bytes head, flat_triangles b bytes head, both_parts b bytes head)
+    (simplices_length 2 (padded 126 (take (2 * get_or b 6 0) (drop 11 b))) (get_or b 6 0), simplices_length 3 (padded 768 (take (3 * word b 7) (drop (11 + 2 * get_or b 6 0) b))) (word b 7), flat_edges b bytes head, flat_triangles b bytes head, both_parts b bytes head)
     (same_header b bytes head)

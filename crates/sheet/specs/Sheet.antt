@@ -1,18 +1,15 @@
 -- The sheet: bytes 0 to 2 the mark GLS; 3 to 4 the version, 1; 5 V; 6 E; 7 to 8 T; 9 to 10 L; then two bytes for each edge and three for
 -- each triangle. Numbers of two bytes have the low byte first.
 use Prim.{Unit}
-use Rattle.std.specs.Prelude.{ℕ, zero, suc, ◌+◌, ◌-◌, ◌*◌, ◌/◌, ◌%◌, ◌≤◌, Bool, not, ◌≡◌, get_or, length, take, drop, replicate, eqb, ltb}
+use Rattle.std.specs.Prelude.{ℕ, ◌+◌, ◌-◌, ◌*◌, ◌/◌, ◌%◌, ◌≤◌, Bool, true, not, ◌≡◌, get_or, length, take, drop, replicate, eqb, ltb}
 use mathlib.Core.List.{List, [], ◌∷◌, ◌++◌, flatten}
 use Rattle.mathematics.specs.Writing.{front}
 use Rattle.mathematics.specs.Lists.{same}
-use Rattle.mathematics.specs.Refusals.{first, Outcome, value, refused, written}
-use Rattle.mathematics.specs.Calls.{Call, Answered, NoneLent, none_lent}
+use Rattle.mathematics.specs.Refusals.{first}
+use Rattle.mathematics.specs.Calls.{Call, NoneLent, none_lent}
 use Rattle.complex.specs.Complex.{Complex, complex_of}
 use Rattle.complex.specs.Judge.{counts_right, truncation_test, shape_tests, truncated_tests}
 use Rattle.sheet.specs.declared.Sheet.{Sheet}
-use Rattle.sheet.specs.declared.SheetRead.{SheetRead}
-use Rattle.sheet.specs.declared.Reading.{Reading}
-use Rattle.sheet.specs.declared.Reading.TheVariants.{Accepted, Refused}
 
 -- the number of two bytes from a place on, low byte first
 unfoldable pub word : List ℕ → ℕ → ℕ
@@ -36,14 +33,6 @@ sheet_in b =
       lambda = word b 9;
     }
 
--- all zeros
-unfoldable pub blank : Sheet
-blank =
-    record {
-      complex = record { n_vertices = 0; n_edges = 0; edges = replicate 126 0; n_triangles = 0; triangles = replicate 768 0 };
-      lambda = 0;
-    }
-
 -- the lines of the table of refusals that the first eleven bytes and the length decide
 unfoldable pub header_tests : List ℕ → List (ℕ × Bool)
 header_tests b =
@@ -62,28 +51,9 @@ reading_tests b = header_tests b ++ shape_tests (complex_of (sheet_in b).complex
 unfoldable pub reading_refusal : List ℕ → ℕ
 reading_refusal b = first (reading_tests b)
 
--- what an answer says, with the sheet beside it
-unfoldable pub reading_answer : Reading → Sheet → Outcome Sheet
-reading_answer Accepted s = value s
-reading_answer (Refused n) s = refused n
-
 -- read_sheet: the sheet is told. It writes no list.
 unfoldable pub reading_call : List ℕ → Call Sheet NoneLent
 reading_call b = record { tests = reading_tests b; value = sheet_in b; before = none_lent; after = none_lent; known = Unit {0} }
-
--- the answer of a refusal, 0 for none
-unfoldable pub read_answer : ℕ → Reading
-read_answer zero = Accepted
-read_answer (suc n) = Refused (suc n)
-
--- what reading gives: the answer, and the sheet, or zeros beside a refusal
-unfoldable pub read_of : List ℕ → SheetRead
-read_of b = record { answer = read_answer (reading_refusal b); sheet = written (reading_refusal b) (sheet_in b) blank }
-
--- an answer is that of the call, and beside a refusal are zeros
-pub record ReadTold (b : List ℕ) (r : SheetRead) : Type 0 where
-  pub told : Answered (reading_call b) (reading_answer r.answer r.sheet) none_lent
-  pub is : r ≡ read_of b
 
 -- the first eleven bytes
 unfoldable pub header_bytes : ℕ → ℕ → ℕ → ℕ → List ℕ
@@ -110,9 +80,14 @@ writing_call c lambda old =
     }
 
 -- ---- as the code keeps it
--- a refusal, with zeros beside it
-unfoldable pub refused_of : ℕ → SheetRead
-refused_of n = record { answer = Refused n; sheet = blank }
+-- what the tests of the header say of bytes that pass
+pub record Header (b : List ℕ) : Type 0 where
+  pub long : 11 ≤ length b
+  pub mark : same (take 3 b) (71 ∷ 76 ∷ 83 ∷ []) ≡ true
+  pub version : word b 3 ≡ 1
+  pub counts_pass : counts_right (get_or b 5 0) (get_or b 6 0) (word b 7) ≡ true
+  pub truncation : word b 9 ≤ 1000
+  pub size : length b ≡ 11 + 2 * get_or b 6 0 + 3 * word b 7
 
 -- what the writer of the bytes asks: counts in their ranges, and room
 pub record Writable (s : Sheet) (out : List ℕ) : Type 0 where

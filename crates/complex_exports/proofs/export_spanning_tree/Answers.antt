@@ -1,18 +1,11 @@
-use Rattle.std.proofs.Common.{refl, ◌∙◌}
-use Rattle.mathematics.proofs.Signed.{back64}
+use Rattle.std.proofs.Common.{refl}
 use Rattle.gauss_law.specs.Spanning.{tree_call}
-use Rattle.exports.proofs.Signs.{signed_told}
-use Rattle.exports.proofs.OnSheets.{sheet_refuses, sheet_answers, small_answer, few_small}
+use Rattle.exports.proofs.OnSheets.{unread, read_and_called}
 use Rattle.complex_exports.proofs.export_spanning_tree.Goals as goal
 
-pub returns-then-number-ne0 : goal.returns-then-number-ne0
-unfolding tree_call
-returns-then-number-ne0 c = sheet_refuses c.open-opened.ensures _ c.if-number-ne0.true _ (back64 _ c.refused.type_inv ∙ c.refused.ensures)
+pub returns-in-Ok : goal.returns-in-Ok
+returns-in-Ok c = read_and_called _ _ c.signed_result.type_inv c.in-Ok.ensures c.spanning_tree.ensures c.signed_result.ensures
 
-pub signed-requires : goal.signed-requires
+pub returns-in-Err : goal.returns-in-Err
 unfolding tree_call
-signed-requires c = small_answer c.spanning_tree.ensures (λ k. few_small k refl) c.told_result.ensures
-
-pub returns : goal.returns
-returns c =
-    sheet_answers c.open-opened.ensures _ c.if-number-ne0.false c.spanning_tree.ensures (back64 _ c.signed.type_inv ∙ c.signed.ensures ∙ signed_told _ c.told_result.ensures)
+returns-in-Err c = unread _ _ c.signed_refusal.type_inv c.in-Err.ensures c.signed_refusal.ensures refl

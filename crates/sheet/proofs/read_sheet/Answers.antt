@@ -3,12 +3,15 @@ use Rattle.answers.proofs.Numbers.{number_positive}
 use Rattle.answers.proofs.Passing.{answer_passed}
 use Rattle.complex.specs.Complex.{complex_of}
 use Rattle.complex.specs.Judge.{refusal}
-use Rattle.sheet.proofs.Sheets.{header_refuses, shape_refuses, sheet_read}
+use Rattle.sheet.proofs.Sheets.{header_of, header_refuses, shape_refuses, sheet_read}
 use Rattle.sheet.proofs.read_sheet.Goals as goal
 
 pub returns-in_err-judge_header : goal.returns-in_err-judge_header
 returns-in_err-judge_header c =
     rw (answer_passed _ _ c.from_residual.ensures.1) (header_refuses _ c.in_err-judge_header.ensures (number_positive _))
+
+pub sheet_in-sheet-requires : goal.sheet_in-sheet-requires
+sheet_in-sheet-requires c = header_of _ (sym c.in_ok-judge_header.ensures)
 
 pub returns-in_err-accept : goal.returns-in_err-accept
 returns-in_err-accept c =
