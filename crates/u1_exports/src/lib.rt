@@ -1,13 +1,14 @@
 // What the exported functions of U(1) do.
 #![tactic(auto)]
 
-ghost use Rattle.std.specs.Prelude.{◌≡◌};
+ghost use Rattle.std.specs.Prelude.{◌≡◌, true};
 ghost use Rattle.mathematics.specs.Calls.{none_lent};
 ghost use Rattle.law_check.specs.Law.{law_answer, law_call};
 ghost use Rattle.enumeration.specs.Enumeration.{enumerated_call, counted_call};
 ghost use Rattle.hilbert.specs.Index.{index_answer, index_call};
 ghost use Rattle.shifts.specs.Shift.{shift_call};
 ghost use Rattle.matrices.specs.Coupling.{coupling_call, u1_params};
+ghost use Rattle.matrices.specs.Weights.{is_given, given_list};
 ghost use Rattle.plaquettes.specs.Triangle.{triangle_call};
 ghost use Rattle.hamiltonian.specs.Dense.{u1_dense_call};
 ghost use Rattle.csr.specs.Csr.{csr_call};
@@ -22,7 +23,7 @@ use electric::electric_field_sq;
 use entries::count_entries;
 use enumeration::count::count_states;
 use enumeration::enumerate_gauge_invariant;
-use exports::{Told, open, refused, signed, store, store_expectation, told_number};
+use exports::{Told, open, refused, signed, store, store_expectation, told_number, told_result};
 use hamiltonian::dense::build_hamiltonian;
 use hilbert::index::{Index, config_to_index};
 use lanczos::matvec::hamiltonian_matvec;
@@ -64,6 +65,13 @@ fn told_index(answer: Index) -> Told
             value: 0,
         },
     }
+}
+
+// The weights, where they are given.
+fn lent(given: bool, weights: &[f64]) -> Option<&[f64]>
+    ensures { (is_given result ≡ given) × (given ≡ true → given_list result ≡ weights.now) }
+{
+    if given { Some(weights) } else { None }
 }
 
 // Whether a configuration obeys Gauss's law on a sheet's complex: 1 or 0.
@@ -156,7 +164,7 @@ pub fn export_apply_triangle_shift(
         state as usize,
         states,
     );
-    signed(told_number(answer))
+    signed(told_result(answer))
 }
 
 // g² and the factors of U(1): 0.
@@ -185,13 +193,14 @@ pub fn export_build_hamiltonian(
         return refused(number);
     }
     let s = opened.sheet;
+    let own = lent(given, weights);
     let p = KSParams {
         g_squared: g_squared,
         electric: electric,
         magnetic: magnetic,
     };
-    let answer = build_hamiltonian(s.complex, s.lambda, p, given, weights, states, res);
-    signed(told_number(answer))
+    let answer = build_hamiltonian(s.complex, s.lambda, p, own, states, res);
+    signed(told_result(answer))
 }
 
 // The matrix of a sheet as row lists: the number of its entries.
@@ -215,15 +224,14 @@ pub fn export_build_csr(
         return refused(number);
     }
     let s = opened.sheet;
+    let own = lent(given, weights);
     let p = KSParams {
         g_squared: g_squared,
         electric: electric,
         magnetic: magnetic,
     };
-    let answer = build_csr(
-        s.complex, s.lambda, p, given, weights, states, starts, columns, values,
-    );
-    signed(told_number(answer))
+    let answer = build_csr(s.complex, s.lambda, p, own, states, starts, columns, values);
+    signed(told_result(answer))
 }
 
 // How many states a sheet has.
@@ -249,7 +257,7 @@ pub fn export_count_entries(sheet: &[u8]) -> i64
         return refused(number);
     }
     let s = opened.sheet;
-    signed(told_number(count_entries(s.complex, s.lambda)))
+    signed(told_result(count_entries(s.complex, s.lambda)))
 }
 
 // The product of a sheet's Hamiltonian with a vector: the number of its states.
@@ -272,13 +280,14 @@ pub fn export_hamiltonian_matvec(
         return refused(number);
     }
     let s = opened.sheet;
+    let own = lent(given, weights);
     let p = KSParams {
         g_squared: g_squared,
         electric: electric,
         magnetic: magnetic,
     };
-    let answer = hamiltonian_matvec(s.complex, s.lambda, p, given, weights, vector, states, res);
-    signed(told_number(answer))
+    let answer = hamiltonian_matvec(s.complex, s.lambda, p, own, vector, states, res);
+    signed(told_result(answer))
 }
 
 // The square of the electric field on each edge of a sheet, expected in a state: the number of edges.
