@@ -1,3 +1,4 @@
+pub mod Entering
 pub mod Found
 pub mod Filling
 pub mod Walked

@@ -1,9 +1,9 @@
 // The U(1) Hamiltonian as row lists.
 ghost use Rattle.std.specs.Prelude.{◌+◌, ◌*◌, ◌^◌, ◌<◌, ◌≤◌, length};
 ghost use Rattle.mathematics.specs.Calls.{Answered};
-ghost use Rattle.answers.specs.Answer.{number_answer};
+ghost use Rattle.answers.specs.Refusal.{answer_of};
 ghost use Rattle.complex.specs.Complex.{complex_of};
-ghost use Rattle.matrices.specs.Weights.{weight, Weighed};
+ghost use Rattle.matrices.specs.Weights.{weight, Weighed, is_given, given_list};
 ghost use Rattle.rows.specs.RowLists.{RowsWritten};
 ghost use Rattle.plaquettes.specs.Targets.{BasisList};
 ghost use Rattle.triangles.specs.Indices.{AllSides};
@@ -12,15 +12,14 @@ ghost use Rattle.csr.specs.Csr.{csr_call};
 
 use crate::fill::write_rows;
 use crate::words::{write_numbers, write_starts};
-use answers::Answer;
+use answers::refusal::Refusal;
 use complex::SimplicialComplex;
 use entries::count::count_rows;
-use enumeration::prepare_basis;
+use enumeration::basis::Basis;
 use matrices::coupling::{KSParams, is_u1};
-use matrices::weights::judge_weights;
+use matrices::weights::accept_weights;
 use moves::tables::write_moves;
-use plaquettes::target::Sizes;
-use runs::{count_states, write_states};
+use plaquettes::target::{Sizes, list_states};
 use triangles::all_sides;
 
 // The rows of all states go to the beginning of three lists. Another list begins with the states.
@@ -28,8 +27,7 @@ fn write_lists(
     c: SimplicialComplex,
     all: &[u8; 768],
     p: KSParams,
-    given: bool,
-    weights: &[f64],
+    weights: Option<&[f64]>,
     list: &[i32],
     s: Sizes,
     free: &[u8; 63],
@@ -37,13 +35,13 @@ fn write_lists(
     columns: &mut [u32],
     values: &mut [f64],
 )
-    requires { BasisList (complex_of c) list.now s free.now × AllSides (complex_of c) all.now × ((2 * s.lambda + 1) ^ s.free ≤ 1048576) × Weighed (length (complex_of c).triangles) given weights.now × (s.states < length starts.old) × (csr_entries (complex_of c) s.lambda p (weight given weights.now) ≤ length columns.old) × (csr_entries (complex_of c) s.lambda p (weight given weights.now) ≤ length values.old) }
-    ensures { RowsWritten (csr_row (complex_of c) s.lambda p (weight given weights.now)) s.states (csr_entries (complex_of c) s.lambda p (weight given weights.now)) starts.old columns.old values.old starts.new columns.new values.new }
+    requires { BasisList (complex_of c) list.now s free.now × AllSides (complex_of c) all.now × ((2 * s.lambda + 1) ^ s.free ≤ 1048576) × Weighed (length (complex_of c).triangles) (is_given weights) (given_list weights) × (s.states < length starts.old) × (csr_entries (complex_of c) s.lambda p (weight (is_given weights) (given_list weights)) ≤ length columns.old) × (csr_entries (complex_of c) s.lambda p (weight (is_given weights) (given_list weights)) ≤ length values.old) }
+    ensures { RowsWritten (csr_row (complex_of c) s.lambda p (weight (is_given weights.entry) (given_list weights.entry))) s.states (csr_entries (complex_of c) s.lambda p (weight (is_given weights.entry) (given_list weights.entry))) starts.old columns.old values.old starts.new columns.new values.new }
 {
     let mut keys = [0u32; 512];
     let mut terms = [0.0f64; 512];
     write_moves(
-        c, all, p, given, weights, free, s.free, s.lambda, s.states, &mut keys, &mut terms,
+        c, all, p, weights, free, s.free, s.lambda, s.states, &mut keys, &mut terms,
     );
     write_numbers(list, s, free, starts);
     write_rows(
@@ -67,43 +65,28 @@ pub fn build_csr(
     c: SimplicialComplex,
     lambda: usize,
     p: KSParams,
-    given: bool,
-    weights: &[f64],
+    weights: Option<&[f64]>,
     states: &mut [i32],
     starts: &mut [u32],
     columns: &mut [u32],
     values: &mut [f64],
-) -> Answer
-    ensures { Answered (csr_call (complex_of c) lambda p given weights.now states.old starts.old columns.old values.old) (number_answer result) (states.new, starts.new, columns.new, values.new) }
+) -> Result<usize, Refusal>
+    ensures { Answered (csr_call (complex_of c) lambda p (is_given weights.entry) (given_list weights.entry) states.old starts.old columns.old values.old) (answer_of result) (states.new, starts.new, columns.new, values.new) }
 {
-    let basis = prepare_basis(c, lambda);
-    let number = basis.refusal;
-    if number != 0 {
-        return Answer::Refused(number);
-    }
-    let wrong = judge_weights(c.n_triangles, is_u1(p), given, weights);
-    if wrong != 0 {
-        return Answer::Refused(wrong);
-    }
-    let w = basis.walker;
-    let blocks = basis.blocks;
-    let n = count_states(w, lambda, blocks);
+    let basis = Basis::prepare(c, lambda)?;
+    accept_weights(c.n_triangles, is_u1(p), weights)?;
+    let n = basis.count();
     let all = all_sides(c);
-    let entries = count_rows(w, lambda, blocks, &all, c.n_triangles);
-    if (states.len() < n * w.n_edges)
+    let entries = count_rows(&basis, &all, c.n_triangles);
+    if (states.len() < n * basis.walker.n_edges)
         | ((starts.len() < n + 1) | ((columns.len() < entries) | (values.len() < entries)))
     {
-        return Answer::Refused(15);
+        return Err(Refusal::NoRoom);
     }
-    let free = w.free;
-    let s = Sizes {
-        states: write_states(w, lambda, blocks, states),
-        edges: w.n_edges,
-        free: w.n_free,
-        lambda: lambda,
-    };
+    let s = list_states(&basis, states);
+    let free = basis.walker.free;
     write_lists(
-        c, &all, p, given, weights, states, s, &free, starts, columns, values,
+        c, &all, p, weights, states, s, &free, starts, columns, values,
     );
-    Answer::Number(entries)
+    Ok(entries)
 }

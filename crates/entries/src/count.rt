@@ -1,34 +1,27 @@
 // How many entries the rows have, counted state by state as a cursor goes over them, without a list.
-ghost use Rattle.std.specs.Prelude.{◌≡◌, cond, ◌<◌, ◌≤◌, eqb, length};
+ghost use Rattle.std.specs.Prelude.{◌≡◌, ◌<◌, ◌≤◌, eqb, length};
 ghost use Rattle.matrices.specs.Squares.{squares};
 ghost use Rattle.cycles.specs.Cycles.{row};
 ghost use Rattle.walker.specs.Walker.{walked_states};
 ghost use Rattle.walker.specs.Steps.{Walkable};
-ghost use Rattle.walker.specs.Tables.{states_of, Fit};
+ghost use Rattle.walker.specs.Tables.{states_of};
 ghost use Rattle.plaquettes.specs.Pairs.{three, Movable};
 ghost use Rattle.entries.specs.Count.{over_states, both_stay, moves_stay, row_entries, Countable, AllCountable};
 
 use cursor::{first_state, next_state};
+use enumeration::basis::Basis;
 use numbers::sizes::MOST_EDGES;
 use plaquettes::pairs::stays;
 use triangles::{Sides, sides_at};
 use walker::row::fill_row;
-use walker::tables::Walker;
-
-fn one(b: bool) -> usize
-    ensures { (result ≡ cond b 1 0) × (result ≤ 1) }
-{
-    if b { 1 } else { 0 }
-}
 
 // How many of both moves of a triangle do so.
+#[tactic(auto, unfolding(crate::specs::Count::both_stay))]
 fn count_both(state: &[i32], sides: Sides, lambda: usize) -> usize
     requires { Movable state.now (three sides) × (lambda ≤ 1000) }
     ensures { (result ≡ both_stay lambda state.now (three sides)) × (result ≤ 2) }
 {
-    let forward = one(stays(state, sides, 1, -1, lambda));
-    let back = one(stays(state, sides, -1, 1, lambda));
-    forward + back
+    usize::from(stays(state, sides, 1, lambda)) + usize::from(stays(state, sides, -1, lambda))
 }
 
 // How many moves of the first n triangles do so.
@@ -47,9 +40,8 @@ fn count_moves(state: &[i32], all: &[u8; 768], n: usize, lambda: usize) -> usize
 fn is_zero(state: &[i32]) -> bool
     ensures { result ≡ eqb (squares state.now) 0 }
 {
-    for e in 0..state.len() {
-        let x = state[e];
-        if (x < 0) | (0 < x) {
+    for x in state {
+        if *x != 0 {
             return false;
         }
     }
@@ -61,8 +53,7 @@ fn count_row(state: &[i32], all: &[u8; 768], n: usize, lambda: usize) -> usize
     requires { Countable lambda state.now all.now n }
     ensures { (result ≡ row_entries lambda all.now n state.now) × (result ≤ 513) }
 {
-    let moves = count_moves(state, all, n, lambda);
-    one(!is_zero(state)) + moves
+    usize::from(!is_zero(state)) + count_moves(state, all, n, lambda)
 }
 
 // How many entries the rows of the states of some blocks have.
@@ -93,15 +84,22 @@ fn count_walked(
     total
 }
 
-// How many entries the rows of all states have, n the number of the triangles whose edges are listed.
-pub fn count_rows(w: Walker, lambda: usize, blocks: usize, all: &[u8; 768], n: usize) -> usize
-    requires { Fit w lambda blocks × AllCountable lambda (states_of w lambda blocks) all.now n }
-    ensures { result ≡ over_states (row_entries lambda all.now n) (states_of w lambda blocks) }
+// How many entries the rows of all states of a basis have, n the number of the triangles whose edges are listed.
+pub fn count_rows(basis: &Basis, all: &[u8; 768], n: usize) -> usize
+    requires { AllCountable basis.now.lambda (states_of basis.now.walker basis.now.lambda basis.now.blocks) all.now n }
+    ensures { result ≡ over_states (row_entries basis.now.lambda all.now n) (states_of basis.now.walker basis.now.lambda basis.now.blocks) }
 {
-    let free = w.free;
-    let n_free = w.n_free;
+    let w = basis.walker;
     let mut space = w.first;
-    let m = w.n_edges;
-    let config = &mut space[0..m];
-    count_walked(config, &free, n_free, &w.cycles, lambda, blocks, all, n)
+    let config = &mut space[..w.n_edges];
+    count_walked(
+        config,
+        &w.free,
+        w.n_free,
+        &w.cycles,
+        basis.lambda,
+        basis.blocks,
+        all,
+        n,
+    )
 }

@@ -1,3 +1,4 @@
+pub mod Entering
 pub mod PartWay
 pub mod Plaquettes
 pub mod DenseWritten

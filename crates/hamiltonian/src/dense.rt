@@ -2,25 +2,24 @@
 ghost use Rattle.std.specs.Prelude.{◌≡◌, ℕ, ◌*◌, ◌≤◌, Float, List, length};
 ghost use Rattle.mathematics.specs.Writing.{front};
 ghost use Rattle.mathematics.specs.Calls.{Answered};
-ghost use Rattle.answers.specs.Answer.{number_answer};
+ghost use Rattle.answers.specs.Refusal.{answer_of};
 ghost use Rattle.complex.specs.Complex.{complex_of};
-ghost use Rattle.matrices.specs.Weights.{weight, Weighed};
+ghost use Rattle.matrices.specs.Weights.{weight, Weighed, is_given, given_list};
 ghost use Rattle.matrices.specs.Matrix.{Matrix, passed};
 ghost use Rattle.hamiltonian.specs.Dense.{u1_entry, u1_dense, u1_dense_call};
 ghost use Rattle.plaquettes.specs.Rows.{SmallRows, electric_term};
 ghost use Rattle.plaquettes.specs.Targets.{BasisList};
 
 use crate::walk::add_plaquette;
-use answers::Answer;
+use answers::refusal::Refusal;
 use complex::SimplicialComplex;
-use enumeration::prepare_basis;
+use enumeration::basis::Basis;
 use matrices::coupling::{KSParams, is_u1};
 use matrices::matrix::{add_entry, clear_matrix};
 use matrices::terms::dense_plaquette_term;
-use matrices::weights::{judge_weights, weight_of};
+use matrices::weights::{accept_weights, weight_at};
 use plaquettes::rows::row_energy;
-use plaquettes::target::Sizes;
-use runs::{count_states, write_states};
+use plaquettes::target::{Sizes, list_states};
 use triangles::{all_sides, sides_at};
 
 // A factor times each row's sum of squares is added on the diagonal.
@@ -37,18 +36,17 @@ fn add_electric(list: &[i32], n: usize, m: usize, factor: f64, h: &mut [f64])
 fn add_magnetic(
     c: SimplicialComplex,
     p: KSParams,
-    given: bool,
-    weights: &[f64],
+    weights: Option<&[f64]>,
     list: &[i32],
     s: Sizes,
     h: &mut [f64],
 )
-    requires { (free : List ℕ) × BasisList (complex_of c) list.now s free × Weighed (length (complex_of c).triangles) given weights.now × (s.states * s.states ≤ length h.old) }
-    ensures { (old : List Float) → Matrix (u1_entry (complex_of c) s.lambda p (weight given weights.now) 0) s.states old h.old → Matrix (u1_entry (complex_of c) s.lambda p (weight given weights.now) c.n_triangles) s.states old h.new }
+    requires { (free : List ℕ) × BasisList (complex_of c) list.now s free × Weighed (length (complex_of c).triangles) (is_given weights) (given_list weights) × (s.states * s.states ≤ length h.old) }
+    ensures { (old : List Float) → Matrix (u1_entry (complex_of c) s.lambda p (weight (is_given weights.entry) (given_list weights.entry)) 0) s.states old h.old → Matrix (u1_entry (complex_of c) s.lambda p (weight (is_given weights.entry) (given_list weights.entry)) c.n_triangles) s.states old h.new }
 {
     let all = all_sides(c);
     for t in 0..c.n_triangles {
-        let x = dense_plaquette_term(p, weight_of(given, weights, t));
+        let x = dense_plaquette_term(p, weight_at(weights, t));
         add_plaquette(list, s, sides_at(&all, t), x, h);
     }
 }
@@ -57,18 +55,17 @@ fn add_magnetic(
 fn write_dense(
     c: SimplicialComplex,
     p: KSParams,
-    given: bool,
-    weights: &[f64],
+    weights: Option<&[f64]>,
     list: &[i32],
     s: Sizes,
     h: &mut [f64],
 )
-    requires { (free : List ℕ) × BasisList (complex_of c) list.now s free × Weighed (length (complex_of c).triangles) given weights.now × (s.states * s.states ≤ length h.old) }
-    ensures { h.new ≡ front (u1_dense (complex_of c) s.lambda p (weight given weights.now)) h.old }
+    requires { (free : List ℕ) × BasisList (complex_of c) list.now s free × Weighed (length (complex_of c).triangles) (is_given weights) (given_list weights) × (s.states * s.states ≤ length h.old) }
+    ensures { h.new ≡ front (u1_dense (complex_of c) s.lambda p (weight (is_given weights.entry) (given_list weights.entry))) h.old }
 {
     clear_matrix(h, s.states);
     add_electric(list, s.states, s.edges, p.electric, h);
-    add_magnetic(c, p, given, weights, list, s, h);
+    add_magnetic(c, p, weights, list, s, h);
 }
 
 // The dense matrix of a record goes to the beginning of the result list, the basis to that of the work list. All is judged first.
@@ -77,34 +74,19 @@ pub fn build_hamiltonian(
     c: SimplicialComplex,
     lambda: usize,
     p: KSParams,
-    given: bool,
-    weights: &[f64],
+    weights: Option<&[f64]>,
     states: &mut [i32],
     res: &mut [f64],
-) -> Answer
-    ensures { Answered (u1_dense_call (complex_of c) lambda p given weights.now states.old res.old) (number_answer result) (states.new, res.new) }
+) -> Result<usize, Refusal>
+    ensures { Answered (u1_dense_call (complex_of c) lambda p (is_given weights.entry) (given_list weights.entry) states.old res.old) (answer_of result) (states.new, res.new) }
 {
-    let basis = prepare_basis(c, lambda);
-    let number = basis.refusal;
-    if number != 0 {
-        return Answer::Refused(number);
+    let basis = Basis::prepare(c, lambda)?;
+    accept_weights(c.n_triangles, is_u1(p), weights)?;
+    let n = basis.count();
+    if (states.len() < n * basis.walker.n_edges) | (res.len() < n * n) {
+        return Err(Refusal::NoRoom);
     }
-    let wrong = judge_weights(c.n_triangles, is_u1(p), given, weights);
-    if wrong != 0 {
-        return Answer::Refused(wrong);
-    }
-    let w = basis.walker;
-    let blocks = basis.blocks;
-    let n = count_states(w, lambda, blocks);
-    if (states.len() < n * w.n_edges) | (res.len() < n * n) {
-        return Answer::Refused(15);
-    }
-    let s = Sizes {
-        states: write_states(w, lambda, blocks, states),
-        edges: w.n_edges,
-        free: w.n_free,
-        lambda: lambda,
-    };
-    write_dense(c, p, given, weights, states, s, res);
-    Answer::Number(n)
+    let s = list_states(&basis, states);
+    write_dense(c, p, weights, states, s, res);
+    Ok(n)
 }

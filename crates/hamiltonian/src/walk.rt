@@ -32,7 +32,7 @@ pub fn add_plaquette(list: &[i32], s: Sizes, sides: Sides, x: f64, h: &mut [f64]
     let n = s.states;
     let mut from = 0;
     for i in 0..n {
-        let j = find_pair(list, s, sides, 1, -1, i, from);
+        let j = find_pair(list, s, sides, 1, i, from);
         from = add_hit(h, n, i, j, from, x);
     }
 }

@@ -1,3 +1,4 @@
+pub mod Entering
 pub mod Folds
 pub mod Electric
 pub mod Neighbours

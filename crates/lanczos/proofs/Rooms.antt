@@ -1,19 +1,23 @@
 -- How often a sign can be added to a value until it leaves -L to L.
 use Prim.Native.Nat.{ℕ, zero, suc, ◌+◌, ◌<◌, ◌≤◌, min}
-use mathlib.Core.List.{List}
-use mathlib.Core.Bool.{Bool, true, false, not, ◌||◌}
+use mathlib.Core.List.{List, [], ◌∷◌, ◌++◌}
+use mathlib.Core.Bool.{true, ◌||◌}
 use mathlib.Core.Path.{◌≡◌, refl, sym, ap, ◌∙◌}
 use mathlib.Core.Logic.{◌≢◌}
 use native.Mathlib.Omega.{arith}
 use native.Mathlib.Decide.{ℕ_discrete}
-use borrow.Author.Tests.{lt-ltb, lt-leb, leb-true}
+use borrow.Author.Tests.{eq-eqb, lt-ltb, lt-leb, leb-true}
 use lib.Dec.{leb}
 use lib.IntN.{ℤ, pos, negsuc, nat_abs, neg_ℤ, ◌+ℤ◌, ◌-ℤ◌, ◌*ℤ◌, *ℤ-zero, +ℤ_idr}
 use lib.Signed.{lt_z}
-use lib.ListN.{get_or, length, set, length-set}
-use lib.Seq.{get_or-set_same, get_or-set_other}
-use mir.Val.{bool_byte}
-use Rattle.mathematics.specs.Integers.{equal}
+use lib.ListN.{get_or, length, take, length-take, length-append}
+use lib.Seq.{get_or-take}
+use Rattle.std.proofs.lemmas.List.{get_or_append_left}
+use Rattle.std.proofs.Math.Seq.{get_or-append_seam}
+use mir.Syntax.{w8, w32}
+use mir.Val.{SFits, to_z, of_z}
+use mir.Facts.{to_z_pos}
+use Rattle.mathematics.proofs.Signed.{zero8, small_back}
 use Rattle.mathematics.proofs.Integers.{positive, negative, parts, parts_size, one_part, the, ◌⊞◌, ◌⊟◌, ⊖◌, times_one, times_minus_one, equal_true}
 use Rattle.mathematics.proofs.Tests.{and_parts}
 use Rattle.gauss_law.specs.Gauss.{within}
@@ -23,6 +27,10 @@ use Rattle.plaquettes.specs.declared.target.Sizes.{Sizes}
 use Rattle.plaquettes.specs.Pairs.{stays}
 use Rattle.plaquettes.proofs.Listed.{row_sized}
 use Rattle.lanczos.specs.Runs.{Covers, Room, Banded, CycleRun, RunRows}
+
+-- one more than the bound, as the code makes it
+pub top_back : (L : ℕ) → L ≤ 1000 → to_z w32 (of_z w32 (to_z w32 L +ℤ pos 1)) ≡ pos (L + 1)
+top_back L h = rw (to_z_pos w32 {n = L} (omega arith)) (small_back (pos (L + 1)) (omega arith))
 
 pub below_top : (L : ℕ) (y : ℤ) → nat_abs y ≤ L → lt_z y (pos (L + 1)) ≡ true
 below_top L (pos n) h = lt-ltb n (L + 1) (omega arith)
@@ -55,9 +63,9 @@ module _ (L : ℕ) (x : ℤ) (small : nat_abs x ≤ L) where
   room_is s h most r positive e = record { some = omega (arith, e, room_some s h); limited = omega (arith, e); inside = λ d l. room_inside s h d (omega (arith, e)) }
 
 -- nothing is added
-pub room_still : (L : ℕ) (x s : ℤ) → nat_abs x ≤ L → equal s (pos 0) ≡ true → (most : ℕ) → 1 ≤ most → Room L x s most most
-room_still L x s small zero-there most h =
-    record { some = h; limited = omega arith; inside = λ d l. rw (equal_true s (pos 0) zero-there, *ℤ-zero (pos d), +ℤ_idr x) small }
+pub room_still : (L : ℕ) (x s : ℤ) → nat_abs x ≤ L → SFits w8 s → of_z w8 s ≡ 0 → (most : ℕ) → 1 ≤ most → Room L x s most most
+room_still L x s small fits none most h =
+    record { some = h; limited = omega arith; inside = λ d l. rw (equal_true s (pos 0) (sym (zero8 s fits.sfits) ∙ eq-eqb _ 0 none), *ℤ-zero (pos d), +ℤ_idr x) small }
 
 -- ---- the edges of a cycle, one after the other
 module _ (L : ℕ) (row z : List ℤ) (edges : List ℕ) (most : ℕ) where
@@ -72,61 +80,63 @@ module _ (L : ℕ) (row z : List ℤ) (edges : List ℕ) (most : ℕ) where
       go p l d k (no e) = run.inside p (omega arith) d (omega (arith, room.limited))
 
 -- ---- the edges of a cycle are found
-pub bool_small : (b : Bool) → bool_byte b ≤ 1
-bool_small true = omega arith
-bool_small false = omega arith
-
 -- as Covers, for the edges below n
 pub record Covering (edges : List ℕ) (count : ℕ) (z : List ℤ) (n : ℕ) : Type 0 where
-  pub long : length edges ≡ 63
+  pub long : count ≤ length edges
   pub few : count ≤ n
   pub below : (q : ℕ) → q < count → get_or edges q 0 < n
   pub all : (e : ℕ) → e < n → get_or z e (pos 0) ≢ pos 0 → (q : ℕ) × (q < count) × (get_or edges q 0 ≡ e)
 
-pub covering_none : (edges : List ℕ) (z : List ℤ) → length edges ≡ 63 → Covering edges 0 z 0
-covering_none edges z h = record { long = h; few = omega arith; below = λ q l. absurd (omega arith); all = λ e l. absurd (omega arith) }
+pub covering_none : (edges : List ℕ) (z : List ℤ) → Covering edges 0 z 0
+covering_none edges z = record { long = omega arith; few = omega arith; below = λ q l. absurd (omega arith); all = λ e l. absurd (omega arith) }
 
 pub covering_all : (edges : List ℕ) (count : ℕ) (z : List ℤ) (n : ℕ) → n ≡ length z → Covering edges count z n → Covers edges count z
 covering_all edges count z n e h = record { long = h.long; few = rw (← e) h.few; below = λ q l. rw (← e) (h.below q l); all = λ f l. h.all f (rw e l) }
 
-module _ (edges : List ℕ) (count : ℕ) (z : List ℤ) (n : ℕ) (h : Covering edges count z n) (room : n < 63) where
-  abbrev more : List ℕ
-  more = set edges count n
+-- an edge on which the cycle is 0 is passed over
+pub covering_passed : (edges : List ℕ) (count : ℕ) (z : List ℤ) (n : ℕ) → Covering edges count z n → SFits w8 (get_or z n (pos 0)) → of_z w8 (get_or z n (pos 0)) ≡ 0 → Covering edges count z (n + 1)
+covering_passed edges count z n h fits none =
+    record {
+      long = h.long;
+      few = omega (arith, h.few);
+      below = λ q l. omega (arith, h.below q l);
+      all = λ e l apart. go e l apart (ℕ_discrete e n);
+    }
+  where
+    go : (e : ℕ) → e < n + 1 → get_or z e (pos 0) ≢ pos 0 → Dec (e ≡ n) → (q : ℕ) × (q < count) × (get_or edges q 0 ≡ e)
+    go e l apart (yes is) = absurd (apart (ap (λ k. get_or z k (pos 0)) is ∙ equal_true _ _ (sym (zero8 (get_or z n (pos 0)) fits.sfits) ∙ eq-eqb _ 0 none)))
+    go e l apart (no is) = h.all e (omega arith) apart
 
-  kept : (q : ℕ) → q < count → get_or more q 0 ≡ get_or edges q 0
-  kept q l = get_or-set_other edges count q n 0 (λ e. omega (arith, e))
+-- another goes last
+module _ (edges edges' : List ℕ) (count count' : ℕ) (z : List ℤ) (n : ℕ) (h : Covering edges count z n) (longer : count' ≡ count + 1) (listed : take count' edges' ≡ take count edges ++ (n ∷ [])) where
+  front_long : length (take count edges) ≡ count
+  front_long = rw length-take (omega (arith, h.long))
 
-  new : get_or more count 0 ≡ n
-  new = get_or-set_same edges count n 0 (omega (arith, h.long, h.few))
+  kept : (q : ℕ) → q < count → get_or edges' q 0 ≡ get_or edges q 0
+  kept q l =
+      sym (get_or-take count' edges' q 0 (omega (arith, longer))) ∙ ap (λ m. get_or m q 0) listed ∙ get_or_append_left (take count edges) (n ∷ []) 0 q (omega (arith, front_long)) ∙ get_or-take count edges q 0 l
 
-  -- an edge of the cycle is kept, another is written over next
-  pub covering_more : (b : Bool) → equal (get_or z n (pos 0)) (pos 0) ≡ b → Covering more (count + bool_byte (not b)) z (n + 1)
-  covering_more true zero-there =
+  new : get_or edges' count 0 ≡ n
+  new =
+      sym (get_or-take count' edges' count 0 (omega (arith, longer))) ∙ ap (λ m. get_or m count 0) listed
+      ∙ ap (λ k. get_or (take count edges ++ (n ∷ [])) k 0) (sym front_long) ∙ get_or-append_seam (take count edges) n [] 0
+
+  pub covering_pushed : Covering edges' count' z (n + 1)
+  covering_pushed =
       record {
-        long = length-set edges count n ∙ h.long;
-        few = omega (arith, h.few);
-        below = λ q l. let k : q < count = omega arith in rw (kept q k) (omega (arith, h.below q k));
+        long = omega (arith, longer, front_long, rw (length-take, length-append) at (ap length listed));
+        few = omega (arith, h.few, longer);
+        below = λ q l. under q (omega (arith, longer)) (ℕ_discrete q count);
         all = λ e l apart. go e l apart (ℕ_discrete e n);
       }
     where
-      go : (e : ℕ) → e < n + 1 → get_or z e (pos 0) ≢ pos 0 → Dec (e ≡ n) → (q : ℕ) × (q < count + 0) × (get_or more q 0 ≡ e)
-      go e l apart (yes is) = absurd (apart (ap (λ k. get_or z k (pos 0)) is ∙ equal_true _ _ zero-there))
-      go e l apart (no is) = let w = h.all e (omega arith) apart in (w.0, omega (arith, w.1), kept w.0 w.1 ∙ w.2)
-  covering_more false there =
-      record {
-        long = length-set edges count n ∙ h.long;
-        few = omega (arith, h.few);
-        below = λ q l. under q l (ℕ_discrete q count);
-        all = λ e l apart. go e l apart (ℕ_discrete e n);
-      }
-    where
-      under : (q : ℕ) → q < count + 1 → Dec (q ≡ count) → get_or more q 0 < n + 1
+      under : (q : ℕ) → q < count + 1 → Dec (q ≡ count) → get_or edges' q 0 < n + 1
       under q l (yes is) = rw (is, new) (omega arith)
       under q l (no is) = let k : q < count = omega arith in rw (kept q k) (omega (arith, h.below q k))
 
-      go : (e : ℕ) → e < n + 1 → get_or z e (pos 0) ≢ pos 0 → Dec (e ≡ n) → (q : ℕ) × (q < count + 1) × (get_or more q 0 ≡ e)
-      go e l apart (yes is) = (count, omega arith, new ∙ sym is)
-      go e l apart (no is) = let w = h.all e (omega arith) apart in (w.0, omega (arith, w.1), kept w.0 w.1 ∙ w.2)
+      go : (e : ℕ) → e < n + 1 → get_or z e (pos 0) ≢ pos 0 → Dec (e ≡ n) → (q : ℕ) × (q < count') × (get_or edges' q 0 ≡ e)
+      go e l apart (yes is) = (count, omega (arith, longer), new ∙ sym is)
+      go e l apart (no is) = let w = h.all e (omega arith) apart in (w.0, omega (arith, w.1, longer), kept w.0 w.1 ∙ w.2)
 
 -- ---- a row and its moves
 -- a test of three values that holds

@@ -3,7 +3,7 @@ use Prim.Native.Nat.{ℕ, zero, suc, ◌+◌, ◌-◌, ◌<◌, ◌≤◌}
 use mathlib.Core.List.{List, [], ◌∷◌}
 use mathlib.Core.Bool.{Bool, true, false, false≢true}
 use mathlib.Core.Path.{◌≡◌, refl, sym, ap, ◌∙◌}
-use native.Mathlib.Nat.{add-zero, sub-zero}
+use native.Mathlib.Nat.{add-zero}
 use native.Mathlib.Omega.{arith}
 use native.Mathlib.Decide.{dec_lt}
 use borrow.Author.Tests.{le-leb}
@@ -223,7 +223,7 @@ run_bounds list s sides edges count z i j r found h = go (dec_lt r.from s.states
         (omega (arith, over.from_is, over.none), omega (arith, over.to_is, over.none), omega (arith, over.from_is, over.none))
 
 -- ---- the first cycle of a walk
-pub walk_cycle : (c : Complex) (L : ℕ) (w : Walker) (blocks : ℕ) → BasisWalks c L w blocks → FirstCycle c (take (w.n_edges - 0) w.cycles)
+pub walk_cycle : (c : Complex) (L : ℕ) (w : Walker) (blocks : ℕ) → BasisWalks c L w blocks → FirstCycle c (take w.n_edges w.cycles)
 walk_cycle c L w blocks basis =
     let tables = walks_tables c w L basis.walks in
-    rw (sub-zero w.n_edges, basis.walks.edges) (record { sized = tables.first_sized; signs = tables.first_signs; is = λ some. tables.cycles 0 some })
+    rw basis.walks.edges (record { sized = tables.first_sized; signs = tables.first_signs; is = λ some. tables.cycles 0 some })

@@ -1,3 +1,4 @@
 pub mod Matvec
 pub mod Walk
 pub mod Runs
+pub mod Tables

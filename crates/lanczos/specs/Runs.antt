@@ -11,7 +11,7 @@ use Rattle.lanczos.specs.declared.state_runs.Run.{Run}
 
 -- the first entries of a list are edges of a cycle, and all on which it is not 0
 pub record Covers (edges : List ℕ) (count : ℕ) (z : List ℤ) : Type 0 where
-  pub long : length edges ≡ 63
+  pub long : count ≤ length edges
   pub few : count ≤ length z
   pub below : (q : ℕ) → q < count → get_or edges q 0 < length z
   pub all : (e : ℕ) → e < length z → get_or z e (pos 0) ≢ pos 0 → (q : ℕ) × (q < count) × (get_or edges q 0 ≡ e)

@@ -3,14 +3,12 @@ ghost use Rattle.std.specs.Prelude.{◌≡◌, List, ℕ, ◌+◌, ◌≤◌, le
 ghost use Rattle.complex.specs.Complex.{Complex};
 ghost use Rattle.lanczos.specs.Matvec.{states_added};
 ghost use Rattle.lanczos.specs.Walk.{run_added};
-ghost use Rattle.lanczos.specs.Runs.{RunRows, FirstCycle};
+ghost use Rattle.lanczos.specs.Runs.{FirstCycle};
+ghost use Rattle.lanczos.specs.Tables.{Runs};
 ghost use Rattle.plaquettes.specs.Targets.{BasisList};
 ghost use Rattle.triangles.specs.Indices.{SidesOf};
 
-use crate::state_runs::find_run;
-use numbers::sizes::MOST_EDGES;
-use plaquettes::target::Sizes;
-use triangles::Sides;
+use crate::state_runs::RunTables;
 
 // x times the amplitude of each of two states is added at the other, for the states of a run and their targets, one after the other.
 fn add_run(res: &mut [f64], vector: &[f64], i: usize, j: usize, count: usize, x: f64)
@@ -26,25 +24,15 @@ fn add_run(res: &mut [f64], vector: &[f64], i: usize, j: usize, count: usize, x:
 }
 
 // What the plaquette of a triangle adds is added at both states of each hit.
-pub fn add_plaquette(
-    list: &[i32],
-    s: Sizes,
-    sides: Sides,
-    edges: &[u8; MOST_EDGES],
-    count: usize,
-    cycle: &[i8],
-    x: f64,
-    vector: &[f64],
-    res: &mut [f64],
-)
-    requires { RunRows list.now s sides edges.now count cycle.now × (s.states ≤ length vector.now) × (s.states ≤ length res.old) }
-    ensures { (c : Complex) (t : ℕ) (free : List ℕ) → BasisList c list.now s free → SidesOf c t sides → FirstCycle c cycle.now → res.new ≡ states_added c s.lambda t x vector.now s.states res.old }
+pub fn add_plaquette(tables: &RunTables<'_>, x: f64, vector: &[f64], res: &mut [f64])
+    requires { Runs tables.now × (tables.now.sizes.states ≤ length vector.now) × (tables.now.sizes.states ≤ length res.old) }
+    ensures { (c : Complex) (t : ℕ) (free : List ℕ) → BasisList c tables.now.list.now tables.now.sizes free → SidesOf c t tables.now.sides → FirstCycle c tables.now.cycle.now → res.new ≡ states_added c tables.now.sizes.lambda t x vector.now tables.now.sizes.states res.old }
 {
-    let n = s.states;
+    let n = tables.sizes.states;
     let mut i = 0;
     let mut j = 0;
     while i < n {
-        let r = find_run(list, s, sides, edges, count, cycle, i, j);
+        let r = tables.find_run(i, j);
         add_run(res, vector, r.from, r.to, r.length, x);
         i = r.from + r.length;
         j = r.to + r.length;

@@ -1,5 +1,5 @@
 // The entries of a row, found by the moves of its state.
-ghost use Rattle.std.specs.Prelude.{◌≡◌, ◌+◌, ◌*◌, ◌-◌, ◌^◌, ◌<◌, ◌≤◌, nat_abs, neg_ℤ, get_or, length, take};
+ghost use Rattle.std.specs.Prelude.{◌≡◌, ◌+◌, ◌*◌, ◌-◌, ◌^◌, ◌<◌, ◌≤◌, nat_abs, get_or, length, take};
 ghost use Rattle.complex.specs.Complex.{entries};
 ghost use Rattle.rows.specs.Entries.{pairs};
 ghost use Rattle.moves.specs.Numbers.{sought, number_in};
@@ -7,19 +7,12 @@ ghost use Rattle.plaquettes.specs.Pairs.{stays, Movable};
 ghost use Rattle.moves.specs.Moves.{tables, triangle_of, unit_of, move_in, change_in, collected, pointed, StateMoves, Pointers, MovePushed};
 
 use crate::seek::seek;
-use numbers::smaller;
 use plaquettes::pairs::stays;
 use rows::lists::{is_kept, push_entry};
 use triangles::sides_at;
 
-fn opposite(unit: i32) -> i32
-    requires { nat_abs unit ≤ 1 }
-    ensures { result ≡ neg_ℤ unit }
-{
-    0 - unit
-}
-
 // The unit of move q: -1 where q is below 256, else 1.
+#[tactic(auto, unfolding(crate::specs::Moves::unit_of))]
 fn unit_of(q: usize) -> i32
     ensures { (result ≡ unit_of q) × (nat_abs result ≤ 1) }
 {
@@ -27,16 +20,17 @@ fn unit_of(q: usize) -> i32
 }
 
 // Whether the move of a key keeps the three values of a state within -lambda to lambda.
+#[tactic(auto, unfolding(crate::specs::Moves::triangle_of, crate::specs::Moves::move_in))]
 fn goes(state: &[i32], all: &[u8; 768], key: u32, lambda: usize) -> bool
     requires { Movable state.now (entries all.now (3 * triangle_of (move_in key)) 3) × (lambda ≤ 1000) }
     ensures { result ≡ stays lambda state.now (entries all.now (3 * triangle_of (move_in key)) 3) (unit_of (move_in key)) }
 {
     let q = (key % 512) as usize;
-    let by = unit_of(q);
-    stays(state, sides_at(all, q % 256), by, opposite(by), lambda)
+    stays(state, sides_at(all, q % 256), unit_of(q), lambda)
 }
 
 // What the move of a key adds to the number of a state, with 2^20 added.
+#[tactic(auto, unfolding(crate::specs::Moves::change_in))]
 fn change_in(key: u32) -> usize
     ensures { (result ≡ change_in key) × (result < 2 ^ 23) }
 {
@@ -45,6 +39,7 @@ fn change_in(key: u32) -> usize
 
 // The place that a move leads to goes behind the first m entries with its value, where the move is taken, and its pointer behind that place.
 // `wanted` is the number of that place, with 2^20 added.
+#[tactic(auto, using(crate::proofs::Collecting::move_left, crate::proofs::Collecting::move_taken))]
 fn push_move(
     taken: bool,
     words: &[u32],
@@ -64,7 +59,7 @@ fn push_move(
         return m;
     }
     let place = seek(words, n, pointers[k], wanted);
-    pointers[k] = smaller(place + 1, n);
+    pointers[k] = (place + 1).min(n);
     push_entry(row_columns, row_values, m, place as u32, value, true)
 }
 

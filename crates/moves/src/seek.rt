@@ -3,6 +3,7 @@ ghost use Rattle.std.specs.Prelude.{◌≡◌, ◌-◌, ◌^◌, ◌≤◌, ◌<
 ghost use Rattle.moves.specs.Numbers.{sought, lower, number_in};
 
 // The lower 20 bits of a word.
+#[tactic(auto, unfolding(crate::specs::Numbers::lower))]
 pub fn lower(word: u32) -> usize
     ensures { (result ≡ lower word) × (result < 2 ^ 20) }
 {
@@ -14,9 +15,10 @@ pub fn seek(words: &[u32], n: usize, from: usize, wanted: usize) -> usize
     requires { (from ≤ n) × (n ≤ length words.now) }
     ensures { (result ≡ sought (number_in words.now) wanted from (n - from)) × (result ≤ n) }
 {
-    let mut place = from;
-    while place < n && lower(words[place]) + 1048576 < wanted {
-        place += 1;
+    for place in from..n {
+        if wanted <= lower(words[place]) + 1048576 {
+            return place;
+        }
     }
-    place
+    n
 }

@@ -13,8 +13,9 @@ use Rattle.mathematics.specs.Refusals.{first, Outcome, value, refused, outcome}
 use Rattle.mathematics.specs.Calls.{Answered}
 use Rattle.mathematics.proofs.Refusals.{numbered}
 use Rattle.mathematics.proofs.Calls.{Tells, none as last, here, past, past_all}
-use Rattle.answers.specs.declared.Answer.{Answer}
-use Rattle.answers.specs.Answer.{number_answer}
+use Rattle.std.proofs.Common.{Result}
+use Rattle.answers.specs.declared.refusal.Refusal.{Refusal}
+use Rattle.answers.specs.Refusal.{answer_of}
 use Rattle.complex.specs.declared.SimplicialComplex.{SimplicialComplex}
 use Rattle.complex.specs.Complex.{Complex, complex_of}
 use Rattle.complex.specs.Judge.{Accepted}
@@ -87,7 +88,7 @@ module _ (c : Complex) (right : Accepted c) (L : ℕ) (none : first (basis_tests
         let numbers : (leb (length c.triangles) t || leb (length (states c L)) k) ≡ false = rw (lt-leb (length c.triangles) t number, lt-leb (length (states c L)) k state) in
         (past_all (basis_tests c L) refl none (past numbers (past (not_short c L room long) end))).number
 
-    shift_told : (old new : List ℤ) (r : Answer) → Answered (triangle_call c L t k old) (number_answer r) new → length (states c L) * length c.edges ≤ length old → ShiftAnswered c L (states c L) t k r
+    shift_told : (old new : List ℤ) (r : Result ℕ Refusal) → Answered (triangle_call c L t k old) (answer_of r) new → length (states c L) * length c.edges ≤ length old → ShiftAnswered c L (states c L) t k r
     unfolding outcome moved_state triangle_call
     shift_told old new r h long =
         record {
@@ -99,22 +100,22 @@ module _ (c : Complex) (right : Accepted c) (L : ℕ) (none : first (basis_tests
           placed = λ stay. at_place (sides_within c L t (shifted_state c L t k)) refl (λ e. stay (leaves c right L t number (shifted_state c L t k) e));
         }
       where
-        by_band : {n : ℕ} → Tells ((16, not (sides_within c L t (shifted_state c L t k))) ∷ []) n → number_answer r ≡ outcome n (place c L (shifted_state c L t k))
+        by_band : {n : ℕ} → Tells ((16, not (sides_within c L t (shifted_state c L t k))) ∷ []) n → answer_of r ≡ outcome n (place c L (shifted_state c L t k))
         by_band end = h.answer ∙ ap (λ n. outcome n (place c L (shifted_state c L t k))) (decided (length old) long end)
 
-        only : (b : Bool) → sides_within c L t (shifted_state c L t k) ≡ b → number_answer r ≡ refused 16 → b ≡ false
+        only : (b : Bool) → sides_within c L t (shifted_state c L t k) ≡ b → answer_of r ≡ refused 16 → b ≡ false
         only true band e = absurd (value_refused (sym (by_band (past (rw band) last)) ∙ e))
         only false band e = refl
 
-        at_place : (b : Bool) → sides_within c L t (shifted_state c L t k) ≡ b → (b ≡ false → ⊥) → (p : ℕ) × (number_answer r ≡ value p) × (p < length (states c L)) × (get_or (states c L) p [] ≡ shifted_state c L t k)
+        at_place : (b : Bool) → sides_within c L t (shifted_state c L t k) ≡ b → (b ≡ false → ⊥) → (p : ℕ) × (answer_of r ≡ value p) × (p < length (states c L)) × (get_or (states c L) p [] ≡ shifted_state c L t k)
         at_place true band f =
             let end : Tells ((16, not (sides_within c L t (shifted_state c L t k))) ∷ []) 0 = past (rw band) last in
             let there = (h.known (decided (length old) long end)).found in
             (place c L (shifted_state c L t k), by_band end, there.below, there.state)
         at_place false band f = absurd (f refl)
 
-pub shift_demanded : (c : SimplicialComplex) (L t k : ℕ) (old new : List ℤ) (r : Answer) → Answered (triangle_call (complex_of c) L t k old) (number_answer r) new
-    → Answered (triangle_call (complex_of c) L t k old) (number_answer r) new × ShiftDemand (complex_of c) L t k old r
+pub shift_demanded : (c : SimplicialComplex) (L t k : ℕ) (old new : List ℤ) (r : Result ℕ Refusal) → Answered (triangle_call (complex_of c) L t k old) (answer_of r) new
+    → Answered (triangle_call (complex_of c) L t k old) (answer_of r) new × ShiftDemand (complex_of c) L t k old r
 unfolding complex_of
 shift_demanded c L t k old new r h =
     (h, record { zero = λ v. refl; answered = λ can number state long. shift_told (complex_of c) can.accepted L (basis_none c L can) t k number state old new r h long })

@@ -1,5 +1,7 @@
 pub mod TriangleRows
 pub mod TriangleTelling
+pub mod Shifting
+pub mod Weighed
 pub mod Demands
 pub mod Rising
 pub mod Moves

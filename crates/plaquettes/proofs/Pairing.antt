@@ -5,9 +5,12 @@ use mathlib.Core.Bool.{Bool, true, false, false≢true}
 use mathlib.Core.Path.{◌≡◌, refl, sym, ap, ◌∙◌}
 use native.Mathlib.Omega.{arith}
 use native.Mathlib.Decide.{dec_lt, ℕ_discrete}
-use lib.IntN.{ℤ, neg_ℤ, neg_ℤ-neg_ℤ}
+use lib.IntN.{ℤ, pos, neg_ℤ, neg_ℤ-neg_ℤ}
 use lib.ListN.{get_or, length}
+use mir.Syntax.{w32}
+use mir.Val.{to_z, of_z}
 use Rattle.mathematics.specs.Tests.{every_entry}
+use Rattle.mathematics.proofs.Signed.{small_back}
 use Rattle.mathematics.proofs.Tests.{and_true}
 use Rattle.complex.specs.Complex.{Complex}
 use Rattle.complex.specs.Judge.{Accepted}
@@ -42,13 +45,9 @@ stays_told c accepted L t number s sized edges are u =
     let bc = rw ends.numbers at moved.bc in
     rw (is, ends.numbers, ab, ac, bc, and_true _)
 
--- a test that fails from one place to before another, and there
-pub fails_next : (test : ℕ → Bool) (from place : ℕ) → ((k : ℕ) → from ≤ k → k < place → test k ≡ false) → test place ≡ false → (k : ℕ) → from ≤ k → k < place + 1 → test k ≡ false
-fails_next test from place before here k h l = go (ℕ_discrete k place)
-  where
-    go : Dec (k ≡ place) → test k ≡ false
-    go (yes e) = ap test e ∙ here
-    go (no e) = before k h (omega arith)
+-- a value of such a state is read back from its bits
+pub value_back : (s : List ℤ) (edges : List ℕ) → Movable s edges → (e : ℕ) → e < length s → to_z w32 (of_z w32 (get_or s e (pos 0))) ≡ get_or s e (pos 0)
+value_back s edges m e h = small_back (get_or s e (pos 0)) (omega (arith, m.small e h))
 
 -- three edges of a row of small values
 pub row_movable : (list : List ℤ) (s : Sizes) (sides : Sides) → MovableRows list s sides → (k : ℕ) → k < s.states → Movable (row s.edges list k) (three sides)

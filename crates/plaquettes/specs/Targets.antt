@@ -5,6 +5,7 @@ use Rattle.complex.specs.Complex.{Complex}
 use Rattle.complex.specs.Judge.{Accepted}
 use Rattle.gauss_law.specs.Listing.{free_edges, states}
 use Rattle.walker.specs.Steps.{FreeFit}
+use Rattle.enumeration.specs.Enumeration.{basis_first}
 use Rattle.plaquettes.specs.declared.target.Sizes.{Sizes}
 
 -- a list that begins with the basis, its sizes, and the free edges, which order it
@@ -20,3 +21,9 @@ pub record BasisList (c : Complex) (list : List ℤ) (s : Sizes) (free : List �
   pub free_few : s.free ≤ 63
   pub free_fit : FreeFit s.edges s.free free
   pub free_listed : (j : ℕ) → j < s.free → get_or free j 0 ≡ get_or (free_edges c) j 0
+
+-- a list that was made to begin with the basis of a complex within a truncation, and its sizes
+pub record BasisListed (c : Complex) (L : ℕ) (old new : List ℤ) (s : Sizes) (free : List ℕ) : Type 0 where
+  pub basis : BasisList c new s free
+  pub truncated : s.lambda ≡ L
+  pub list : new ≡ basis_first c L old

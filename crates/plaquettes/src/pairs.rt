@@ -1,77 +1,62 @@
 // A triangle's move takes the states that it keeps within the bounds, in order, to those that the move back keeps there, in order. So the
 // target of a state is the next of those, and no state is sought by its values.
-ghost use Rattle.std.specs.Prelude.{◌≡◌, ◌<◌, ◌≤◌, nat_abs, neg_ℤ, ◌+ℤ◌};
+ghost use Rattle.std.specs.Prelude.{◌≡◌, ◌<◌, ◌≤◌, nat_abs, ◌+ℤ◌};
 ghost use Rattle.gauss_law.specs.Gauss.{within};
-ghost use Rattle.hilbert.specs.Search.{row};
-ghost use Rattle.plaquettes.specs.Pairs.{three, stays, Movable, MovableRows, NextStaying, PairFound};
+ghost use Rattle.plaquettes.specs.Pairs.{three, stays, row_stays, Movable, MovableRows, NextStaying, PairFound};
 
+use crate::rows::row_at;
 use crate::target::Sizes;
-use numbers::sum;
 use triangles::Sides;
 use walker::blocks::within;
 
 // Whether a value with 1 or -1 added is within -lambda to lambda.
+#[tactic(auto, unfolding(gauss_law::specs::Gauss::within))]
 fn value_stays(x: i32, by: i32, lambda: usize) -> bool
     requires { (nat_abs x ≤ 1000) × (nat_abs by ≤ 1) × (lambda ≤ 1000) }
     ensures { result ≡ within lambda (x +ℤ by) }
 {
-    within(sum(x, by), lambda)
+    within(x + by, lambda)
 }
 
-// Whether a triangle's move by 1 or -1 keeps its three values there; back is the other of the two.
-pub fn stays(state: &[i32], sides: Sides, by: i32, back: i32, lambda: usize) -> bool
-    requires { Movable state.now (three sides) × (lambda ≤ 1000) × (nat_abs by ≤ 1) × (back ≡ neg_ℤ by) }
+// Whether a triangle's move by 1 or -1 keeps its three values there.
+pub fn stays(state: &[i32], sides: Sides, by: i32, lambda: usize) -> bool
+    requires { Movable state.now (three sides) × (lambda ≤ 1000) × (nat_abs by ≤ 1) }
     ensures { result ≡ stays lambda state.now (three sides) by }
 {
-    let i = sides.first;
-    let j = sides.second;
-    let k = sides.third;
-    value_stays(state[i], by, lambda)
-        & (value_stays(state[j], back, lambda) & value_stays(state[k], by, lambda))
+    value_stays(state[sides.first], by, lambda)
+        & (value_stays(state[sides.second], -by, lambda)
+            & value_stays(state[sides.third], by, lambda))
 }
 
 // Whether it keeps those of the state at a place of the list.
-fn row_stays(list: &[i32], s: Sizes, sides: Sides, by: i32, back: i32, place: usize) -> bool
-    requires { MovableRows list.now s sides × (nat_abs by ≤ 1) × (back ≡ neg_ℤ by) × (place < s.states) }
-    ensures { result ≡ stays s.lambda (row s.edges list.now place) (three sides) by }
+fn row_stays(list: &[i32], s: Sizes, sides: Sides, by: i32, place: usize) -> bool
+    requires { MovableRows list.now s sides × (nat_abs by ≤ 1) × (place < s.states) }
+    ensures { result ≡ row_stays list.now s sides by place }
 {
-    let m = s.edges;
-    let at = place * m;
-    stays(&list[at..at + m], sides, by, back, s.lambda)
+    stays(row_at(list, s.edges, place), sides, by, s.lambda)
 }
 
 // The first state from a place on of which that is so, or the number of states.
-pub fn next_staying(list: &[i32], s: Sizes, sides: Sides, by: i32, back: i32, from: usize) -> usize
-    requires { MovableRows list.now s sides × (nat_abs by ≤ 1) × (back ≡ neg_ℤ by) × (from ≤ s.states) }
+pub fn next_staying(list: &[i32], s: Sizes, sides: Sides, by: i32, from: usize) -> usize
+    requires { MovableRows list.now s sides × (nat_abs by ≤ 1) × (from ≤ s.states) }
     ensures { NextStaying list.now s sides by from result }
 {
-    let n = s.states;
-    let mut place = from;
-    while place < n {
-        if row_stays(list, s, sides, by, back, place) {
+    for place in from..s.states {
+        if row_stays(list, s, sides, by, place) {
             return place;
         }
-        place += 1;
     }
-    place
+    s.states
 }
 
 // Where a triangle's move takes the state at a place, or the number of states. The targets of the states before it are before a given place,
 // and its own is not.
-pub fn find_pair(
-    list: &[i32],
-    s: Sizes,
-    sides: Sides,
-    by: i32,
-    back: i32,
-    place: usize,
-    from: usize,
-) -> usize
-    requires { MovableRows list.now s sides × (nat_abs by ≤ 1) × (back ≡ neg_ℤ by) × (place < s.states) × (from ≤ s.states) }
+pub fn find_pair(list: &[i32], s: Sizes, sides: Sides, by: i32, place: usize, from: usize) -> usize
+    requires { MovableRows list.now s sides × (nat_abs by ≤ 1) × (place < s.states) × (from ≤ s.states) }
     ensures { PairFound list.now s sides by place from result }
 {
-    if !row_stays(list, s, sides, by, back, place) {
+    if !row_stays(list, s, sides, by, place) {
         return s.states;
     }
-    next_staying(list, s, sides, back, by, from)
+    next_staying(list, s, sides, -by, from)
 }

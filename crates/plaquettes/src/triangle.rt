@@ -4,26 +4,25 @@ ghost use Rattle.complex.specs.Complex.{complex_of};
 ghost use Rattle.gauss_law.specs.Shifts.{shifted};
 ghost use Rattle.gauss_law.specs.Gauss.{within};
 ghost use Rattle.mathematics.specs.Calls.{Answered};
-ghost use Rattle.answers.specs.Answer.{number_answer};
+ghost use Rattle.answers.specs.Refusal.{answer_of};
 ghost use Rattle.plaquettes.specs.Triangle.{triangle_call, Shiftable};
 ghost use Rattle.plaquettes.specs.Demand.{ShiftDemand};
 
-use answers::Answer;
+use answers::refusal::Refusal;
 use complex::SimplicialComplex;
 use cursor::tables::state_at;
-use enumeration::prepare_basis;
+use enumeration::basis::Basis;
 use hilbert::index::list_and_find;
-use numbers::sum;
-use runs::count_states;
 use triangles::{Sides, triangle_sides};
 use walker::blocks::within;
 
 // 1 or -1 is added on one edge of a row.
+#[tactic(auto, unfolding(gauss_law::specs::Shifts::shifted, gauss_law::specs::Shifts::raised))]
 fn move_edge(row: &mut [i32; 63], edge: usize, by: i32)
     requires { (length row.old ≡ 63) × (edge < 63) × (nat_abs (get_or row.old edge (pos 0) +ℤ by) ≤ 2 ^ 20) }
     ensures { row.new ≡ shifted row.old edge by }
 {
-    row[edge] = sum(row[edge], by);
+    row[edge] += by;
 }
 
 // 1, -1 and 1 are added on three edges of a row.
@@ -37,14 +36,13 @@ pub fn shift_row(row: &mut [i32; 63], sides: Sides)
 }
 
 // Whether the values on three edges are within -lambda to lambda.
+#[tactic(auto, unfolding(gauss_law::specs::Gauss::within))]
 pub fn three_within(row: &[i32; 63], sides: Sides, lambda: usize) -> bool
     requires { (length row.now ≡ 63) × (lambda ≤ 1000) × (sides.first < 63) × (sides.second < 63) × (sides.third < 63) }
     ensures { result ≡ (within lambda (get_or row.now sides.first (pos 0)) && (within lambda (get_or row.now sides.second (pos 0)) && within lambda (get_or row.now sides.third (pos 0)))) }
 {
-    let i = sides.first;
-    let j = sides.second;
-    let k = sides.third;
-    within(row[i], lambda) & (within(row[j], lambda) & within(row[k], lambda))
+    within(row[sides.first], lambda)
+        & (within(row[sides.second], lambda) & within(row[sides.third], lambda))
 }
 
 // The place of the state that a triangle's shift makes of the state at a place. The basis goes to the beginning of the list. All is
@@ -55,30 +53,24 @@ pub fn apply_triangle_shift(
     triangle: usize,
     state: usize,
     states: &mut [i32],
-) -> Answer
-    ensures answered { Answered (triangle_call (complex_of c) lambda triangle state states.old) (number_answer result) states.new }
+) -> Result<usize, Refusal>
+    ensures answered { Answered (triangle_call (complex_of c) lambda triangle state states.old) (answer_of result) states.new }
     ensures shift_demand { ShiftDemand (complex_of c) lambda triangle state states.old result }
 {
-    let basis = prepare_basis(c, lambda);
-    let number = basis.refusal;
-    if number != 0 {
-        return Answer::Refused(number);
-    }
-    let w = basis.walker;
-    let blocks = basis.blocks;
-    let n = count_states(w, lambda, blocks);
+    let basis = Basis::prepare(c, lambda)?;
+    let n = basis.count();
     if (c.n_triangles <= triangle) | (n <= state) {
-        return Answer::Refused(13);
+        return Err(Refusal::OutOfRange);
     }
     let m = c.n_edges;
     if states.len() < n * m {
-        return Answer::Refused(15);
+        return Err(Refusal::NoRoom);
     }
     let sides = triangle_sides(c, triangle);
-    let mut row = state_at(w, lambda, blocks, state);
+    let mut row = state_at(basis.walker, lambda, basis.blocks, state);
     shift_row(&mut row, sides);
     if !three_within(&row, sides, lambda) {
-        return Answer::Refused(16);
+        return Err(Refusal::OutOfBand);
     }
-    Answer::Number(list_and_find(w, lambda, blocks, &row[0..m], states))
+    Ok(list_and_find(basis.walker, lambda, basis.blocks, &row[..m], states))
 }

@@ -1,3 +1,4 @@
 pub mod Places
 pub mod Entries
 pub mod Small
+pub mod LentWeights

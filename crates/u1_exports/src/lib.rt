@@ -1,7 +1,7 @@
 // What the exported functions of U(1) do.
 #![tactic(auto)]
 
-ghost use Rattle.std.specs.Prelude.{◌≡◌};
+ghost use Rattle.std.specs.Prelude.{◌≡◌, true};
 ghost use Rattle.mathematics.specs.Calls.{none_lent};
 ghost use Rattle.answers.specs.Refusal.{answer_of};
 ghost use Rattle.law_check.specs.Law.{law_call};
@@ -9,6 +9,7 @@ ghost use Rattle.enumeration.specs.Enumeration.{enumerated_call, counted_call};
 ghost use Rattle.hilbert.specs.Index.{index_call};
 ghost use Rattle.shifts.specs.Shift.{shift_call};
 ghost use Rattle.matrices.specs.Coupling.{coupling_call, u1_params};
+ghost use Rattle.matrices.specs.Weights.{is_given, given_list};
 ghost use Rattle.plaquettes.specs.Triangle.{triangle_call};
 ghost use Rattle.hamiltonian.specs.Dense.{u1_dense_call};
 ghost use Rattle.csr.specs.Csr.{csr_call};
@@ -26,6 +27,7 @@ use enumeration::count::count_states;
 use enumeration::enumerate_gauge_invariant;
 use exports::{
     Told, open, refused, signed, signed_refusal, signed_result, store, store_value, told_number,
+    told_result,
 };
 use hamiltonian::dense::build_hamiltonian;
 use hilbert::index::config_to_index;
@@ -51,6 +53,13 @@ fn told_law(answer: Result<bool, Refusal>) -> Told
             value: 0,
         },
     }
+}
+
+// The weights, where they are given.
+fn lent(given: bool, weights: &[f64]) -> Option<&[f64]>
+    ensures { (is_given result ≡ given) × (given ≡ true → given_list result ≡ weights.now) }
+{
+    if given { Some(weights) } else { None }
 }
 
 // Whether a configuration obeys Gauss's law on a sheet's complex: 1 or 0.
@@ -137,7 +146,7 @@ pub fn export_apply_triangle_shift(
         state as usize,
         states,
     );
-    signed(told_number(answer))
+    signed(told_result(answer))
 }
 
 // g² and the factors of U(1): 0.
@@ -166,13 +175,14 @@ pub fn export_build_hamiltonian(
         return refused(number);
     }
     let s = opened.sheet;
+    let own = lent(given, weights);
     let p = KSParams {
         g_squared: g_squared,
         electric: electric,
         magnetic: magnetic,
     };
-    let answer = build_hamiltonian(s.complex, s.lambda, p, given, weights, states, res);
-    signed(told_number(answer))
+    let answer = build_hamiltonian(s.complex, s.lambda, p, own, states, res);
+    signed(told_result(answer))
 }
 
 // The matrix of a sheet as row lists: the number of its entries.
@@ -196,15 +206,14 @@ pub fn export_build_csr(
         return refused(number);
     }
     let s = opened.sheet;
+    let own = lent(given, weights);
     let p = KSParams {
         g_squared: g_squared,
         electric: electric,
         magnetic: magnetic,
     };
-    let answer = build_csr(
-        s.complex, s.lambda, p, given, weights, states, starts, columns, values,
-    );
-    signed(told_number(answer))
+    let answer = build_csr(s.complex, s.lambda, p, own, states, starts, columns, values);
+    signed(told_result(answer))
 }
 
 // How many states a sheet has.
@@ -230,7 +239,7 @@ pub fn export_count_entries(sheet: &[u8]) -> i64
         return refused(number);
     }
     let s = opened.sheet;
-    signed(told_number(count_entries(s.complex, s.lambda)))
+    signed(told_result(count_entries(s.complex, s.lambda)))
 }
 
 // The product of a sheet's Hamiltonian with a vector: the number of its states.
@@ -253,13 +262,14 @@ pub fn export_hamiltonian_matvec(
         return refused(number);
     }
     let s = opened.sheet;
+    let own = lent(given, weights);
     let p = KSParams {
         g_squared: g_squared,
         electric: electric,
         magnetic: magnetic,
     };
-    let answer = hamiltonian_matvec(s.complex, s.lambda, p, given, weights, vector, states, res);
-    signed(told_number(answer))
+    let answer = hamiltonian_matvec(s.complex, s.lambda, p, own, vector, states, res);
+    signed(told_result(answer))
 }
 
 // The square of the electric field on each edge of a sheet, expected in a state: the number of edges.

@@ -1,0 +1,23 @@
+use Rattle.std.proofs.Common.{◌≡◌, neg_ℤ, to_z, of_z, w32, arith}
+use lib.IntN.{+ℤ_idl}
+use Rattle.mathematics.proofs.Signed.{small_back, size_neg}
+use Rattle.plaquettes.specs.Pairs.{stays}
+use Rattle.plaquettes.proofs.Pairing.{value_back}
+use Rattle.plaquettes.proofs.pairs.stays.Goals as goal
+
+pub returns : goal.returns
+unfolding stays
+returns c =
+    let m = c.requires.0 in
+    let unit : to_z w32 (of_z w32 c.args.by) ≡ c.args.by = small_back _ (omega (arith, c.requires.2)) in
+    rw (
+      c.value_stays.ensures,
+      c.value_stays-2.ensures,
+      c.value_stays-3.ensures,
+      unit,
+      +ℤ_idl (neg_ℤ c.args.by),
+      small_back (neg_ℤ c.args.by) (omega (arith, size_neg c.args.by, c.requires.2)),
+      value_back c.args.state.now _ m c.args.sides.first m.first_below,
+      value_back c.args.state.now _ m c.args.sides.second m.second_below,
+      value_back c.args.state.now _ m c.args.sides.third m.third_below,
+    )
