@@ -4,13 +4,12 @@ use mathlib.Core.List.{List, [], ◌∷◌, ◌++◌}
 use mathlib.Core.Bool.{Bool, true, false, cond, false≢true}
 use mathlib.Core.Path.{◌≡◌, refl, sym, ap, ◌∙◌}
 use native.Mathlib.Omega.{arith}
-use native.Mathlib.Numerals.{add-one}
 use native.Mathlib.Decide.{dec_lt}
 use lib.Dec.{eqb, leb, ltb}
 use lib.IntN.{ℤ, pos, nat_abs, ◌+ℤ◌, ◌*ℤ◌, *ℤ-zero, +ℤ_idr}
-use lib.ListN.{get_or, length, take, set, length-set, length-map, get_or-eq_default}
-use lib.Seq.{get_or-take, length-take-le, take-suc-set}
-use borrow.Author.Tests.{eq-eqb, eqb-true, leb-true, leb-false, ltb-true, le-leb, lt-ltb}
+use lib.ListN.{get_or, length, take, length-map, length-append, get_or-eq_default}
+use lib.Seq.{get_or-take, length-take-le, take_all}
+use borrow.Author.Tests.{eq-eqb, ne_eqb, eqb-true, leb-true, leb-false, ltb-true, le-leb, lt-ltb}
 use Rattle.mathematics.specs.Integers.{equal}
 use Rattle.mathematics.specs.Counting.{below, keep}
 use Rattle.mathematics.proofs.Integers.{equal_true}
@@ -22,31 +21,39 @@ use Rattle.walker.specs.declared.blocks.Span.{Span}
 use Rattle.walker.specs.Steps.{Small}
 use Rattle.walker.specs.Blocks.{SpanTo, SpanOfBlock}
 use Rattle.runs.specs.Edges.{kind, of_kind, Edges, Listed, Judged, picked}
+use mir.Syntax.{w8}
+use mir.Val.{of_z}
+use Rattle.mathematics.proofs.Signed.{zero8, size_fits}
 use Rattle.walker.proofs.Candidates.{within}
 use Rattle.walker.proofs.Interval.{moves, inside_span, span_inside, within_entries, entries_within, rows_by_tests}
 use Rattle.walker.proofs.Narrowing.{span_bound}
 
 -- ---- the lists are made edge by edge
-pub none_edges : (z y : List ℤ) (k : ℕ) (list : List ℕ) → length list ≡ 63 → Edges z y k 0 list 0
+pub none_edges : (z y : List ℤ) (k : ℕ) (list : List ℕ) (count : ℕ) → count ≡ 0 → Edges z y k 0 (take count list) (length (take count list))
 unfolding below keep
-none_edges z y k list long = record { long = long; few = omega arith; stands = refl }
+none_edges z y k list count none = rw none (record { room = omega arith; few = omega arith; stands = refl })
 
-module _ (z y : List ℤ) (k e : ℕ) (list : List ℕ) (count : ℕ) (h : Edges z y k e list count) where
-  pub edges_same : of_kind z y k e ≡ false → Edges z y k (e + 1) list count
-  edges_same t =
-      let few = h.few in
-      record { long = h.long; few = omega arith; stands = h.stands ∙ sym (keep_skip (of_kind z y k) e t) }
+module _ (z y : List ℤ) (k e : ℕ) (l : List ℕ) (h : Edges z y k e l (length l)) where
+  pub edges_same : (same : List ℕ) → same ≡ l → of_kind z y k e ≡ false → Edges z y k (e + 1) same (length same)
+  edges_same same is t = let few = h.few in rw is (record { room = h.room; few = omega arith; stands = h.stands ∙ sym (keep_skip (of_kind z y k) e t) })
 
-  pub edges_more : e < 63 → of_kind z y k e ≡ true → Edges z y k (e + 1) (set list count e) (count + 1)
-  edges_more inside t =
+  pub edges_more : (more : List ℕ) → more ≡ l ++ (e ∷ []) → of_kind z y k e ≡ true → Edges z y k (e + 1) more (length more)
+  edges_more more is t =
       let few = h.few in
-      let long = h.long in
-      let room : count < length list = omega arith in
-      record {
-        long = length-set list count e ∙ h.long;
-        few = omega arith;
-        stands = rw (add-one count) (take-suc-set list count e room) ∙ ap (λ l. l ++ (e ∷ [])) h.stands ∙ sym (keep_next (of_kind z y k) e t);
-      }
+      rw is
+      (record {
+        room = omega arith;
+        few = omega (arith, length-append l (e ∷ []));
+        stands = take_all (length (l ++ (e ∷ []))) (l ++ (e ∷ [])) (omega arith) ∙ ap (λ l. l ++ (e ∷ [])) (sym (take_all (length l) l (omega arith)) ∙ h.stands) ∙ sym (keep_next (of_kind z y k) e t);
+      })
+
+-- the test of a sign in the machine
+module _ (x : ℤ) (sign : nat_abs x ≤ 1) where
+  pub sign_zero : of_z w8 x ≡ 0 → equal x (pos 0) ≡ true
+  sign_zero h = sym (zero8 x (size_fits w8 x (omega arith)).sfits) ∙ eq-eqb (of_z w8 x) 0 h
+
+  pub sign_some : (of_z w8 x ≡ 0 → ⊥) → equal x (pos 0) ≡ false
+  sign_some h = sym (zero8 x (size_fits w8 x (omega arith)).sfits) ∙ ne_eqb (of_z w8 x) 0 h
 
 -- ---- what stands in them
 module _ (z y : List ℤ) (k m : ℕ) (small : m ≤ 63) (list : List ℕ) (count : ℕ) (h : Edges z y k m list count) where
@@ -55,7 +62,7 @@ module _ (z y : List ℤ) (k m : ℕ) (small : m ≤ 63) (list : List ℕ) (coun
 
   kept_long : length kept ≡ count
   unfolding kept
-  kept_long = sym (ap length h.stands) ∙ length-take-le count list (omega (arith, h.few, h.long))
+  kept_long = sym (ap length h.stands) ∙ length-take-le count list h.room
 
   kept_at : (q : ℕ) → q < count → get_or list q 0 ≡ get_or kept q 0
   unfolding kept
@@ -76,7 +83,7 @@ module _ (z y : List ℤ) (k m : ℕ) (small : m ≤ 63) (list : List ℕ) (coun
       (r.0, omega (arith, r.1, kept_long), kept_at r.0 (omega (arith, r.1, kept_long)) ∙ r.2)
 
   pub edges_listed : Listed m list count
-  edges_listed = record { long = h.long; few = omega (arith, h.few); inside = edge_inside }
+  edges_listed = record { room = h.room; inside = edge_inside }
 
 -- ---- the values on listed edges
 module _ (list : List ℕ) (count : ℕ) (s : List ℤ) (room : count ≤ length list) where
@@ -119,6 +126,19 @@ module _ (z y : List ℤ) (e : ℕ) where
   unfolding kind of_kind
   kind_moved t = rw t (eq-eqb 2 2 refl)
 
+  -- an edge is of one kind alone
+  pub only_moved : equal (get_or z e (pos 0)) (pos 0) ≡ false → (of_kind z y 0 e ≡ false) × (of_kind z y 1 e ≡ false) × (of_kind z y 2 e ≡ true)
+  unfolding kind of_kind
+  only_moved t = rw t (ne_eqb 2 0 (λ h. omega arith), ne_eqb 2 1 (λ h. omega arith), eq-eqb 2 2 refl)
+
+  pub only_side : equal (get_or z e (pos 0)) (pos 0) ≡ true → equal (get_or y e (pos 0)) (pos 0) ≡ false → (of_kind z y 0 e ≡ false) × (of_kind z y 1 e ≡ true) × (of_kind z y 2 e ≡ false)
+  unfolding kind of_kind
+  only_side t u = rw (t, u) (ne_eqb 1 0 (λ h. omega arith), eq-eqb 1 1 refl, ne_eqb 1 2 (λ h. omega arith))
+
+  pub only_still : equal (get_or z e (pos 0)) (pos 0) ≡ true → equal (get_or y e (pos 0)) (pos 0) ≡ true → (of_kind z y 0 e ≡ true) × (of_kind z y 1 e ≡ false) × (of_kind z y 2 e ≡ false)
+  unfolding kind of_kind
+  only_still t u = rw (t, u) (eq-eqb 0 0 refl, ne_eqb 0 1 (λ h. omega arith), ne_eqb 0 2 (λ h. omega arith))
+
   kind_cases : (b d : Bool) (k : ℕ) → k < 2 → eqb (cond b (cond d 0 1) 2) k ≡ true → b ≡ true
   kind_cases true d k h t = refl
   kind_cases false d k h t = absurd (omega (arith, eqb-true 2 k t))
@@ -142,7 +162,7 @@ sign_none x t y h = rw (equal_true y (pos 0) h, *ℤ-zero t) (+ℤ_idr x)
 -- ---- the block: the edges that its cycle does not move are within the bounds, and those that it moves narrow it
 module _ (L n : ℕ) (s z y : List ℤ) (signs : Small 1 z) (long : length z ≡ length s) (few : length s ≤ 63) (moved : List ℕ) (b : ℕ) (goes : Edges z y 2 (length s) moved b) where
   room : b ≤ length moved
-  room = omega (arith, goes.few, goes.long)
+  room = goes.room
 
   pub lists_span : ((e : ℕ) → e < length s → equal (get_or z e (pos 0)) (pos 0) ≡ true → nat_abs (get_or s e (pos 0)) ≤ L) → (r : Span) → SpanTo L n (picked moved b s) (picked moved b z) b r → SpanOfBlock L n s z r
   lists_span inside r h =

@@ -3,6 +3,8 @@ pub mod Raising
 pub mod Between
 pub mod Sides
 pub mod RunRows
+pub mod RunRoom
 pub mod Walked
 pub mod Turns
+pub mod OneRun
 pub mod Written

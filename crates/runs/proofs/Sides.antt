@@ -29,7 +29,7 @@ use Rattle.runs.proofs.EdgeLists.{edge_inside, edge_kind, edge_found, picked_at,
 -- ---- the span of a run, by lists of edges
 module _ (L : ℕ) (s y : List ℤ) (signs : Small 1 y) (still side : List ℕ) (a b k : ℕ) (listed : Listed (length s) side b) where
   room : b ≤ length side
-  room = omega (arith, listed.long, listed.few)
+  room = listed.room
 
   pub side_span : ((q : ℕ) → q < a → nat_abs (get_or s (get_or still q 0) (pos 0)) ≤ L) → (r : Span) → SpanTo L k (picked side b (with_cycle s (pos 0) y)) (picked side b y) b r → SideSpan L s y still a side b k r
   side_span stays r h =

@@ -10,7 +10,7 @@ use Rattle.cycles.specs.Cycles.{row}
 use Rattle.walker.specs.declared.blocks.Span.{Span}
 use Rattle.walker.specs.Walker.{stepped, width, walked_states}
 use Rattle.walker.specs.Steps.{Small, CyclesFit, FreeFit, Walkable, Runs}
-use Rattle.walker.proofs.Stepping.{cycle_long}
+use Rattle.walker.proofs.Stepping.{cycle_long, cycle_signs}
 use Rattle.runs.specs.Edges.{Edges, Listed}
 use Rattle.runs.specs.Runs.{run_states, RunFit, SideSpan, Inside}
 use Rattle.runs.proofs.EdgeLists.{edges_listed}
@@ -31,6 +31,11 @@ module _ (free : List ℕ) (cycles : List ℤ) (L n : ℕ) (s : List ℤ) (k : �
       let one = ap length first_part ∙ long 0 (omega arith) in
       let two = ap length second_part ∙ long 1 (omega arith) in
       (omega (arith, one, fit.cycles_fit.edges_few), two ∙ sym one)
+
+  pub parts_signs : Small 1 (take (length s - 0) cycles) × Small 1 (take (63 + length s - 63) (drop 63 cycles))
+  parts_signs =
+      let signs = cycle_signs (length s) n L cycles fit.cycles_fit in
+      (rw first_part (signs 0 (omega arith)), rw second_part (signs 1 (omega arith)))
 
   -- their edges of one kind
   pub edges_here : {kind : ℕ} {list : List ℕ} {count : ℕ} → Edges (take (length s - 0) cycles) (take (63 + length s - 63) (drop 63 cycles)) kind (length (take (length s - 0) cycles)) list count

@@ -3,6 +3,7 @@ use Prim.Native.Nat.{ℕ, ◌+◌, ◌*◌, ◌≤◌}
 use mathlib.Core.List.{List, ◌++◌, flatten}
 use mathlib.Core.Path.{◌≡◌, sym, ap, ◌∙◌}
 use native.Mathlib.Omega.{arith}
+use native.Mathlib.Nat.{mul-le-mul_right, add-mul}
 use lib.IntN.{ℤ}
 use lib.ListN.{length, take, drop, length-append, length-drop}
 use lib.Seq.{take-add, take_at, drop_at, drop-drop}
@@ -35,3 +36,11 @@ module _ (all : List (List ℤ)) (m number : ℕ) (rows rest : List (List ℤ)) 
 pub written_none : (all : List (List ℤ)) (number m : ℕ) (old : List ℤ) → number ≡ 0 → (length (flatten (take number all)) ≡ number * m) × (old ≡ put old 0 (flatten (take number all)))
 unfolding flatten
 written_none all number m old h = (rw h (omega arith), rw h (sym (put_none old 0)))
+
+-- ---- some more of all states, and the room for their rows
+module _ (all : List (List ℤ)) (number : ℕ) (rows : List (List ℤ)) where
+  pub states_among : (rest : List (List ℤ)) → number ≤ length all → drop number all ≡ rows ++ rest → number + length rows ≤ length all
+  states_among rest h both = omega (arith, ap length both, length-append rows rest, length-drop number all)
+
+  pub rows_room : (m room : ℕ) → number + length rows ≤ length all → length all * m ≤ room → number * m + length rows * m ≤ room
+  rows_room m room among enough = omega (arith, enough, mul-le-mul_right m among, add-mul number (length rows) m)

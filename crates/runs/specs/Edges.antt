@@ -13,14 +13,13 @@ of_kind first second k e = eqb (kind (get_or first e (pos 0)) (get_or second e (
 
 -- the edges of one kind among the first m
 pub record Edges (first second : List ℤ) (k m : ℕ) (list : List ℕ) (count : ℕ) : Type 0 where
-  pub long : length list ≡ 63
+  pub room : count ≤ length list
   pub few : count ≤ m
   pub stands : take count list ≡ keep (of_kind first second k) (below m)
 
 -- a list that begins with numbers below m
 pub record Listed (m : ℕ) (list : List ℕ) (count : ℕ) : Type 0 where
-  pub long : length list ≡ 63
-  pub few : count ≤ 63
+  pub room : count ≤ length list
   pub inside : (q : ℕ) → q < count → get_or list q 0 < m
 
 -- whether the values on listed edges are within -L to L

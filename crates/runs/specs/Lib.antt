@@ -1,3 +1,4 @@
 pub mod Edges
+pub mod Kinds
 pub mod Rows
 pub mod Runs

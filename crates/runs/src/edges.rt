@@ -4,70 +4,50 @@ ghost use Rattle.std.specs.Prelude.{◌≡◌, ◌+◌, ◌^◌, ◌<◌, ◌≤
 ghost use Rattle.cycles.specs.Cycles.{with_cycle};
 ghost use Rattle.walker.specs.Steps.{Small, Addable};
 ghost use Rattle.walker.specs.Blocks.{SpanTo};
-ghost use Rattle.runs.specs.Edges.{kind, Edges, Listed, Judged, picked};
+ghost use Rattle.runs.specs.Edges.{Listed, Judged, picked};
+ghost use Rattle.runs.specs.Kinds.{KindsOf};
 
-use numbers::byte;
-use numbers::sizes::MOST_EDGES;
-use walker::blocks::{Span, is_zero, narrow, within};
+use numbers::edge_list::EdgeList;
+use walker::blocks::{Span, within};
 use walker::steps::plus_times;
 
-// The first count entries are numbers of edges.
+// The edges that neither cycle moves, those that the second alone moves, and those that the first moves.
 #[derive(Clone, Copy)]
-pub struct EdgeList {
-    pub list: [u8; MOST_EDGES],
-    pub count: usize,
+pub struct Kinds {
+    pub still: EdgeList,
+    pub side: EdgeList,
+    pub moved: EdgeList,
 }
 
-// Which of two signs is not 0: 0 for none, 1 for the second alone, 2 for the first.
-fn kind(first: i8, second: i8) -> usize
-    ensures { result ≡ kind first second }
-{
-    if is_zero(first) {
-        if is_zero(second) {
-            return 0;
+impl Kinds {
+    // The edges of each kind, by the signs of the first two cycles.
+    pub fn of(first: &[i8], second: &[i8]) -> Kinds
+        requires { (length first.now ≤ 63) × (length second.now ≡ length first.now) × Small 1 first.now × Small 1 second.now }
+        ensures { KindsOf first.now second.now (length first.now) result }
+    {
+        let mut still = EdgeList::new();
+        let mut side = EdgeList::new();
+        let mut moved = EdgeList::new();
+        for (e, sign) in first.iter().enumerate() {
+            if *sign != 0 {
+                moved.push(e as u8);
+            } else if second[e] != 0 {
+                side.push(e as u8);
+            } else {
+                still.push(e as u8);
+            }
         }
-        return 1;
+        Kinds { still, side, moved }
     }
-    2
-}
-
-// Edge e goes last where it is of the kind.
-fn note_edge(first: &[i8], second: &[i8], edges: EdgeList, e: usize, k: usize) -> EdgeList
-    requires { (e < 63) × (e < length first.now) × (length second.now ≡ length first.now) × Edges first.now second.now k e edges.list edges.count }
-    ensures { Edges first.now second.now k (e + 1) result.list result.count }
-{
-    if kind(first[e], second[e]) == k {
-        let at = edges.count;
-        let mut more = edges;
-        more.list[at] = e as u8;
-        more.count = at + 1;
-        return more;
-    }
-    edges
-}
-
-// The edges of one kind.
-pub fn edges_of(first: &[i8], second: &[i8], k: usize) -> EdgeList
-    requires { (length first.now ≤ 63) × (length second.now ≡ length first.now) }
-    ensures { Edges first.now second.now k (length first.now) result.list result.count }
-{
-    let mut edges = EdgeList {
-        list: [0; MOST_EDGES],
-        count: 0,
-    };
-    for e in 0..first.len() {
-        edges = note_edge(first, second, edges, e, k);
-    }
-    edges
 }
 
 // Whether the values on listed edges are within the bounds.
-pub fn all_within(config: &[i32], list: &[u8; MOST_EDGES], count: usize, lambda: usize) -> bool
-    requires { Listed (length config.now) list.now count × (lambda ≤ 1000) }
-    ensures { Judged lambda config.now list.now count result }
+pub fn all_within(config: &[i32], list: &[u8], lambda: usize) -> bool
+    requires { Listed (length config.now) list.now (length list.now) × (lambda ≤ 1000) }
+    ensures { Judged lambda config.now list.now (length list.now) result }
 {
-    for q in 0..count {
-        if !within(config[byte(list[q])], lambda) {
+    for e in list {
+        if !within(config[usize::from(*e)], lambda) {
             return false;
         }
     }
@@ -81,19 +61,18 @@ pub fn span_over(
     other: &[i8],
     times: i32,
     cycle: &[i8],
-    list: &[u8; MOST_EDGES],
-    count: usize,
+    list: &[u8],
     lambda: usize,
     width: usize,
 ) -> Span
-    requires { Listed (length config.now) list.now count × (length cycle.now ≡ length config.now) × Addable config.now times other.now × Small (2 ^ 20) (with_cycle config.now times other.now) × Small 1 cycle.now × (lambda ≤ 1000) }
-    ensures { SpanTo lambda width (picked list.now count (with_cycle config.now times other.now)) (picked list.now count cycle.now) count result }
+    requires { Listed (length config.now) list.now (length list.now) × (length cycle.now ≡ length config.now) × Addable config.now times other.now × Small (2 ^ 20) (with_cycle config.now times other.now) × Small 1 cycle.now × (lambda ≤ 1000) }
+    ensures { SpanTo lambda width (picked list.now (length list.now) (with_cycle config.now times other.now)) (picked list.now (length list.now) cycle.now) (length list.now) result }
 {
     let mut span = Span { from: 0, to: width };
-    for q in 0..count {
-        let e = byte(list[q]);
+    for edge in list {
+        let e = usize::from(*edge);
         let x = plus_times(config[e], times, other[e]);
-        span = narrow(span, x, cycle[e], lambda, width);
+        span = span.narrow(x, cycle[e], lambda, width);
     }
     span
 }

@@ -8,8 +8,8 @@ ghost use Rattle.runs.specs.Rows.{Beside, Raisable, RowsBefore, raised, repeated
 ghost use Rattle.mathematics.specs.Writing.{put};
 
 use numbers::sizes::MOST_EDGES;
-use numbers::{larger, smaller};
-use walker::blocks::{Span, write_row};
+use walker::blocks::Span;
+use walker::row::fill_row;
 
 // The most entries that are raised at once.
 pub const BESIDE_ENTRIES: usize = 256;
@@ -26,7 +26,15 @@ pub fn rows_at_once(n_edges: usize, candidates: usize) -> usize
     if (16 < n_edges) & (64 < candidates) {
         return 0;
     }
-    smaller(candidates, BESIDE_ENTRIES / n_edges)
+    candidates.min(BESIDE_ENTRIES / n_edges)
+}
+
+// An assignment with a cycle added a number of times goes to a place of the list.
+fn write_row(states: &mut [i32], at: usize, config: &[i32], cycle: &[i8], times: usize)
+    requires { Addable config.now (pos 0) cycle.now × (times < 2 ^ 20) × (at + length config.now ≤ length states.old) }
+    ensures { states.new ≡ put states.old at (with_cycle config.now (pos times) cycle.now) }
+{
+    fill_row(&mut states[at..at + config.len()], config, cycle, times);
 }
 
 // A cycle as numbers, once for each of some rows: what is added to them.
@@ -37,12 +45,8 @@ pub fn rows_beside(cycle: &[i8], rows: usize) -> [i32; BESIDE_ENTRIES]
     let m = cycle.len();
     let zeros = [0i32; MOST_EDGES];
     let mut beside = [0i32; BESIDE_ENTRIES];
-    let mut i = 0;
-    let mut place = 0;
-    while i < rows {
-        write_row(&mut beside, place, &zeros[0..m], cycle, 1);
-        place += m;
-        i += 1;
+    for i in 0..rows {
+        write_row(&mut beside, i * m, &zeros[0..m], cycle, 1);
     }
     beside
 }
@@ -82,7 +86,7 @@ fn raise_rows(
     let mut place = at;
     let mut left = number;
     while 0 < left {
-        let more = smaller(rows, left);
+        let more = rows.min(left);
         raise(states, place, back, &beside[0..more * m]);
         place += more * m;
         left -= more;
@@ -102,19 +106,15 @@ pub fn write_rows(
     requires { Addable config.now (pos 0) cycle.now × (span.to ≤ 2 ^ 20) × (at + (span.to - span.from) * length config.now ≤ length states.old) × (ahead.now ≡ cycle.now) }
     ensures { states.new ≡ put states.old at (flatten (block_rows config.now cycle.now span.from span.to)) }
 {
-    let from = span.from;
-    let to = span.to;
-    if to <= from {
+    if span.is_empty() {
         return;
     }
     let m = config.len();
-    write_row(states, at, config, cycle, from);
-    let mut place = at + m;
-    let mut d = from + 1;
-    while d < to {
-        raise(states, place, m, ahead);
+    write_row(states, at, config, cycle, span.from);
+    let mut place = at;
+    for _ in span.from + 1..span.to {
         place += m;
-        d += 1;
+        raise(states, place, m, ahead);
     }
 }
 
@@ -138,8 +138,8 @@ pub fn write_beside(
     let from = span.from;
     let to = span.to;
     let end = last.to;
-    let low = larger(from, last.from);
-    let high = smaller(to, end);
+    let low = from.max(last.from);
+    let high = to.min(end);
     if high <= low {
         write_rows(states, at, config, first, span, ahead);
         return;

@@ -4,14 +4,14 @@ ghost use Rattle.walker.specs.Walker.{width};
 ghost use Rattle.walker.specs.Steps.{Small};
 ghost use Rattle.walker.specs.Blocks.{WrittenAt};
 ghost use Rattle.runs.specs.Edges.{Edges, Listed};
+ghost use Rattle.runs.specs.Kinds.{listed};
 ghost use Rattle.runs.specs.Rows.{Beside};
 ghost use Rattle.runs.specs.Runs.{run_states, RunFit, SideSpan, Inside};
 
-use crate::edges::{all_within, span_over};
+use crate::edges::{Kinds, all_within, span_over};
 use crate::rows::write_beside;
-use numbers::sizes::MOST_EDGES;
 use numbers::usize_to_i32;
-use walker::blocks::{Span, size};
+use walker::blocks::Span;
 use walker::row::fill_row;
 use walker::steps::add;
 
@@ -25,21 +25,20 @@ pub fn run_width(n_free: usize, lambda: usize) -> usize
 
 // Of so many blocks of a run those that stay within the bounds on the listed edges: the edges that neither of the first two cycles moves, and
 // those that the second alone moves.
-pub fn run_span(
-    config: &[i32],
-    second: &[i8],
-    still: &[u8; MOST_EDGES],
-    n_still: usize,
-    side: &[u8; MOST_EDGES],
-    n_side: usize,
-    lambda: usize,
-    run: usize,
-) -> Span
-    requires { Listed (length config.now) still.now n_still × Listed (length config.now) side.now n_side × (length second.now ≡ length config.now) × Small (2 ^ 20) config.now × Small 1 second.now × (lambda ≤ 1000) }
-    ensures { SideSpan lambda config.now second.now still.now n_still side.now n_side run result }
+pub fn run_span(config: &[i32], second: &[i8], kinds: &Kinds, lambda: usize, run: usize) -> Span
+    requires { Listed (length config.now) (listed kinds.now.still) (length (listed kinds.now.still)) × Listed (length config.now) (listed kinds.now.side) (length (listed kinds.now.side)) × (length second.now ≡ length config.now) × Small (2 ^ 20) config.now × Small 1 second.now × (lambda ≤ 1000) }
+    ensures { SideSpan lambda config.now second.now (listed kinds.now.still) (length (listed kinds.now.still)) (listed kinds.now.side) (length (listed kinds.now.side)) run result }
 {
-    if all_within(config, still, n_still, lambda) {
-        return span_over(config, second, 0, second, side, n_side, lambda, run);
+    if all_within(config, kinds.still.as_slice(), lambda) {
+        return span_over(
+            config,
+            second,
+            0,
+            second,
+            kinds.side.as_slice(),
+            lambda,
+            run,
+        );
     }
     Span { from: run, to: run }
 }
@@ -49,22 +48,18 @@ pub fn count_run(
     config: &[i32],
     first: &[i8],
     second: &[i8],
-    moved: &[u8; MOST_EDGES],
-    n_moved: usize,
+    moved: &[u8],
     lambda: usize,
     width: usize,
     span: Span,
 ) -> usize
-    requires { RunFit lambda width config.now first.now second.now span.to × Inside lambda config.now first.now second.now span × Edges first.now second.now 2 (length config.now) moved.now n_moved }
+    requires { RunFit lambda width config.now first.now second.now span.to × Inside lambda config.now first.now second.now span × Edges first.now second.now 2 (length config.now) moved.now (length moved.now) }
     ensures { result ≡ length (run_states lambda width config.now first.now second.now span.from span.to) }
 {
     let mut count = 0;
-    let mut i = span.from;
-    while i < span.to {
+    for i in span.from..span.to {
         let times = usize_to_i32(i);
-        let block = span_over(config, second, times, first, moved, n_moved, lambda, width);
-        count += size(block);
-        i += 1;
+        count += span_over(config, second, times, first, moved, lambda, width).size();
     }
     count
 }
@@ -78,8 +73,7 @@ pub fn write_run(
     config: &[i32],
     first: &[i8],
     second: &[i8],
-    moved: &[u8; MOST_EDGES],
-    n_moved: usize,
+    moved: &[u8],
     lambda: usize,
     width: usize,
     span: Span,
@@ -87,21 +81,18 @@ pub fn write_run(
     beside: &[i32],
     rows: usize,
 ) -> usize
-    requires { (length row.old ≡ length config.now) × RunFit lambda width config.now first.now second.now span.to × Inside lambda config.now first.now second.now span × Edges first.now second.now 2 (length config.now) moved.now n_moved × Beside second.now rows beside.now × (ahead.now ≡ first.now) × (rows * length config.now ≤ 256) × (at + length (run_states lambda width config.now first.now second.now span.from span.to) * length config.now ≤ length states.old) }
+    requires { (length row.old ≡ length config.now) × RunFit lambda width config.now first.now second.now span.to × Inside lambda config.now first.now second.now span × Edges first.now second.now 2 (length config.now) moved.now (length moved.now) × Beside second.now rows beside.now × (ahead.now ≡ first.now) × (rows * length config.now ≤ 256) × (at + length (run_states lambda width config.now first.now second.now span.from span.to) * length config.now ≤ length states.old) }
     ensures { WrittenAt (run_states lambda width config.now first.now second.now span.from span.to) states.old states.new at result }
 {
-    let from = span.from;
-    let to = span.to;
-    if to <= from {
+    if span.is_empty() {
         return 0;
     }
     let m = config.len();
-    fill_row(row, config, second, from);
+    fill_row(row, config, second, span.from);
     let mut count = 0;
     let mut last = Span { from: 0, to: 0 };
-    let mut i = from;
-    while i < to {
-        let block = span_over(row, second, 0, first, moved, n_moved, lambda, width);
+    for i in span.from..span.to {
+        let block = span_over(row, second, 0, first, moved, lambda, width);
         write_beside(
             states,
             at + count * m,
@@ -114,10 +105,9 @@ pub fn write_run(
             beside,
             rows,
         );
-        count += size(block);
+        count += block.size();
         add(row, second, 1);
         last = block;
-        i += 1;
     }
     count
 }

@@ -5,11 +5,10 @@ ghost use Rattle.walker.specs.Walker.{walked_states};
 ghost use Rattle.walker.specs.Steps.{Walkable, Runs};
 ghost use Rattle.walker.specs.Blocks.{StatesWritten};
 
-use crate::edges::edges_of;
+use crate::edges::Kinds;
 use crate::rows::{rows_at_once, rows_beside};
 use crate::run::{count_run, run_span, run_width, write_run};
 use numbers::sizes::MOST_EDGES;
-use numbers::smaller;
 use walker::blocks::width;
 use walker::steps::step;
 
@@ -30,30 +29,14 @@ pub fn count_blocks(
     let m = config.len();
     let first = &cycles[0..m];
     let second = &cycles[MOST_EDGES..MOST_EDGES + m];
-    let still = edges_of(first, second, 0);
-    let still_list = still.list;
-    let n_still = still.count;
-    let side = edges_of(first, second, 1);
-    let side_list = side.list;
-    let n_side = side.count;
-    let moved = edges_of(first, second, 2);
-    let moved_list = moved.list;
-    let n_moved = moved.count;
+    let kinds = Kinds::of(first, second);
+    let moved = kinds.moved.as_slice();
     let mut count = 0;
     let mut left = blocks;
     while 0 < left {
-        let run = smaller(left, wide);
-        let span = run_span(
-            config,
-            second,
-            &still_list,
-            n_still,
-            &side_list,
-            n_side,
-            lambda,
-            run,
-        );
-        count += count_run(config, first, second, &moved_list, n_moved, lambda, n, span);
+        let run = left.min(wide);
+        let span = run_span(config, second, &kinds, lambda, run);
+        count += count_run(config, first, second, moved, lambda, n, span);
         step(config, free, n_free, cycles, lambda, 2);
         left -= run;
     }
@@ -83,29 +66,13 @@ pub fn write_blocks(
     let beside = rows_beside(second, rows);
     let one = rows_beside(first, 1);
     let ahead = &one[0..m];
-    let still = edges_of(first, second, 0);
-    let still_list = still.list;
-    let n_still = still.count;
-    let side = edges_of(first, second, 1);
-    let side_list = side.list;
-    let n_side = side.count;
-    let moved = edges_of(first, second, 2);
-    let moved_list = moved.list;
-    let n_moved = moved.count;
+    let kinds = Kinds::of(first, second);
+    let moved = kinds.moved.as_slice();
     let mut count = 0;
     let mut left = blocks;
     while 0 < left {
-        let run = smaller(left, wide);
-        let span = run_span(
-            config,
-            second,
-            &still_list,
-            n_still,
-            &side_list,
-            n_side,
-            lambda,
-            run,
-        );
+        let run = left.min(wide);
+        let span = run_span(config, second, &kinds, lambda, run);
         count += write_run(
             states,
             count * m,
@@ -113,8 +80,7 @@ pub fn write_blocks(
             config,
             first,
             second,
-            &moved_list,
-            n_moved,
+            moved,
             lambda,
             n,
             span,

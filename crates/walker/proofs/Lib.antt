@@ -1,3 +1,4 @@
+pub mod Adding
 pub mod Signs
 pub mod Counter
 pub mod Candidates

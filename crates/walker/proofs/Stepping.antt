@@ -9,7 +9,7 @@ use native.Mathlib.Decide.{dec_lt}
 use lib.IntN.{ℤ, pos, neg_ℤ, nat_abs, ◌*ℤ◌}
 use lib.Signed.{lt_z}
 use lib.ListN.{get_or, length, get_or-eq_default}
-use Rattle.mathematics.proofs.Signed.{size_sum, size_sign}
+use Rattle.mathematics.proofs.Signed.{size_sum, size_sign, size_neg}
 use Rattle.cycles.specs.Cycles.{row, with_cycle}
 use Rattle.walker.specs.Walker.{sum_of_cycles, counted_up, stepped}
 use Rattle.walker.specs.Steps.{Small, Addable, CyclesFit}
@@ -36,6 +36,13 @@ module _ (m n L : ℕ) (cycles : List ℤ) (fit : CyclesFit m n L cycles) where
   cycle_addable j h s t long values few =
       let inside : j < 63 = omega (arith, fit.free_few) in
       record { sized = cycle_long j inside ∙ sym long; values = values; times = few; signs = cycle_signs j inside }
+
+-- the part of a table of cycles that is a row
+pub row_part : (j m : ℕ) → 63 * j + m - 63 * j ≡ m
+row_part j m = omega arith
+
+pub back_small : (L : ℕ) → L ≤ 1000 → nat_abs (neg_ℤ (pos (2 * L))) ≤ 2000
+back_small L h = omega (arith, size_neg (pos (2 * L)))
 
 -- ---- from zeros to the lowest candidate
 pub combined_next : (cycle : ℕ → List ℤ) (x : ℕ → ℤ) (p : List ℤ) (j : ℕ) → sum_of_cycles cycle x p (j + 1) ≡ with_cycle (sum_of_cycles cycle x p j) (x j) (cycle j)

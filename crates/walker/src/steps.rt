@@ -5,7 +5,7 @@ ghost use Rattle.walker.specs.Walker.{stepped, lowest_candidate};
 ghost use Rattle.walker.specs.Steps.{Small, Addable, CyclesFit, FreeFit};
 
 use numbers::sizes::MOST_EDGES;
-use numbers::{byte, i8_to_i32, usize_to_i32};
+use numbers::usize_to_i32;
 
 pub fn negative(x: usize) -> i32
     requires { x ≤ 2 ^ 20 }
@@ -19,7 +19,7 @@ pub fn plus_times(x: i32, times: i32, sign: i8) -> i32
     requires { (nat_abs x ≤ 2 ^ 24) × (nat_abs times ≤ 2 ^ 24) × (nat_abs sign ≤ 1) }
     ensures { result ≡ x +ℤ times *ℤ sign }
 {
-    x + times * i8_to_i32(sign)
+    x + times * i32::from(sign)
 }
 
 // A cycle added to an assignment a number of times.
@@ -27,8 +27,8 @@ pub fn add(config: &mut [i32], cycle: &[i8], times: i32)
     requires { Addable config.old times cycle.now }
     ensures { config.new ≡ with_cycle config.old times cycle.now }
 {
-    for e in 0..config.len() {
-        config[e] = plus_times(config[e], times, cycle[e]);
+    for (e, x) in config.iter_mut().enumerate() {
+        *x = plus_times(*x, times, cycle[e]);
     }
 }
 
@@ -59,14 +59,12 @@ pub fn step(
     let m = config.len();
     let top = usize_to_i32(lambda);
     let back = negative(2 * lambda);
-    let mut j = from;
-    while j < n_free {
-        let x = config[byte(free[j])];
-        if x < top {
-            add(config, &cycles[MOST_EDGES * j..MOST_EDGES * j + m], 1);
+    for j in from..n_free {
+        let cycle = &cycles[MOST_EDGES * j..MOST_EDGES * j + m];
+        if config[usize::from(free[j])] < top {
+            add(config, cycle, 1);
             return;
         }
-        add(config, &cycles[MOST_EDGES * j..MOST_EDGES * j + m], back);
-        j += 1;
+        add(config, cycle, back);
     }
 }

@@ -24,23 +24,23 @@ loop-left-init c =
     let none : s.number - s.number ≡ 0 = omega arith in
     rw none (refl, omega arith, omega arith, refl, nothing_raised s.cycle.now s.states.now s.at (s.at - s.back))
 
-smaller-more-requires : tie.Need-smaller-more-requires invariant-loop-left decreases-loop-left
-smaller-more-requires c κs = tt
+min-more-requires : tie.Need-min-more-requires invariant-loop-left decreases-loop-left
+min-more-requires c κs = tt
 
 abbrev Loop : Type 0
 Loop = tie.At-loop-left invariant-loop-left decreases-loop-left
 
 -- no more rows than are added at once, and than are left
-few : (c : tie.After-smaller-more invariant-loop-left decreases-loop-left) → (c.smaller-more.result ≤ c.before.before.before.args.rows) × (c.smaller-more.result ≤ c.before.before.loop-left.left)
-few c = (omega (arith, c.smaller-more.ensures), omega (arith, c.smaller-more.ensures))
+few : (c : tie.After-min-more invariant-loop-left decreases-loop-left) → (c.min-more.result ≤ c.before.before.before.args.rows) × (c.min-more.result ≤ c.before.before.loop-left.left)
+few c = (omega (arith, c.min-more.ensures), omega (arith, c.min-more.ensures))
 
 -- the rows have room among the amounts, and in the list
-part_room : (c : tie.After-smaller-more invariant-loop-left decreases-loop-left) → c.smaller-more.result * length c.before.before.before.args.cycle.now ≤ 256
+part_room : (c : tie.After-min-more invariant-loop-left decreases-loop-left) → c.min-more.result * length c.before.before.before.args.cycle.now ≤ 256
 part_room c = let fits = c.before.before.before.requires.3 in omega (arith, mul-le-mul_right (length c.before.before.before.args.cycle.now) (few c).0)
 
-part_is : (c : tie.After-smaller-more invariant-loop-left decreases-loop-left)
-    → take (c.smaller-more.result * length c.before.before.before.args.cycle.now - 0) c.before.before.before.args.beside.now ≡ repeated c.before.before.before.args.cycle.now c.smaller-more.result
-part_is c = rw (sub-zero (c.smaller-more.result * length c.before.before.before.args.cycle.now)) (c.before.before.before.requires.1.is c.smaller-more.result (few c).0)
+part_is : (c : tie.After-min-more invariant-loop-left decreases-loop-left)
+    → take (c.min-more.result * length c.before.before.before.args.cycle.now - 0) c.before.before.before.args.beside.now ≡ repeated c.before.before.before.args.cycle.now c.min-more.result
+part_is c = rw (sub-zero (c.min-more.result * length c.before.before.before.args.cycle.now)) (c.before.before.before.requires.1.is c.min-more.result (few c).0)
 
 overflow_mul-more : tie.Need-overflow_mul-more invariant-loop-left decreases-loop-left
 overflow_mul-more c = let h = part_room c.before in search rules
@@ -62,7 +62,7 @@ raise-requires c κs =
     let sized = c.before.before in
     let left = at_loop.loop-left.left in
     rw (part_is sized, at_loop.loop-left.invariant.2)
-    (may_raise_more s.cycle.now s.states.now at_loop.loop-left.states s.at s.back s.number (s.number - left) sized.smaller-more.result start.requires.0 (omega (arith, (few sized).1, at_loop.loop-left.invariant.1)) at_loop.loop-left.invariant.4 at_loop.loop-left.invariant.3)
+    (may_raise_more s.cycle.now s.states.now at_loop.loop-left.states s.at s.back s.number (s.number - left) sized.min-more.result start.requires.0 (omega (arith, (few sized).1, at_loop.loop-left.invariant.1)) at_loop.loop-left.invariant.4 at_loop.loop-left.invariant.3)
 
 overflow_mul-place : tie.Need-overflow_mul-place invariant-loop-left decreases-loop-left
 overflow_mul-place c = let h = part_room c.before.before.before.before in search rules
@@ -84,7 +84,7 @@ overflow_sub-left : tie.Need-overflow_sub-left invariant-loop-left decreases-loo
 overflow_sub-left c = (few c.before.before.before.before).1
 
 loop-left-smaller : tie.Need-loop-left-smaller invariant-loop-left decreases-loop-left
-loop-left-smaller c = let some = c.before.before.before.before.before.before.before.requires.2 in omega (arith, c.before.before.before.before.smaller-more.ensures)
+loop-left-smaller c = let some = c.before.before.before.before.before.before.before.requires.2 in omega (arith, c.before.before.before.before.min-more.ensures)
 
 loop-left-preserved : tie.Need-loop-left-preserved invariant-loop-left decreases-loop-left
 loop-left-preserved c =
@@ -94,7 +94,7 @@ loop-left-preserved c =
     let s = start.args in
     let u = s.cycle.now in
     let left = at_loop.loop-left.left in
-    let more = sized.smaller-more.result in
+    let more = sized.min-more.result in
     let done = s.number - left in
     let now_done : s.number - (left - more) ≡ done + more = omega (arith, (few sized).1, at_loop.loop-left.invariant.1) in
     let raise = c.before.raise in
@@ -119,4 +119,4 @@ returns c =
 pub raise_rows_spec : {M : Type 1} → statement M
 raise_rows_spec =
     tie.close
-    (tie.spec invariant-loop-left decreases-loop-left loop-left-init smaller-more-requires overflow_mul-more slice_bounds-raise-count slice_bounds-raise-start slice_bounds-raise-end raise-requires overflow_mul-place overflow_add-place overflow_sub-left loop-left-smaller loop-left-preserved shape_of-states returns)
+    (tie.spec invariant-loop-left decreases-loop-left loop-left-init min-more-requires overflow_mul-more slice_bounds-raise-count slice_bounds-raise-start slice_bounds-raise-end raise-requires overflow_mul-place overflow_add-place overflow_sub-left loop-left-smaller loop-left-preserved shape_of-states returns)

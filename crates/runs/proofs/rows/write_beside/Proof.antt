@@ -8,11 +8,11 @@ use borrow.Author.Rules.{rules}
 use Rattle.runs.proofs.rows.write_beside.Statement.{statement}
 use Rattle.runs.proofs.rows.write_beside.Tie as tie
 
-larger-low-requires : tie.Need-larger-low-requires
-larger-low-requires c κs = search rules
+max-low-requires : tie.Need-max-low-requires
+max-low-requires c κs = search rules
 
-smaller-high-requires : tie.Need-smaller-high-requires
-smaller-high-requires c κs = search rules
+min-high-requires : tie.Need-min-high-requires
+min-high-requires c κs = search rules
 
 write_rows-requires : tie.Need-write_rows-requires
 write_rows-requires c κs = search rules
@@ -34,40 +34,40 @@ returns-then-rows-eq0 c = search rules
 
 -- where rows of both blocks are
 abbrev Chosen : Type 0
-Chosen = tie.After-smaller-high
+Chosen = tie.After-min-high
 
-module _ (c : Chosen) (some : c.before.larger-low.result < c.smaller-high.result) where
+module _ (c : Chosen) (some : c.before.max-low.result < c.min-high.result) where
   abbrev start : tie.Start
   start = c.before.before
 
-  over : start.args.span.from ≤ c.before.larger-low.result
-  over = omega (arith, c.before.larger-low.ensures)
+  over : start.args.span.from ≤ c.before.max-low.result
+  over = omega (arith, c.before.max-low.ensures)
 
-  among : start.args.last.from ≤ c.before.larger-low.result
-  among = omega (arith, c.before.larger-low.ensures)
+  among : start.args.last.from ≤ c.before.max-low.result
+  among = omega (arith, c.before.max-low.ensures)
 
-  under : c.smaller-high.result ≤ start.args.span.to
-  under = omega (arith, c.smaller-high.ensures)
+  under : c.min-high.result ≤ start.args.span.to
+  under = omega (arith, c.min-high.ensures)
 
-  ends : c.smaller-high.result ≤ start.args.last.to
-  ends = omega (arith, c.smaller-high.ensures)
+  ends : c.min-high.result ≤ start.args.last.to
+  ends = omega (arith, c.min-high.ensures)
 
-  parts : (c.before.larger-low.result - start.args.span.from) * length start.args.config.now + (c.smaller-high.result - c.before.larger-low.result) * length start.args.config.now
-      + (start.args.span.to - c.smaller-high.result) * length start.args.config.now ≡ (start.args.span.to - start.args.span.from) * length start.args.config.now
+  parts : (c.before.max-low.result - start.args.span.from) * length start.args.config.now + (c.min-high.result - c.before.max-low.result) * length start.args.config.now
+      + (start.args.span.to - c.min-high.result) * length start.args.config.now ≡ (start.args.span.to - start.args.span.from) * length start.args.config.now
   parts =
       let s = start.args in
-      first_room s.config.now s.first.now s.second.now start.requires.0 start.requires.1 s.states.now s.at s.last start.requires.4 s.span.from s.span.to c.before.larger-low.result c.smaller-high.result over among some under ends start.requires.2 start.requires.3
+      first_room s.config.now s.first.now s.second.now start.requires.0 start.requires.1 s.states.now s.at s.last start.requires.4 s.span.from s.span.to c.before.max-low.result c.min-high.result over among some under ends start.requires.2 start.requires.3
 
-  low_high : (c.smaller-high.result - start.args.span.from) * length start.args.config.now
-      ≡ (c.before.larger-low.result - start.args.span.from) * length start.args.config.now + (c.smaller-high.result - c.before.larger-low.result) * length start.args.config.now
+  low_high : (c.min-high.result - start.args.span.from) * length start.args.config.now
+      ≡ (c.before.max-low.result - start.args.span.from) * length start.args.config.now + (c.min-high.result - c.before.max-low.result) * length start.args.config.now
   low_high =
-      let e : c.smaller-high.result - start.args.span.from ≡ c.before.larger-low.result - start.args.span.from + (c.smaller-high.result - c.before.larger-low.result) = omega (arith, over) in
-      rw e (add-mul (c.before.larger-low.result - start.args.span.from) (c.smaller-high.result - c.before.larger-low.result) (length start.args.config.now))
+      let e : c.min-high.result - start.args.span.from ≡ c.before.max-low.result - start.args.span.from + (c.min-high.result - c.before.max-low.result) = omega (arith, over) in
+      rw e (add-mul (c.before.max-low.result - start.args.span.from) (c.min-high.result - c.before.max-low.result) (length start.args.config.now))
 
 write_rows-requires-2 : tie.Need-write_rows-requires-2
 write_rows-requires-2 c κs =
     let chosen = c.before.before.before in
-    let some : chosen.before.larger-low.result < chosen.smaller-high.result = omega arith in
+    let some : chosen.before.max-low.result < chosen.min-high.result = omega arith in
     let start = chosen.before.before in
     let s = start.args in
     let bound = start.requires.2 in
@@ -81,7 +81,7 @@ overflow_sub-low c = search rules
 overflow_mul-low : tie.Need-overflow_mul-low
 overflow_mul-low c =
     let chosen = c.before.before.before.before.before.before in
-    let some : chosen.before.larger-low.result < chosen.smaller-high.result = omega arith in
+    let some : chosen.before.max-low.result < chosen.min-high.result = omega arith in
     let start = chosen.before.before in
     let s = start.args in
     let bound = start.requires.2 in
@@ -92,7 +92,7 @@ overflow_mul-low c =
 overflow_add-at : tie.Need-overflow_add-at
 overflow_add-at c =
     let chosen = c.before.before.before.before.before.before in
-    let some : chosen.before.larger-low.result < chosen.smaller-high.result = omega arith in
+    let some : chosen.before.max-low.result < chosen.min-high.result = omega arith in
     let start = chosen.before.before in
     let s = start.args in
     let bound = start.requires.2 in
@@ -106,14 +106,14 @@ overflow_sub-end c = search rules
 overflow_mul-end : tie.Need-overflow_mul-end
 overflow_mul-end c =
     let chosen = c.before.before.before.before.before.before in
-    let some : chosen.before.larger-low.result < chosen.smaller-high.result = omega arith in
+    let some : chosen.before.max-low.result < chosen.min-high.result = omega arith in
     let start = chosen.before.before in
     let s = start.args in
     let bound = start.requires.2 in
     let enough = start.requires.3 in
     let sizes = parts chosen some in
-    let back = back_is s.config.now s.first.now s.second.now start.requires.0 start.requires.1 s.states.now s.at s.last start.requires.4 s.span.from s.span.to chosen.before.larger-low.result chosen.smaller-high.result (over chosen some) (among chosen some) some (under chosen some) (ends chosen some) bound enough in
-    let inside = before_at s.config.now s.first.now s.second.now start.requires.0 start.requires.1 s.states.now s.at s.last start.requires.4 s.span.from s.span.to chosen.before.larger-low.result chosen.smaller-high.result (over chosen some) (among chosen some) some (under chosen some) (ends chosen some) bound enough in
+    let back = back_is s.config.now s.first.now s.second.now start.requires.0 start.requires.1 s.states.now s.at s.last start.requires.4 s.span.from s.span.to chosen.before.max-low.result chosen.min-high.result (over chosen some) (among chosen some) some (under chosen some) (ends chosen some) bound enough in
+    let inside = before_at s.config.now s.first.now s.second.now start.requires.0 start.requires.1 s.states.now s.at s.last start.requires.4 s.span.from s.span.to chosen.before.max-low.result chosen.min-high.result (over chosen some) (among chosen some) some (under chosen some) (ends chosen some) bound enough in
     search rules
 
 overflow_sub-high : tie.Need-overflow_sub-high
@@ -122,7 +122,7 @@ overflow_sub-high c = search rules
 raise_rows-requires : tie.Need-raise_rows-requires
 raise_rows-requires c κs =
     let chosen = c.before.before.before.before.before.before in
-    let some : chosen.before.larger-low.result < chosen.smaller-high.result = omega arith in
+    let some : chosen.before.max-low.result < chosen.min-high.result = omega arith in
     let start = chosen.before.before in
     let s = start.args in
     let bound = start.requires.2 in
@@ -130,7 +130,7 @@ raise_rows-requires c κs =
     let sizes = parts chosen some in
     let wrote = c.before.before.write_rows-2 in
     let some_rows : 1 ≤ s.rows = omega (arith, c.before.before.before.before.if-rows-eq0.false) in
-    (middle_may s.config.now s.first.now s.second.now start.requires.0 start.requires.1 s.states.now s.at s.last start.requires.4 s.span.from s.span.to chosen.before.larger-low.result chosen.smaller-high.result (over chosen some) (among chosen some) some (under chosen some) (ends chosen some) bound enough wrote.new.states wrote.ensures wrote.auto.states, start.requires.5, some_rows, rw start.requires.1.sized start.requires.7)
+    (middle_may s.config.now s.first.now s.second.now start.requires.0 start.requires.1 s.states.now s.at s.last start.requires.4 s.span.from s.span.to chosen.before.max-low.result chosen.min-high.result (over chosen some) (among chosen some) some (under chosen some) (ends chosen some) bound enough wrote.new.states wrote.ensures wrote.auto.states, start.requires.5, some_rows, rw start.requires.1.sized start.requires.7)
 
 overflow_sub-high-2 : tie.Need-overflow_sub-high-2
 overflow_sub-high-2 c = search rules
@@ -138,7 +138,7 @@ overflow_sub-high-2 c = search rules
 overflow_mul-high : tie.Need-overflow_mul-high
 overflow_mul-high c =
     let chosen = c.before.before.before.before.before.before.before.before.before in
-    let some : chosen.before.larger-low.result < chosen.smaller-high.result = omega arith in
+    let some : chosen.before.max-low.result < chosen.min-high.result = omega arith in
     let start = chosen.before.before in
     let s = start.args in
     let bound = start.requires.2 in
@@ -150,7 +150,7 @@ overflow_mul-high c =
 overflow_add-at-2 : tie.Need-overflow_add-at-2
 overflow_add-at-2 c =
     let chosen = c.before.before.before.before.before.before.before.before.before in
-    let some : chosen.before.larger-low.result < chosen.smaller-high.result = omega arith in
+    let some : chosen.before.max-low.result < chosen.min-high.result = omega arith in
     let start = chosen.before.before in
     let s = start.args in
     let bound = start.requires.2 in
@@ -162,7 +162,7 @@ overflow_add-at-2 c =
 write_rows-requires-3 : tie.Need-write_rows-requires-3
 write_rows-requires-3 c κs =
     let chosen = c.before.before.before.before.before.before.before.before.before in
-    let some : chosen.before.larger-low.result < chosen.smaller-high.result = omega arith in
+    let some : chosen.before.max-low.result < chosen.min-high.result = omega arith in
     let start = chosen.before.before in
     let s = start.args in
     let bound = start.requires.2 in
@@ -176,7 +176,7 @@ shape_of-states c = search rules
 returns : tie.Need-returns
 returns c =
     let chosen = c.before.before.before.before.before.before.before.before.before.before.before in
-    let some : chosen.before.larger-low.result < chosen.smaller-high.result = omega arith in
+    let some : chosen.before.max-low.result < chosen.min-high.result = omega arith in
     let start = chosen.before.before in
     let s = start.args in
     let bound = start.requires.2 in
@@ -185,9 +185,9 @@ returns c =
     let one = c.before.before.before.before.before.before.before.write_rows-2 in
     let two = c.before.before.before.before.raise_rows in
     let three = c.before.write_rows-3 in
-    all_written s.config.now s.first.now s.second.now start.requires.0 start.requires.1 s.states.now s.at s.last start.requires.4 s.span.from s.span.to chosen.before.larger-low.result chosen.smaller-high.result (over chosen some) (among chosen some) some (under chosen some) (ends chosen some) bound enough one.new.states one.ensures one.auto.states two.new.states two.ensures three.new.states three.ensures
+    all_written s.config.now s.first.now s.second.now start.requires.0 start.requires.1 s.states.now s.at s.last start.requires.4 s.span.from s.span.to chosen.before.max-low.result chosen.min-high.result (over chosen some) (among chosen some) some (under chosen some) (ends chosen some) bound enough one.new.states one.ensures one.auto.states two.new.states two.ensures three.new.states three.ensures
 
 pub write_beside_spec : {M : Type 1} → statement M
 write_beside_spec =
     tie.close
-    (tie.spec larger-low-requires smaller-high-requires write_rows-requires shape_of-states-then-high-low returns-then-high-low write_rows-requires-then-rows-eq0 shape_of-states-then-rows-eq0 returns-then-rows-eq0 write_rows-requires-2 overflow_sub-low overflow_mul-low overflow_add-at overflow_sub-end overflow_mul-end overflow_sub-high raise_rows-requires overflow_sub-high-2 overflow_mul-high overflow_add-at-2 write_rows-requires-3 shape_of-states returns)
+    (tie.spec max-low-requires min-high-requires write_rows-requires shape_of-states-then-high-low returns-then-high-low write_rows-requires-then-rows-eq0 shape_of-states-then-rows-eq0 returns-then-rows-eq0 write_rows-requires-2 overflow_sub-low overflow_mul-low overflow_add-at overflow_sub-end overflow_mul-end overflow_sub-high raise_rows-requires overflow_sub-high-2 overflow_mul-high overflow_add-at-2 write_rows-requires-3 shape_of-states returns)

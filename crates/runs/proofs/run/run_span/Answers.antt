@@ -1,0 +1,23 @@
+use Rattle.std.proofs.Common.{arith}
+use Rattle.walker.proofs.Walk.{added_none}
+use Rattle.runs.proofs.Sides.{side_span, side_none}
+use Rattle.runs.proofs.run.run_span.Goals as goal
+
+pub span_over-requires : goal.span_over-requires
+span_over-requires c =
+    let values = c.requires.3 in
+    rw c.as_slice-then-all_within.ensures (
+      c.requires.1,
+      c.requires.2,
+      record { sized = c.requires.2; values = λ e. omega (arith, values e); times = omega arith; signs = c.requires.4 },
+      (λ e. rw (added_none c.args.config.now c.args.second.now) (values e)),
+      c.requires.4,
+      c.requires.5,
+    )
+
+pub returns-then-all_within : goal.returns-then-all_within
+returns-then-all_within c =
+    side_span _ _ _ c.requires.4 _ _ _ _ _ c.requires.1 (rw c.as_slice.ensures at (c.all_within.ensures.all c.if-all_within.true)) _ (rw c.as_slice-then-all_within.ensures at c.span_over.ensures)
+
+pub returns : goal.returns
+returns c = side_none _ _ _ c.requires.4 _ _ _ _ _ c.requires.1 (rw c.as_slice.ensures at (c.all_within.ensures.some c.if-all_within.false))
