@@ -74,6 +74,7 @@ fn scan(c: &SimplicialComplex, half: &HalfEdges, v: u8, tree: &mut SpanningTree)
 {
     let count = 2 * c.n_edges;
     let mut d = usize::from(half.heads[usize::from(v)]);
+    // the links are followed, so no list is walked
     while d < count {
         look(c, d, tree);
         d = usize::from(half.next[d]);

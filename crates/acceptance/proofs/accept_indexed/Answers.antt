@@ -1,10 +1,10 @@
-use Rattle.std.proofs.Common.{◌≡◌, true, cond, sym, ◌∙◌}
+use Rattle.std.proofs.Common.{◌≡◌, true, sym, ◌∙◌}
 use Rattle.complex.specs.Judge.{simplices_right}
-use Rattle.complex.specs.Numbering.{EdgeTable, Judged}
+use Rattle.complex.specs.Numbering.{EdgeTable}
 use Rattle.complex.proofs.Accepting.{counts}
 use Rattle.complex.proofs.Judging.{counts_of, edges_of, wrong_counts, falling_edge, repeated_edge, edges_right, wrong_triangle, all_keyed, repeated_triangle, last_test, small_ends, searchable}
 use Rattle.acceptance.proofs.accept_indexed.Goals as goal
-use Rattle.acceptance.proofs.accept_indexed.Goals.{Else-not-index_edges, After-connected}
+use Rattle.acceptance.proofs.accept_indexed.Goals.{Else-not-index_edges}
 
 pub returns-then-not-counts_right : goal.returns-then-not-counts_right
 returns-then-not-counts_right c = wrong_counts _ _ (sym c.counts_right.ensures ∙ c.if-not-counts_right.true)
@@ -44,16 +44,17 @@ module _ (c : Else-not-index_edges) where
 
 pub returns-then-not-triangles_fit : goal.returns-then-not-triangles_fit
 returns-then-not-triangles_fit c =
-    wrong_triangle _ _ (right c.before.before.before) (edges_pass c.before.before.before) (sym (c.triangles_fit.ensures _ (index c.before.before.before)) ∙ c.if-not-triangles_fit.true)
+    let i = (goal.at.returns-then-not-triangles_fit c).Else-not-index_edges in
+    wrong_triangle _ _ (right i) (edges_pass i) (sym (c.triangles_fit.ensures _ (index i)) ∙ c.if-not-triangles_fit.true)
 
 pub triangles_once-requires : goal.triangles_once-requires
 triangles_once-requires c =
-    let i = c.before.before.before.before in
+    let i = (goal.at.triangles_once-requires c).Else-not-index_edges in
     ((counts _ _ _ (right i)).triangles, all_keyed c.args.c _ (right i) (edges_pass i) (sym (c.triangles_fit.ensures _ (index i)) ∙ c.if-not-triangles_fit.false) (index i))
 
 pub returns-then-not-triangles_once : goal.returns-then-not-triangles_once
 returns-then-not-triangles_once c =
-    let i = c.before.before.before.before.before.before in
+    let i = (goal.at.returns-then-not-triangles_once c).Else-not-index_edges in
     repeated_triangle c.args.c _ (right i) (edges_pass i) (sym (c.triangles_fit.ensures _ (index i)) ∙ c.if-not-triangles_fit.false) (index i) (sym c.if-not-triangles_once.true ∙ c.triangles_once.ensures)
 
 pub connected-requires : goal.connected-requires
@@ -61,13 +62,12 @@ connected-requires c =
     searchable c.args.c (sym c.counts_right.ensures ∙ c.if-not-counts_right.false) (sym c.edges_rise.ensures ∙ c.if-not-edges_rise.false)
 
 -- the last test decides
-joined : (c : After-connected) → Judged c.args.c c.index_edges.new.table (cond c.connected.result 0 9)
-joined c =
-    let i = c.before.before.before.before.before.before.before.before in
-    last_test c.args.c _ (right i) (edges_pass i) (sym (c.triangles_fit.ensures _ (index i)) ∙ c.if-not-triangles_fit.false) (index i) (sym c.if-not-triangles_once.false ∙ c.triangles_once.ensures) _ c.connected.ensures
-
 pub returns-then-not-connected : goal.returns-then-not-connected
-returns-then-not-connected c = rw c.if-not-connected.true at (joined c.before)
+returns-then-not-connected c =
+    let i = (goal.at.returns-then-not-connected c).Else-not-index_edges in
+    rw c.if-not-connected.true at (last_test c.args.c _ (right i) (edges_pass i) (sym (c.triangles_fit.ensures _ (index i)) ∙ c.if-not-triangles_fit.false) (index i) (sym c.if-not-triangles_once.false ∙ c.triangles_once.ensures) _ c.connected.ensures)
 
 pub returns : goal.returns
-returns c = rw c.if-not-connected.false at (joined c.before)
+returns c =
+    let i = (goal.at.returns c).Else-not-index_edges in
+    rw c.if-not-connected.false at (last_test c.args.c _ (right i) (edges_pass i) (sym (c.triangles_fit.ensures _ (index i)) ∙ c.if-not-triangles_fit.false) (index i) (sym c.if-not-triangles_once.false ∙ c.triangles_once.ensures) _ c.connected.ensures)
