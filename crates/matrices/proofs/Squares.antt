@@ -1,18 +1,14 @@
--- Sums of squares: in the machine, and one value more.
+-- Sums of squares: how large a square is, and one value more.
 use Prim.Native.Nat.{ℕ, ◌+◌, ◌*◌, ◌^◌, ◌≤◌}
 use mathlib.Core.List.{List, [], ◌∷◌, ◌++◌}
-use mathlib.Core.Path.{◌≡◌, refl, sym, ap, ◌∙◌}
+use mathlib.Core.Path.{◌≡◌, sym, ap, ◌∙◌}
 use native.Mathlib.Nat.{mul-le-mul, add_assoc}
 use native.Mathlib.Omega.{arith}
 use lib.Dec.{T}
-use lib.IntN.{ℤ, pos, negsuc, nat_abs, ◌*ℤ◌}
+use lib.IntN.{ℤ, pos, nat_abs}
 use lib.Ieee.{binary64, in_float}
 use lib.Dec.{le→leb}
 use Rattle.matrices.specs.Squares.{squares}
-
-pub square_is : (x : ℤ) → x *ℤ x ≡ pos (nat_abs x * nat_abs x)
-square_is (pos n) = refl
-square_is (negsuc n) = refl
 
 pub square_small : (x : ℤ) → nat_abs x ≤ 1000 → nat_abs x * nat_abs x ≤ 1000000
 square_small x h = mul-le-mul h h
