@@ -1,4 +1,4 @@
-use Rattle.std.proofs.Common.{refl}
+use Rattle.std.proofs.Common.{refl, ◌∙◌}
 use Rattle.mathematics.proofs.Signed.{back64}
 use Rattle.matrices.specs.Coupling.{coupling_call}
 use Rattle.exports.specs.Exports.{signed, three_floats}
@@ -13,5 +13,4 @@ returns-in-Ok c g own h = exports (stored_ends (coupling_call g own) three_float
 pub returns-in-Err : goal.returns-in-Err
 unfolding signed
 returns-in-Err c g own h =
-    exports (stored_refuses (coupling_call g own) three_floats _ (rw c.in-Err.is at h))
-    (rw (back64 _ c.refused.type_inv, c.refused.ensures, c.number.ensures))
+    exports (stored_refuses (coupling_call g own) three_floats _ (rw c.in-Err.is at h)) (back64 _ c.signed_refusal.type_inv ∙ c.signed_refusal.ensures)
