@@ -26,7 +26,7 @@ use entries::count_entries;
 use enumeration::count::count_states;
 use enumeration::enumerate_gauge_invariant;
 use exports::{
-    Told, open, refused, signed, signed_refusal, signed_result, store, store_value, told_number,
+    Told, open, refused, signed, signed_refusal, signed_result, store_params, store_value, told_number,
     told_result,
 };
 use hamiltonian::dense::build_hamiltonian;
@@ -153,7 +153,7 @@ pub fn export_apply_triangle_shift(
 pub fn export_u1_params(g_squared: f64, params: &mut [f64; 3]) -> i64
     ensures { Exported (stored (coupling_call g_squared (u1_params g_squared)) three_floats params.old) result params.new }
 {
-    store(KSParams::u1(g_squared), params)
+    store_params(KSParams::u1(g_squared), params)
 }
 
 // The dense matrix of a sheet: the number of its states.
