@@ -1,6 +1,7 @@
 // The even edge sets as masks: the list of all of them, and the place of one in it.
 #![tactic(auto)]
 
+pub mod accepted;
 pub mod count;
 pub mod flip;
 pub mod place;
