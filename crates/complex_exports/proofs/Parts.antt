@@ -12,7 +12,7 @@ use Rattle.complex.proofs.Accepting.{counts, passed}
 use Rattle.sheet.specs.declared.Sheet.{Sheet}
 use Rattle.sheet.proofs.Sheets.{copied_front}
 use Rattle.pentachora.specs.Pentachora.{faces, complex_from, pentachora_call}
-use Rattle.exports.proofs.Signs.{value_none}
+use Rattle.answers.proofs.Outcomes.{value_none}
 use Rattle.complex_exports.specs.Parts.{SheetParts, sheet_parts}
 
 pub parts_written : {s t : Sheet} → s ≡ t → (old_edges old_triangles : List ℕ) {edges triangles : List ℕ}

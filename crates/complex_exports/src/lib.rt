@@ -11,7 +11,7 @@ ghost use Rattle.refusals.specs.Sentences.{text_call};
 ghost use Rattle.exports.specs.Exports.{on_sheet, stored, second_lent, in_place, Exported};
 ghost use Rattle.complex_exports.specs.Parts.{sheet_parts};
 
-use exports::{open, refused, signed, told_number, value};
+use exports::{open, refused, signed, told_number, told_result, value};
 use gauss_law::spanning::spanning_tree;
 use loops::fundamental::{fundamental_loops, su2_fundamental_loops};
 use making::make_sheet;
@@ -120,7 +120,7 @@ pub fn export_spanning_tree(sheet: &[u8], tree: &mut [u32], free: &mut [u32]) ->
         return refused(number);
     }
     let s = opened.sheet;
-    signed(told_number(spanning_tree(s.complex, tree, free)))
+    signed(told_result(spanning_tree(s.complex, tree, free)))
 }
 
 // The fundamental loops of a sheet's complex: how many there are.

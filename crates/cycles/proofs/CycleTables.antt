@@ -16,7 +16,7 @@ use Rattle.complex.specs.Judge.{refusal, Accepted}
 use Rattle.complex.proofs.Simplices.{simplex_at}
 use Rattle.complex.proofs.Accepting.{accepted}
 use Rattle.gauss_law.specs.Listing.{tree_edges, free_edges}
-use Rattle.gauss_law.specs.declared.spanning.FreeEdges.{FreeEdges}
+use Rattle.numbers.specs.declared.edge_list.EdgeList.{EdgeList}
 use Rattle.gauss_law.specs.Spanning.{FreeOf}
 use Rattle.gauss_law.proofs.Free.{free_below}
 use Rattle.gauss_law.proofs.Accepted.{accepted_ends}
@@ -69,10 +69,10 @@ module _ (paths : List ℤ) (a b m : ℕ) (ready : Subtractable paths a b m) whe
       (paste-suc table (63 * j) (with_cycle first (negsuc 0) second) e (pos 0) (omega arith) (omega (arith, difference_long)))
 
 -- ---- the cycles of an accepted record
-pub free_listed : (c : Complex) (free : FreeEdges) → FreeOf c free → (j : ℕ) → j < free.count → get_or free.list j 0 ≡ get_or (free_edges c) j 0
+pub free_listed : (c : Complex) (free : EdgeList) → FreeOf c free → (j : ℕ) → j < free.count → get_or free.list j 0 ≡ get_or (free_edges c) j 0
 free_listed c free is j h = sym (get_or-take free.count free.list j 0 h) ∙ ap (λ l. get_or l j 0) is.stands
 
-module _ (c : SimplicialComplex) (good : refusal (complex_of c) ≡ 0) (paths : List ℤ) (table : PathTable (complex_of c) (length (tree_edges (complex_of c))) paths) (free : FreeEdges) (is : FreeOf (complex_of c) free) where
+module _ (c : SimplicialComplex) (good : refusal (complex_of c) ≡ 0) (paths : List ℤ) (table : PathTable (complex_of c) (length (tree_edges (complex_of c))) paths) (free : EdgeList) (is : FreeOf (complex_of c) free) where
   right : Accepted (complex_of c)
   right = (accepted c).0 good
 

@@ -12,7 +12,7 @@ ghost use Rattle.cycles.specs.Cycles.{row, with_cycle, PathTable, extended, Subt
 
 use complex::SimplicialComplex;
 use complex::search::SpanningTree;
-use gauss_law::spanning::FreeEdges;
+use numbers::edge_list::EdgeList;
 use numbers::sizes::{EDGE_ENTRIES, MOST_EDGES, MOST_VERTICES};
 use numbers::{byte, edge_end, edge_start};
 
@@ -120,7 +120,7 @@ fn close_cycle(
 pub fn fundamental_cycles(
     c: SimplicialComplex,
     paths: &[i8; PATH_ENTRIES],
-    free: FreeEdges,
+    free: EdgeList,
 ) -> [i8; CYCLE_ENTRIES]
     requires { (refusal (complex_of c) ≡ 0) × PathTable (complex_of c) (length (tree_edges (complex_of c))) paths.now × FreeOf (complex_of c) free }
     ensures { CycleTable (complex_of c) (length (free_edges (complex_of c))) result }

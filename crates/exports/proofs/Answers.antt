@@ -8,7 +8,8 @@ use Rattle.mathematics.specs.Calls.{Call, Answered, NoneLent, none_lent}
 use Rattle.mathematics.proofs.Refusals.{refused_kept}
 use Rattle.mathematics.proofs.Calls.{refuses, ends, both, written_both}
 use Rattle.exports.specs.Exports.{signed, stored, value_lent, second_lent, zero_of, value_or}
-use Rattle.exports.proofs.Signs.{refused_number, refused_some, value_none, zero_outcome}
+use Rattle.answers.proofs.Outcomes.{refused_number, refused_some, value_none}
+use Rattle.exports.proofs.Signs.{zero_outcome}
 
 -- ---- the value goes to what is lent
 module _ {A B : Type 0} (call : Call A NoneLent) (store : A → B → B) (old : B) where

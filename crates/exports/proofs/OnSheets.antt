@@ -7,15 +7,24 @@ use native.Mathlib.Omega.{arith}
 use borrow.Author.Tests.{ne_eqb, leb-true}
 use lib.Dec.{leb}
 use lib.IntN.{ℤ, pos, neg_ℤ}
+use lib.Signed.{mag}
+use mir.Syntax.{w64}
+use mir.Val.{to_z, of_z}
+use Rattle.std.proofs.Common.{Result, Ok, Err, IfOk}
 use Rattle.mathematics.specs.Tests.{every_entry}
-use Rattle.mathematics.specs.Refusals.{Outcome, first, written}
-use Rattle.mathematics.specs.Calls.{Call, Answered}
+use Rattle.mathematics.specs.Refusals.{Outcome, value, refused, first, written}
+use Rattle.mathematics.specs.Calls.{Call, Answered, none_lent}
 use Rattle.mathematics.proofs.Refusals.{numbered, first_goes_on}
 use Rattle.mathematics.proofs.Calls.{Tells, among, refuses}
+use Rattle.mathematics.proofs.Signed.{back64}
+use Rattle.answers.specs.Refusal.{answer_of}
+use Rattle.answers.specs.declared.refusal.Refusal.{Refusal}
+use Rattle.answers.proofs.Outcomes.{refused_number, refused_some, value_none}
+use Rattle.sheet.specs.declared.Sheet.{Sheet}
 use Rattle.complex.specs.Complex.{Complex, complex_of}
 use Rattle.complex.specs.Judge.{refusal}
 use Rattle.sheet.specs.declared.SheetRead.{SheetRead}
-use Rattle.sheet.specs.Sheet.{header_tests, reading_tests, reading_refusal, read_answer, read_of}
+use Rattle.sheet.specs.Sheet.{header_tests, reading_tests, reading_call, reading_refusal, read_answer, read_of}
 use Rattle.sheet.proofs.Sheets.{shape_decides}
 use Rattle.sheet.proofs.RoundTrips.{header_none}
 use Rattle.exports.specs.declared.Told.{Told}
@@ -91,3 +100,32 @@ zero_answered {A} {B} {call} h = record { answer = ap zero_of h.answer ∙ zero_
 pub small_zero : {A B : Type 0} {call : Call A B} {a : Outcome A} {l : B} → Answered call a l → {t : Told} → t ≡ outcome_told (zero_of a) → t.value < 2 ^ 31
 unfolding zero_told
 small_zero h told = small_answer (zero_answered h) (λ k. omega arith) told
+
+-- ---- a sheet that was read, and a call on it
+module _ {B : Type 0} (b : List ℕ) (call : Complex → ℕ → Call ℕ B) {l : B} {r : ℤ} (fits : mag r < 2 ^ 63) where
+  -- the sheet is refused
+  pub unread : {k : ℕ} → Answered (reading_call b) (refused k) none_lent → r ≡ neg_ℤ (pos k) → l ≡ (call (complex_in b) (lambda_in b)).before → Exported (on_sheet b call) (to_z w64 (of_z w64 r)) l
+  unfolding on_sheet reading_call signed
+  unread {k} h is kept =
+      let e = refused_number k _ _ h.answer in
+      let some = refused_some k _ _ h.answer in
+      rw kept (exports (refuses (on_sheet b call) (among (reading_tests b) _ e some) (ne_eqb k 0 some)) (back64 r fits ∙ is))
+
+  -- or the call on what it holds has answered
+  pub read_and_called : {s : Sheet} → Answered (reading_call b) (value s) none_lent → {a : Outcome ℕ} → Answered (call (complex_of s.complex) s.lambda) a l → r ≡ signed a → Exported (on_sheet b call) (to_z w64 (of_z w64 r)) l
+  unfolding on_sheet reading_call header_tests numbered every_entry
+  read_and_called {s} h {a} given is =
+      let own = call (complex_in b) (lambda_in b) in
+      let v = value_none s _ _ h.answer in
+      let g : Answered own a l = rw v.1 at given in
+      let e : first (on_sheet b call).tests ≡ first own.tests = first_goes_on (reading_tests b) own.tests refl v.0 in
+      record {
+        answer = rw e (back64 r fits ∙ is ∙ ap signed g.answer);
+        lists = rw e g.lists;
+        known = λ z. g.known (sym e ∙ z);
+      }
+
+-- what a call answers is small where its value is
+pub small_result : {B : Type 0} {call : Call ℕ B} {l : B} (r : Result ℕ Refusal) → Answered call (answer_of r) l → (call.known → call.value < 2 ^ 31) → IfOk r (λ n. n < 2 ^ 31)
+small_result {call = call} (Ok n) h small = let v = value_none n (first call.tests) call.value h.answer in let k = small (h.known v.0) in omega arith
+small_result (Err e) h small = tt

@@ -21,23 +21,6 @@ small_mag (suc n) h = omega arith
 pub minus : (n : ℕ) → n < 256 → pos 0 -ℤ to_z w64 n ≡ neg_ℤ (pos n)
 minus n h = rw (to_z_pos w64 {n = n} (omega arith)) (+ℤ_idl (neg_ℤ (pos n)))
 
--- an outcome that is a refusal is one of the number that refuses, and that is not 0
-pub refused_number : {A : Type 0} (k n : ℕ) (a : A) → refused k ≡ outcome n a → k ≡ n
-unfolding outcome
-refused_number k zero a h = let z : ◌≡◌ {A = ℕ} 0 1 = cc in absurd (omega arith)
-refused_number k (suc n) a h = cc
-
-pub refused_some : {A : Type 0} (k n : ℕ) (a : A) → refused k ≡ outcome n a → k ≡ 0 → ⊥
-unfolding outcome
-refused_some k zero a h z = let y : ◌≡◌ {A = ℕ} 0 1 = cc in omega arith
-refused_some k (suc n) a h z = let y : k ≡ suc n = cc in omega arith
-
--- an outcome that is a value refuses nothing
-pub value_none : {A : Type 0} (b : A) (n : ℕ) (a : A) → value b ≡ outcome n a → (n ≡ 0) × (b ≡ a)
-unfolding outcome
-value_none b zero a h = (refl, cc)
-value_none b (suc n) a h = let z : ◌≡◌ {A = ℕ} 0 1 = cc in absurd (omega arith)
-
 -- an answer of a call is exported as its signed number
 pub exports : {B : Type 0} {call : Call ℕ B} {a : Outcome ℕ} {l : B} → Answered call a l → {r : ℤ} → r ≡ signed a → Exported call r l
 exports h is = record { answer = is ∙ ap signed h.answer; lists = h.lists; known = h.known }

@@ -1,11 +1,11 @@
 // What the exported functions of every mode have in common: a sheet is opened, and an answer becomes one signed number.
 #![tactic(auto)]
 
-ghost use Rattle.std.specs.Prelude.{◌≡◌, ◌<◌, ◌^◌, pos, neg_ℤ, Float};
+ghost use Rattle.std.specs.Prelude.{◌≡◌, ◌<◌, ◌^◌, pos, neg_ℤ, Float, IfOk};
 ghost use Rattle.mathematics.specs.Calls.{Answered, none_lent};
 ghost use Rattle.answers.specs.Answer.{number_answer};
 ghost use Rattle.answers.specs.Expectation.{expectation_answer};
-ghost use Rattle.answers.specs.Refusal.{answer_of};
+ghost use Rattle.answers.specs.Refusal.{refusal_number, answer_of};
 ghost use Rattle.matrices.specs.declared.coupling.KSParams.{KSParams};
 ghost use Rattle.matrices.specs.Coupling.{coupling_answer, coupling_call};
 ghost use Rattle.exports.specs.Exports.{signed, outcome_told, signed_of, zero_of, value_or, reading_number, OpenedOf, stored, three_floats, Exported};
@@ -13,8 +13,8 @@ ghost use Rattle.exports.specs.Exports.{signed, outcome_told, signed_of, zero_of
 use answers::Answer;
 use answers::expectation::Expectation;
 use answers::refusal::Refusal;
-use matrices::coupling::Coupling;
-use sheet::{Reading, Sheet, read_sheet};
+use matrices::coupling::{Coupling, KSParams};
+use sheet::{Reading, Sheet, sheet_read};
 
 // A value, or the refusal, which is not 0.
 #[derive(Clone, Copy)]
@@ -79,6 +79,24 @@ pub fn told_result(answer: Result<usize, Refusal>) -> Told
     }
 }
 
+// One signed number for a value or a refusal.
+#[tactic(auto, unfolding(crate::specs::Exports::signed))]
+pub fn signed_result(answer: Result<usize, Refusal>) -> i64
+    requires { IfOk answer (λ n. n < 2 ^ 31) }
+    ensures { result ≡ signed (answer_of answer) }
+{
+    match answer {
+        Ok(number) => value(number),
+        Err(refusal) => signed_refusal(refusal),
+    }
+}
+
+pub fn signed_refusal(refusal: Refusal) -> i64
+    ensures { result ≡ neg_ℤ (pos (refusal_number refusal)) }
+{
+    refused(refusal.number())
+}
+
 // The refusal of a reading, or 0.
 pub fn refusal(answer: Reading) -> u8
     ensures { result ≡ reading_number answer }
@@ -99,7 +117,7 @@ pub struct Opened {
 pub fn open(sheet: &[u8]) -> Opened
     ensures { OpenedOf sheet.now result }
 {
-    let read = read_sheet(sheet);
+    let read = sheet_read(sheet);
     let answer = read.answer;
     let number = refusal(answer);
     let s = read.sheet;
@@ -132,5 +150,32 @@ pub fn store_expectation(answer: Expectation, expectation: &mut f64) -> i64
             0
         }
         Expectation::Refused(number) => refused(number),
+    }
+}
+
+// The value of an answer goes to the place that is lent for it: 0.
+#[tactic(auto, unfolding(crate::specs::Exports::signed, crate::specs::Exports::zero_of, crate::specs::Exports::value_or))]
+pub fn store_value<T: Copy>(answer: Result<T, Refusal>, place: &mut T) -> i64
+    ensures { (result ≡ signed (zero_of (answer_of answer))) × (place.new ≡ value_or (answer_of answer) place.old) }
+{
+    match answer {
+        Ok(x) => {
+            *place = x;
+            0
+        }
+        Err(refusal) => signed_refusal(refusal),
+    }
+}
+
+// The same of a coupling, which goes to three floats.
+pub fn store_params(params: Result<KSParams, Refusal>, floats: &mut [f64; 3]) -> i64
+    ensures { (g : Float) (own : KSParams) → Answered (coupling_call g own) (answer_of params) none_lent → Exported (stored (coupling_call g own) three_floats floats.old) result floats.new }
+{
+    match params {
+        Ok(p) => {
+            *floats = [p.g_squared, p.electric, p.magnetic];
+            0
+        }
+        Err(refusal) => signed_refusal(refusal),
     }
 }

@@ -3,14 +3,14 @@ use Prim.Native.Nat.{ℕ, ◌+◌, ◌<◌, ◌≤◌}
 use mathlib.Core.List.{List, [], ◌∷◌, ◌++◌}
 use mathlib.Core.Bool.{not}
 use mathlib.Core.Path.{◌≡◌, refl, sym, ap, ◌∙◌}
-use native.Mathlib.Numerals.{add-one}
 use native.Mathlib.Omega.{arith}
 use borrow.Author.Tests.{eq-eqb, ne_eqb}
 use lib.Dec.{eqb}
 use lib.ListN.{get_or, length, set, take, replicate, get_or-replicate, length-set}
-use lib.Seq.{length-take-le, take-suc-set, get_or-take}
+use lib.Seq.{length-take-le, get_or-take}
 use Rattle.mathematics.specs.Lists.{listed}
 use Rattle.mathematics.specs.Counting.{below, keep}
+use Rattle.mathematics.proofs.Front.{take_next}
 use Rattle.mathematics.proofs.Flags.{flag_more, flag_zero}
 use Rattle.mathematics.proofs.Below.{keep_next, keep_skip, keep_agree}
 use Rattle.complex.specs.declared.SimplicialComplex.{SimplicialComplex}
@@ -21,7 +21,7 @@ use Rattle.complex.specs.Judge.{refusal, Accepted}
 use Rattle.complex.specs.Tree.{search_of, Searchable, Searched}
 use Rattle.complex.proofs.Simplices.{simplices_length}
 use Rattle.complex.proofs.Accepting.{accepted}
-use Rattle.gauss_law.specs.declared.spanning.FreeEdges.{FreeEdges}
+use Rattle.numbers.specs.declared.edge_list.EdgeList.{EdgeList}
 use Rattle.gauss_law.specs.Listing.{tree_edges, free_edges}
 use Rattle.gauss_law.specs.Spanning.{Spanned, Flagged, Unflagged, FreeOf}
 use Rattle.gauss_law.proofs.Accepted.{accepted_ends, accepted_spans}
@@ -31,41 +31,31 @@ pub none_flagged : Flagged (replicate 63 0) []
 unfolding listed
 none_flagged = record { long = refl; flag = λ e h. get_or-replicate 63 e 0 0 h }
 
-pub one_flagged : (flags l : List ℕ) (e : ℕ) → e < 63 → Flagged flags l → Flagged (set flags e 1) (l ++ (e ∷ []))
-one_flagged flags l e inside f =
-    record {
-      long = length-set flags e 1 ∙ f.long;
-      flag = λ v h. flag_more flags l e (rw f.long inside) v (f.flag v h);
-    }
+pub one_flagged : (flags l : List ℕ) (i w : ℕ) → w ≡ get_or l i 0 → i < length l → get_or l i 0 < 63 → Flagged flags (take i l) → Flagged (set flags w 1) (take (i + 1) l)
+one_flagged flags l i w is more inside f =
+    rw (is, take_next l i 0 more)
+    (record {
+      long = length-set flags (get_or l i 0) 1 ∙ f.long;
+      flag = λ v h. flag_more flags (take i l) (get_or l i 0) (rw f.long inside) v (f.flag v h);
+    })
 
 -- ---- the numbers that are not flagged
-pub none_unflagged : (flags : List ℕ) → Unflagged flags 0 (record { list = replicate 63 0; count = 0 })
+pub none_unflagged : (flags : List ℕ) (f : EdgeList) → f.count ≡ 0 → Unflagged flags 0 f
 unfolding keep below
-none_unflagged flags = record { long = refl; few = omega arith; stands = refl }
+none_unflagged flags f none = record { few = omega arith; stands = rw none }
 
-module _ (flags : List ℕ) (e : ℕ) (f : FreeEdges) (h : Unflagged flags e f) where
+module _ (flags : List ℕ) (e : ℕ) (f : EdgeList) (h : Unflagged flags e f) where
   pub unflagged_same : (get_or flags e 0 ≡ 0 → ⊥) → Unflagged flags (e + 1) f
   unflagged_same n =
       let few = h.few in
-      record {
-        long = h.long;
-        few = omega arith;
-        stands = h.stands ∙ sym (keep_skip (λ e. eqb (get_or flags e 0) 0) e (ne_eqb (get_or flags e 0) 0 n));
-      }
+      record { few = omega arith; stands = h.stands ∙ sym (keep_skip (λ e. eqb (get_or flags e 0) 0) e (ne_eqb (get_or flags e 0) 0 n)) }
 
-  pub unflagged_more : e < 63 → get_or flags e 0 ≡ 0 → Unflagged flags (e + 1) (record { list = set f.list f.count e; count = f.count + 1 })
-  unflagged_more inside z =
+  pub unflagged_more : (g : EdgeList) → g.count ≡ f.count + 1 → take g.count g.list ≡ take f.count f.list ++ (e ∷ []) → get_or flags e 0 ≡ 0 → Unflagged flags (e + 1) g
+  unflagged_more g longer last z =
       let few = h.few in
-      let long = h.long in
-      let room : f.count < length f.list = omega arith in
       record {
-        long = length-set f.list f.count e ∙ h.long;
         few = omega arith;
-        stands =
-            ap (λ k. take k (set f.list f.count e)) (add-one f.count)
-            ∙ take-suc-set f.list f.count e room
-            ∙ ap (λ l. l ++ (e ∷ [])) h.stands
-            ∙ sym (keep_next (λ e. eqb (get_or flags e 0) 0) e (eq-eqb (get_or flags e 0) 0 z));
+        stands = last ∙ ap (λ l. l ++ (e ∷ [])) h.stands ∙ sym (keep_next (λ e. eqb (get_or flags e 0) 0) e (eq-eqb (get_or flags e 0) 0 z));
       }
 
 -- ---- an accepted record can be searched
@@ -108,30 +98,26 @@ module _ (c : SimplicialComplex) (t : SpanningTree) (s : Spanned c t) where
       let room = s.searched.fits.room in
       sym (length-take-le t.found t.tree_edges (omega arith)) ∙ ap length spanned_tree
 
-  pub spanned_numbered : (i : ℕ) → i < t.found → get_or t.tree_edges i 0 < 63
+  pub spanned_numbered : (i : ℕ) → i < length (take t.found t.tree_edges) → get_or (take t.found t.tree_edges) i 0 < 63
   unfolding tree_edges complex_of
-  spanned_numbered i h =
+  spanned_numbered =
       let few = good.few_edges in
-      let k : get_or (tree_edges (complex_of c)) i 0 < length (complex_of c).edges = (accepted_spans (complex_of c) good).numbered i (rw (← spanned_found) h) in
-      let e : get_or (tree_edges (complex_of c)) i 0 ≡ get_or t.tree_edges i 0 = ap (λ l. get_or l i 0) (sym spanned_tree) ∙ get_or-take t.found t.tree_edges i 0 h in
-      omega arith
+      rw spanned_tree (λ i h. let k = (accepted_spans (complex_of c) good).numbered i h in omega arith)
 
-  pub spanned_free : (flags : List ℕ) (f : FreeEdges) → Flagged flags (take t.found t.tree_edges) → Unflagged flags c.n_edges f → FreeOf (complex_of c) f
+  pub spanned_free : (flags : List ℕ) (f : EdgeList) → Flagged flags (take t.found t.tree_edges) → Unflagged (take c.n_edges flags) c.n_edges f → length f.list ≡ 63 → FreeOf (complex_of c) f
   unfolding free_edges
-  spanned_free flags f marked rest =
+  spanned_free flags f marked rest long =
       let few = spanned_edges in
       let r = rest.few in
-      let long = rest.long in
-      let all_few : f.count ≤ 63 = omega arith in
       record {
-        long = rest.long;
+        long = long;
         count = sym (length-take-le f.count f.list (omega arith)) ∙ ap length same;
-        few = all_few;
+        few = omega arith;
         stands = same;
       }
     where
-      each : (e : ℕ) → e < c.n_edges → eqb (get_or flags e 0) 0 ≡ not (listed eqb e (tree_edges (complex_of c)))
-      each e h = rw (← spanned_tree) (flag_zero _ e _ (marked.flag e (let few = spanned_edges in omega arith)))
+      each : (e : ℕ) → e < c.n_edges → eqb (get_or (take c.n_edges flags) e 0) 0 ≡ not (listed eqb e (tree_edges (complex_of c)))
+      each e h = rw (get_or-take c.n_edges flags e 0 h, ← spanned_tree) (flag_zero _ e _ (marked.flag e (let few = spanned_edges in omega arith)))
 
       same : take f.count f.list ≡ keep (λ e. not (listed eqb e (tree_edges (complex_of c)))) (below (length (complex_of c).edges))
-      same = rest.stands ∙ keep_agree (λ e. eqb (get_or flags e 0) 0) (λ e. not (listed eqb e (tree_edges (complex_of c)))) c.n_edges each ∙ rw (edges_long c)
+      same = rest.stands ∙ keep_agree (λ e. eqb (get_or (take c.n_edges flags) e 0) 0) (λ e. not (listed eqb e (tree_edges (complex_of c)))) c.n_edges each ∙ rw (edges_long c)

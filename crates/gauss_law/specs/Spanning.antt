@@ -10,7 +10,7 @@ use Rattle.complex.specs.Complex.{Complex, complex_of}
 use Rattle.complex.specs.Search.{whole_search}
 use Rattle.complex.specs.Judge.{complex_tests, refusal}
 use Rattle.complex.specs.Tree.{Searched}
-use Rattle.gauss_law.specs.declared.spanning.FreeEdges.{FreeEdges}
+use Rattle.numbers.specs.declared.edge_list.EdgeList.{EdgeList}
 use Rattle.gauss_law.specs.Listing.{tree_edges, free_edges}
 
 -- 4, 7 to 9, then 15 where the list of tree edges or that of free edges has too few entries
@@ -41,13 +41,12 @@ pub record Flagged (flags l : List ℕ) : Type 0 where
   pub flag : (e : ℕ) → e < 63 → get_or flags e 0 ≡ cond (listed eqb e l) 1 0
 
 -- the numbers below m that are not flagged
-pub record Unflagged (flags : List ℕ) (m : ℕ) (f : FreeEdges) : Type 0 where
-  pub long : length f.list ≡ 63
+pub record Unflagged (flags : List ℕ) (m : ℕ) (f : EdgeList) : Type 0 where
   pub few : f.count ≤ m
   pub stands : take f.count f.list ≡ keep (λ e. eqb (get_or flags e 0) 0) (below m)
 
 -- the free edges of a complex
-pub record FreeOf (c : Complex) (f : FreeEdges) : Type 0 where
+pub record FreeOf (c : Complex) (f : EdgeList) : Type 0 where
   pub long : length f.list ≡ 63
   pub count : f.count ≡ length (free_edges c)
   pub few : f.count ≤ 63

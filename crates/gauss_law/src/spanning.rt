@@ -1,100 +1,78 @@
 // The spanning tree of a complex, and the edges that it leaves free.
-ghost use Rattle.std.specs.Prelude.{◌≡◌, ◌++◌, ℕ, ◌+◌, ◌<◌, ◌≤◌, get_or, length, take, drop};
+ghost use Rattle.std.specs.Prelude.{◌≡◌, ◌++◌, ℕ, ◌+◌, ◌<◌, ◌≤◌, get_or, length, drop};
 ghost use Rattle.complex.specs.Complex.{complex_of};
 ghost use Rattle.mathematics.specs.Calls.{Answered};
-ghost use Rattle.answers.specs.Answer.{number_answer};
+ghost use Rattle.answers.specs.Refusal.{answer_of};
 ghost use Rattle.gauss_law.specs.Spanning.{Spanned, Flagged, Unflagged, FreeOf, tree_call};
 
-use acceptance::judge;
-use answers::Answer;
+use acceptance::accept;
+use answers::refusal::Refusal;
 use complex::SimplicialComplex;
 use complex::search::{SpanningTree, search};
+use numbers::edge_list::EdgeList;
 use numbers::sizes::MOST_EDGES;
-use numbers::{byte, u8_to_u32};
-
-// The count free edges stand first in the list, by rising number.
-#[derive(Clone, Copy)]
-pub struct FreeEdges {
-    pub list: [u8; MOST_EDGES],
-    pub count: usize,
-}
 
 // The tree edges have 1 in the table, all others 0.
-fn tree_flags(tree_edges: &[u8; MOST_EDGES], found: usize) -> [u8; MOST_EDGES]
-    requires { (length tree_edges.now ≡ 63) × (found ≤ 63) × ((i : ℕ) → i < found → get_or tree_edges.now i 0 < 63) }
-    ensures { Flagged result (take found tree_edges.now) }
+fn tree_flags(tree: &[u8]) -> [u8; MOST_EDGES]
+    requires { (i : ℕ) → i < length tree.now → get_or tree.now i 0 < 63 }
+    ensures { Flagged result tree.now }
 {
     let mut flags = [0u8; MOST_EDGES];
-    for i in 0..found {
-        flags[byte(tree_edges[i])] = 1;
+    for e in tree {
+        flags[usize::from(*e)] = 1;
     }
     flags
 }
 
-// Edge e goes last where it is not flagged.
-fn note_free(flags: &[u8; MOST_EDGES], free: FreeEdges, e: usize) -> FreeEdges
-    requires { (e < 63) × Unflagged flags.now e free }
-    ensures { Unflagged flags.now (e + 1) result }
+// The edges that are not flagged, by rising number.
+#[tactic(auto, using(crate::proofs::Spanned::none_unflagged, crate::proofs::Spanned::unflagged_same, crate::proofs::Spanned::unflagged_more))]
+fn unflagged(flags: &[u8]) -> EdgeList
+    requires { length flags.now ≤ 63 }
+    ensures { Unflagged flags.now (length flags.now) result }
 {
-    if flags[e] != 0 {
-        return free;
-    }
-    let at = free.count;
-    let mut more = free;
-    more.list[at] = e as u8;
-    more.count = at + 1;
-    more
-}
-
-fn unflagged(flags: &[u8; MOST_EDGES], n_edges: usize) -> FreeEdges
-    requires { n_edges ≤ 63 }
-    ensures { Unflagged flags.now n_edges result }
-{
-    let mut free = FreeEdges {
-        list: [0; MOST_EDGES],
-        count: 0,
-    };
-    for e in 0..n_edges {
-        free = note_free(flags, free, e);
+    let mut free = EdgeList::new();
+    for (e, flag) in flags.iter().enumerate() {
+        if *flag == 0 {
+            free.push(e as u8);
+        }
     }
     free
 }
 
 // The free edges of an accepted record, by the tree that its search found.
-pub fn free_edges(c: SimplicialComplex, tree: SpanningTree) -> FreeEdges
+pub fn free_edges(c: SimplicialComplex, tree: SpanningTree) -> EdgeList
     requires { Spanned c tree }
     ensures { FreeOf (complex_of c) result }
 {
-    let flags = tree_flags(&tree.tree_edges, tree.found);
-    unflagged(&flags, c.n_edges)
+    let flags = tree_flags(&tree.tree_edges[..tree.found]);
+    unflagged(&flags[..c.n_edges])
 }
 
-// The first numbers of a list go to the front of a lent one.
-fn copy_first(from: &[u8; MOST_EDGES], count: usize, to: &mut [u32])
-    requires { (length from.now ≡ 63) × (count ≤ 63) × (count ≤ length to.old) }
-    ensures { to.new ≡ take count from.now ++ drop count to.old }
+// A list goes to the front of a lent one.
+fn copy_first(from: &[u8], to: &mut [u32])
+    requires { length from.now ≤ length to.old }
+    ensures { to.new ≡ from.now ++ drop (length from.now) to.old }
 {
-    for i in 0..count {
-        to[i] = u8_to_u32(from[i]);
+    for (i, e) in from.iter().enumerate() {
+        to[i] = u32::from(*e);
     }
 }
 
 // The tree edges of a record as the search finds them, and its free edges by rising number. The record is judged first.
-pub fn spanning_tree(c: SimplicialComplex, tree: &mut [u32], free: &mut [u32]) -> Answer
-    ensures { Answered (tree_call (complex_of c) tree.old free.old) (number_answer result) (tree.new, free.new) }
+pub fn spanning_tree(
+    c: SimplicialComplex,
+    tree: &mut [u32],
+    free: &mut [u32],
+) -> Result<usize, Refusal>
+    ensures { Answered (tree_call (complex_of c) tree.old free.old) (answer_of result) (tree.new, free.new) }
 {
-    let number = judge(c);
-    if number != 0 {
-        return Answer::Refused(number);
+    accept(c)?;
+    let spanning = search(&c.edges, c.n_vertices, c.n_edges);
+    let rest = free_edges(c, spanning);
+    if (tree.len() < spanning.found) | (free.len() < rest.len()) {
+        return Err(Refusal::NoRoom);
     }
-    let t = search(&c.edges, c.n_vertices, c.n_edges);
-    let f = free_edges(c, t);
-    let found = t.found;
-    let count = f.count;
-    if (tree.len() < found) | (free.len() < count) {
-        return Answer::Refused(15);
-    }
-    copy_first(&t.tree_edges, found, tree);
-    copy_first(&f.list, count, free);
-    Answer::Number(count)
+    copy_first(&spanning.tree_edges[..spanning.found], tree);
+    copy_first(rest.as_slice(), free);
+    Ok(rest.len())
 }

@@ -12,7 +12,7 @@ use Rattle.mathematics.proofs.Puts.{put_one, put_more, put_length}
 use Rattle.complex.specs.declared.SimplicialComplex.{SimplicialComplex}
 use Rattle.complex.specs.Complex.{Complex, complex_of}
 use Rattle.complex.proofs.Simplices.{start_at, end_at}
-use Rattle.gauss_law.specs.declared.spanning.FreeEdges.{FreeEdges}
+use Rattle.numbers.specs.declared.edge_list.EdgeList.{EdgeList}
 use Rattle.gauss_law.specs.Spanning.{FreeOf}
 use Rattle.gauss_law.proofs.Accepted.{accepted_ends}
 use Rattle.gauss_law.proofs.Free.{free_below}
@@ -32,7 +32,7 @@ pub record EndsRead (c : SimplicialComplex) (f a b : ℕ) : Type 0 where
   pub second : b ≡ get_or c.edges (2 * f + 1) 0
 
 -- e is the j-th free edge in a list of them
-pub record FreeRead (free : FreeEdges) (j e : ℕ) : Type 0 where
+pub record FreeRead (free : EdgeList) (j e : ℕ) : Type 0 where
   pub more : j < free.count
   pub is : e ≡ get_or free.list j 0
 
@@ -84,7 +84,7 @@ module _ {c : SimplicialComplex} {r : TreeParents} (h : Parented c r) where
           ∙ ap (put out at) (sym (ap (map g) loop_is ∙ map-append g (path K a b) ((f, negsuc 0) ∷ [])))
 
   -- ---- the free edges
-  module _ {free : FreeEdges} (of : FreeOf K free) where
+  module _ {free : EdgeList} (of : FreeOf K free) where
     -- the steps of the first j loops
     pub steps_fit : {j : ℕ} → j ≤ free.count → length (loop_steps K j) ≤ 3969
     steps_fit {j} l = steps_most K (good h) j (rw (← of.count) l)

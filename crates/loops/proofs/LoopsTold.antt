@@ -17,7 +17,7 @@ use Rattle.mathematics.proofs.Refusals.{first_stops}
 use Rattle.mathematics.proofs.Tests.{or_fell, or_false}
 use Rattle.complex.specs.Complex.{Complex}
 use Rattle.complex.specs.Judge.{complex_tests, refusal}
-use Rattle.gauss_law.specs.declared.spanning.FreeEdges.{FreeEdges}
+use Rattle.numbers.specs.declared.edge_list.EdgeList.{EdgeList}
 use Rattle.gauss_law.specs.Listing.{free_edges}
 use Rattle.gauss_law.specs.Spanning.{FreeOf}
 use Rattle.loops.specs.Climbing.{StepsFit, LoopsPut}
@@ -29,7 +29,7 @@ abbrev pub short : ℕ → ℕ → ℕ → ℕ → ℕ → Bool
 short starts edges directions count total = (ltb starts (count + 1) || ltb edges total) || ltb directions total
 
 -- the code measures by what it has counted
-module _ (c : Complex) (f : FreeEdges) (of : FreeOf c f) (total : ℕ) (counts : total ≡ length (all_steps c)) where
+module _ (c : Complex) (f : EdgeList) (of : FreeOf c f) (total : ℕ) (counts : total ≡ length (all_steps c)) where
   pub room_told : (starts edges directions : ℕ) → short starts edges directions (length (free_edges c)) (length (all_steps c)) ≡ short starts edges directions f.count total
   room_told starts edges directions = rw (of.count, counts)
 

@@ -13,7 +13,8 @@ use acceptance::judge;
 use answers::Answer;
 use complex::SimplicialComplex;
 use complex::search::search;
-use gauss_law::spanning::{FreeEdges, free_edges};
+use gauss_law::spanning::free_edges;
+use numbers::edge_list::EdgeList;
 use numbers::sizes::MOST_EDGES;
 use numbers::{byte, edge_end, edge_start};
 
@@ -31,7 +32,7 @@ fn loop_length(c: SimplicialComplex, parents: TreeParents, f: usize) -> usize
 }
 
 // The number of steps of all loops.
-fn total_steps(c: SimplicialComplex, parents: TreeParents, free: FreeEdges) -> usize
+fn total_steps(c: SimplicialComplex, parents: TreeParents, free: EdgeList) -> usize
     requires { Parented c parents × FreeOf (complex_of c) free }
     ensures { result ≡ length (all_steps (complex_of c)) }
 {
@@ -68,7 +69,7 @@ fn put_loop(
 fn write_loops(
     c: SimplicialComplex,
     parents: TreeParents,
-    free: FreeEdges,
+    free: EdgeList,
     starts: &mut [u32],
     edges: &mut [u8],
     directions: &mut [i8],

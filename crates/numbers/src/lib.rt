@@ -1,6 +1,7 @@
 // Casts, comparisons and small sums of numbers, and the ends of an edge.
 #![tactic(auto)]
 
+pub mod edge_list;
 pub mod sizes;
 
 ghost use Rattle.std.specs.Prelude.{◌≡◌, ◌+◌, ◌*◌, ◌^◌, ◌<◌, ◌≤◌, min, max, get_or, pos, ◌+ℤ◌, ◌-ℤ◌, nat_abs};

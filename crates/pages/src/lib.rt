@@ -20,7 +20,7 @@ use lines::{write_first_line, write_refused_line};
 use numbers::byte;
 use numbers::sizes::MOST_EDGES;
 use runs::count_states;
-use sheet::{Reading, Sheet, read_sheet};
+use sheet::{Reading, Sheet, sheet_read};
 use states::write_lines;
 use walker::tables::{Walker, prepare};
 
@@ -141,7 +141,7 @@ pub fn fill_begin(out: &mut [u8], bytes: &[u8]) -> Begun
     requires { 400 ≤ length out.old }
     ensures { Begins bytes.now out.new result }
 {
-    let read = read_sheet(bytes);
+    let read = sheet_read(bytes);
     let answer = read.answer;
     match answer {
         Reading::Accepted => fill_first(out, read.sheet),

@@ -5,23 +5,25 @@ use mathlib.Core.List.{List, [], ◌∷◌, ◌++◌, flatten, append_assoc}
 use mathlib.Core.Path.{◌≡◌, refl, sym, ap, ◌∙◌}
 use mathlib.Core.Bool.{Bool, true, false, not, cond}
 use native.Mathlib.Omega.{arith}
-use borrow.Author.Tests.{eqb-true, eq-eqb, ltb-false, le-ltb}
+use borrow.Author.Tests.{eqb-true, eq-eqb, ne_eqb, ltb-false, le-ltb}
 use lib.ListN.{get_or, length, take, drop, replicate, length-append}
 use lib.Seq.{paste, length-take-le, take_all, take_at, drop-append-add, drop-drop}
 use lib.Dec.{eqb, ltb}
 use Rattle.mathematics.specs.Writing.{front}
 use Rattle.mathematics.specs.Lists.{same}
 use Rattle.mathematics.specs.Tests.{every_entry}
-use Rattle.mathematics.specs.Refusals.{first, outcome, written}
-use Rattle.mathematics.proofs.Refusals.{numbered, first_stops, first_goes_on}
+use Rattle.mathematics.specs.Refusals.{first, value, refused, written}
+use Rattle.mathematics.specs.Calls.{Answered, none_lent}
+use Rattle.mathematics.proofs.Refusals.{numbered, first_goes_on}
+use Rattle.mathematics.proofs.Calls.{among, refuses, ends}
+use Rattle.answers.proofs.Outcomes.{refused_number, refused_some, value_none}
 use Rattle.complex.specs.Complex.{simplices, complex_of}
 use Rattle.complex.specs.Judge.{counts_right, shape_tests, refusal}
 use Rattle.complex.proofs.Simplices.{simplices_length}
 use Rattle.complex.proofs.Flattened.{flatten_simplices}
 use Rattle.sheet.specs.declared.Sheet.{Sheet}
-use Rattle.sheet.specs.declared.SheetRead.{SheetRead}
 use Rattle.sheet.specs.declared.Reading.TheVariants.{Accepted}
-use Rattle.sheet.specs.Sheet.{word, padded, sheet_in, blank, header_tests, reading_refusal, read_answer, read_of, reading_answer, reading_call, ReadTold, refused_of, header_bytes, sheet_bytes}
+use Rattle.sheet.specs.Sheet.{word, padded, sheet_in, blank, header_tests, reading_refusal, reading_tests, read_answer, read_of, reading_answer, reading_call, ReadTold, refused_of, header_bytes, sheet_bytes}
 
 -- ---- the header
 pub record Header (b : List ℕ) : Type 0 where
@@ -61,14 +63,6 @@ of_header b h =
 
 -- ---- reading
 module _ (b : List ℕ) where
-  pub header_refused : (k : ℕ) → k ≡ first (header_tests b) → (k ≡ 0 → ⊥) → refused_of k ≡ read_of b
-  unfolding read_of refused_of reading_refusal read_answer written
-  header_refused zero e some = absurd (some refl)
-  header_refused (suc k) e some =
-      let stop : first (header_tests b ++ shape_tests (complex_of (sheet_in b).complex)) ≡ suc k =
-      first_stops (header_tests b) (shape_tests (complex_of (sheet_in b).complex)) (λ (z : first (header_tests b) ≡ 0). some (e ∙ z)) ∙ sym e in
-      rw stop
-
   -- after the header, the judge of the complex decides
   pub shape_decides : first (header_tests b) ≡ 0 → reading_refusal b ≡ refusal (complex_of (sheet_in b).complex)
   unfolding reading_refusal refusal complex_of sheet_in first header_tests numbered every_entry
@@ -79,24 +73,33 @@ module _ (b : List ℕ) where
       rw (simplices_length 2 c.edges (get_or b 6 0), simplices_length 3 c.triangles (word b 7)) (header_of b h).counts_pass in
       on ∙ rw right
 
-  pub shape_refused : first (header_tests b) ≡ 0 → (k : ℕ) → k ≡ refusal (complex_of (sheet_in b).complex) → (k ≡ 0 → ⊥) → refused_of k ≡ read_of b
-  unfolding read_of refused_of read_answer written
-  shape_refused h zero e some = absurd (some refl)
-  shape_refused h (suc k) e some = let stop : reading_refusal b ≡ suc k = shape_decides h ∙ sym e in rw stop
+  pub header_refuses : {k : ℕ} → k ≡ first (header_tests b) → (k ≡ 0 → ⊥) → Answered (reading_call b) (refused k) none_lent
+  unfolding reading_call
+  header_refuses {k} e some = refuses (reading_call b) (among (header_tests b) _ e some) (ne_eqb k 0 some)
+
+  pub shape_refuses : first (header_tests b) ≡ 0 → {k : ℕ} → k ≡ refusal (complex_of (sheet_in b).complex) → (k ≡ 0 → ⊥) → Answered (reading_call b) (refused k) none_lent
+  unfolding reading_call reading_refusal
+  shape_refuses h {k} e some = refuses (reading_call b) (record { number = shape_decides h ∙ sym e }) (ne_eqb k 0 some)
+
+  pub sheet_read : first (header_tests b) ≡ 0 → refusal (complex_of (sheet_in b).complex) ≡ 0 → Answered (reading_call b) (value (sheet_in b)) none_lent
+  unfolding reading_call reading_refusal
+  sheet_read h e = ends (reading_call b) (record { number = shape_decides h ∙ e }) refl refl tt
 
   pub read_accepted : first (header_tests b) ≡ 0 → refusal (complex_of (sheet_in b).complex) ≡ 0 → record { answer = Accepted; sheet = sheet_in b } ≡ read_of b
   unfolding read_of read_answer written
   read_accepted h e = let none : reading_refusal b ≡ 0 = shape_decides h ∙ e in rw none
 
--- what the answer says
-read_says : (k : ℕ) (s : Sheet) → reading_answer (read_answer k) (written k s blank) ≡ outcome k s
-unfolding reading_answer read_answer written outcome
-read_says zero s = refl
-read_says (suc k) s = refl
+  pub told_read : {s : Sheet} → Answered (reading_call b) (value s) none_lent → ReadTold b (record { answer = Accepted; sheet = s })
+  unfolding reading_call reading_answer reading_refusal read_of read_answer written
+  told_read {s} h = let v = value_none s _ _ h.answer in record { told = h; is = rw (v.0, v.1) }
 
-pub read_told : (b : List ℕ) (r : SheetRead) → r ≡ read_of b → ReadTold b r
-unfolding read_of reading_call reading_refusal
-read_told b r is = record { told = record { answer = rw is (read_says (reading_refusal b) (sheet_in b)); lists = refl; known = λ z. tt }; is = is }
+  pub told_refused : (n : ℕ) → Answered (reading_call b) (refused n) none_lent → ReadTold b (refused_of n)
+  unfolding reading_call reading_answer reading_refusal read_of read_answer written refused_of
+  told_refused n h = record { told = h; is = go (first (reading_tests b)) refl n (refused_number n _ _ h.answer) (refused_some n _ _ h.answer) }
+    where
+      go : (k : ℕ) → first (reading_tests b) ≡ k → (n : ℕ) → n ≡ k → (n ≡ 0 → ⊥) → refused_of n ≡ read_of b
+      go k e zero is some = absurd (some refl)
+      go k e (suc n) is some = let f : first (reading_tests b) ≡ suc n = e ∙ sym is in rw f
 
 -- ---- lists that are copied
 drop_zeros : (n k : ℕ) → k ≤ n → ◌≡◌ {A = List ℕ} (drop k (replicate n 0)) (replicate (n - k) 0)

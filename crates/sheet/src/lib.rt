@@ -6,12 +6,14 @@ ghost use Rattle.std.proofs.Math.Seq.{paste};
 ghost use Rattle.mathematics.specs.Writing.{front};
 ghost use Rattle.mathematics.specs.Refusals.{first};
 ghost use Rattle.complex.specs.Complex.{complex_of};
-ghost use Rattle.mathematics.specs.Calls.{Answered};
+ghost use Rattle.mathematics.specs.Calls.{Answered, none_lent};
 ghost use Rattle.answers.specs.Answer.{number_answer};
-ghost use Rattle.sheet.specs.Sheet.{word, padded, sheet_in, header_tests, ReadTold, refused_of, header_bytes, sheet_bytes, Writable, writing_call};
+ghost use Rattle.answers.specs.Refusal.{answer_of, judged};
+ghost use Rattle.sheet.specs.Sheet.{word, padded, sheet_in, header_tests, reading_call, ReadTold, refused_of, header_bytes, sheet_bytes, Writable, writing_call};
 
-use acceptance::{counts_right, judge, judge_truncated};
+use acceptance::{accept, counts_right, judge_truncated};
 use answers::Answer;
+use answers::refusal::Refusal;
 use complex::SimplicialComplex;
 use numbers::byte;
 use numbers::sizes::{EDGE_ENTRIES, LARGEST_TRUNCATION, SHEET_HEADER, TRIANGLE_ENTRIES};
@@ -37,38 +39,40 @@ pub struct SheetRead {
 }
 
 // The number of two bytes from i on, low byte first.
+#[tactic(auto, unfolding(crate::specs::Sheet::word))]
 fn word(b: &[u8], i: usize) -> usize
     requires { i + 1 < length b.now }
     ensures { (result ≡ word b.now i) × (result < 65536) }
 {
-    byte(b[i]) + 256 * byte(b[i + 1])
+    usize::from(u16::from_le_bytes([b[i], b[i + 1]]))
 }
 
-// What the first eleven bytes and the length say: the first of 1 to 6 that holds, or 0.
-fn judge_header(b: &[u8]) -> u8
-    ensures { result ≡ first (header_tests b.now) }
+// What the first eleven bytes and the length say: the first of 1 to 6 that refuses them.
+#[tactic(auto, using(crate::proofs::Headers::short_told, crate::proofs::Headers::mark_told, crate::proofs::Headers::version_told, crate::proofs::Headers::counts_told, crate::proofs::Headers::truncation_told, crate::proofs::Headers::length_told, crate::proofs::Headers::header_told))]
+fn judge_header(b: &[u8]) -> Result<(), Refusal>
+    ensures { judged result ≡ first (header_tests b.now) }
 {
     if b.len() < SHEET_HEADER {
-        return 1;
+        return Err(Refusal::ShortSheet);
     }
-    if !((b[0] == 71) & ((b[1] == 76) & (b[2] == 83))) {
-        return 2;
+    if !b.starts_with(b"GLS") {
+        return Err(Refusal::NoMark);
     }
     if word(b, 3) != 1 {
-        return 3;
+        return Err(Refusal::OtherVersion);
     }
-    let m = byte(b[6]);
+    let m = usize::from(b[6]);
     let t = word(b, 7);
-    if !counts_right(byte(b[5]), m, t) {
-        return 4;
+    if !counts_right(usize::from(b[5]), m, t) {
+        return Err(Refusal::WrongCounts);
     }
     if LARGEST_TRUNCATION < word(b, 9) {
-        return 5;
+        return Err(Refusal::LargeTruncation);
     }
     if b.len() != SHEET_HEADER + 2 * m + 3 * t {
-        return 6;
+        return Err(Refusal::WrongLength);
     }
-    0
+    Ok(())
 }
 
 // Entries from start on go to place at of the lent list.
@@ -140,23 +144,26 @@ fn refused_sheet(number: u8) -> SheetRead
     }
 }
 
-// Reads a sheet: the first of 1 to 9 that holds, or the sheet.
-pub fn read_sheet(b: &[u8]) -> SheetRead
+// Reads a sheet, or tells the first of 1 to 9 that refuses it.
+pub fn read_sheet(b: &[u8]) -> Result<Sheet, Refusal>
+    ensures { Answered (reading_call b.now) (answer_of result) none_lent }
+{
+    judge_header(b)?;
+    let sheet = sheet_in(b);
+    accept(sheet.complex)?;
+    Ok(sheet)
+}
+
+// The same with zeros beside a refusal.
+pub fn sheet_read(b: &[u8]) -> SheetRead
     ensures { ReadTold b.now result }
 {
-    let header = judge_header(b);
-    if header != 0 {
-        return refused_sheet(header);
-    }
-    let sheet = sheet_in(b);
-    let complex = sheet.complex;
-    let number = judge(complex);
-    if number != 0 {
-        return refused_sheet(number);
-    }
-    SheetRead {
-        answer: Reading::Accepted,
-        sheet,
+    match read_sheet(b) {
+        Ok(sheet) => SheetRead {
+            answer: Reading::Accepted,
+            sheet,
+        },
+        Err(refusal) => refused_sheet(refusal.number()),
     }
 }
 

@@ -15,7 +15,7 @@ use Rattle.complex.specs.Complex.{Complex, complex_of}
 use Rattle.complex.specs.Judge.{refusal}
 use Rattle.complex.proofs.Accepting.{accepted}
 use Rattle.gauss_law.specs.Listing.{free_edges, listing}
-use Rattle.gauss_law.specs.declared.spanning.FreeEdges.{FreeEdges}
+use Rattle.numbers.specs.declared.edge_list.EdgeList.{EdgeList}
 use Rattle.gauss_law.specs.Spanning.{FreeOf}
 use Rattle.gauss_law.proofs.Free.{free_below, free_once}
 use Rattle.gauss_law.proofs.Spanned.{edges_long}
@@ -57,7 +57,7 @@ unfolding begin_of
 begin_part w = rw (sub-zero w.n_edges)
 
 -- ---- the tables are those of the record
-module _ (c : SimplicialComplex) (good : refusal (complex_of c) ≡ 0) (L : ℕ) (truncation : L ≤ 1000) (free : FreeEdges) (is : FreeOf (complex_of c) free) (cycles : List ℤ) (table : CycleTable (complex_of c) (length (free_edges (complex_of c))) cycles) where
+module _ (c : SimplicialComplex) (good : refusal (complex_of c) ≡ 0) (L : ℕ) (truncation : L ≤ 1000) (free : EdgeList) (is : FreeOf (complex_of c) free) (cycles : List ℤ) (table : CycleTable (complex_of c) (length (free_edges (complex_of c))) cycles) where
   pub cycles_may : CyclesFit c.n_edges free.count L cycles
   cycles_may =
       record {

@@ -8,15 +8,15 @@ use borrow.Author.Rules.{rules}
 use Rattle.pages.proofs.fill_begin.Statement.{statement}
 use Rattle.pages.proofs.fill_begin.Tie as tie
 
-read_sheet-read-requires : tie.Need-read_sheet-read-requires
-read_sheet-read-requires c κs = search rules
+sheet_read-read-requires : tie.Need-sheet_read-read-requires
+sheet_read-read-requires c κs = search rules
 
 enum_told-1 : tie.Need-enum_told-1
 enum_told-1 c = search rules
 
 fill_first-requires : tie.Need-fill_first-requires
 fill_first-requires c κs =
-    let read = c.before.before.before.read_sheet-read in
+    let read = c.before.before.before.sheet_read-read in
     let start = c.before.before.before.before.before.before in
     let ready = accepted_ready _ read.result read.ensures.is c.in-Accepted.is in
     (start.requires, ready.0, ready.1)
@@ -35,7 +35,7 @@ shape_of-out-in-Accepted c = search rules
 
 returns-in-Accepted : tie.Need-returns-in-Accepted
 returns-in-Accepted c =
-    let read = c.before.before.before.before.before.before.read_sheet-read in
+    let read = c.before.before.before.before.before.before.sheet_read-read in
     let accepted = c.in-Accepted.is in
     let told = c.before.before.fill_first.ensures in
     record {
@@ -49,7 +49,7 @@ shape_of-out-in-Refused c = search rules
 returns-in-Refused : tie.Need-returns-in-Refused
 returns-in-Refused c =
     let made = c.before.before.before in
-    let read = made.before.before.before.read_sheet-read in
+    let read = made.before.before.before.sheet_read-read in
     let refused = made.in-Refused.is in
     let e : refused_line made.byte.result ≡ basis_text made.before.before.before.before.before.before.args.bytes.now = ap refused_line made.byte.ensures ∙ refused_told _ read.result read.ensures.is _ refused in
     let told = c.before.before.fill_refused.ensures in
@@ -61,4 +61,4 @@ returns-in-Refused c =
 pub fill_begin_spec : {M : Type 1} → statement M
 fill_begin_spec =
     tie.close
-    (tie.spec read_sheet-read-requires enum_told-1 fill_first-requires enum_known-answer byte-requires fill_refused-requires shape_of-out-in-Accepted returns-in-Accepted shape_of-out-in-Refused returns-in-Refused)
+    (tie.spec sheet_read-read-requires enum_told-1 fill_first-requires enum_known-answer byte-requires fill_refused-requires shape_of-out-in-Accepted returns-in-Accepted shape_of-out-in-Refused returns-in-Refused)
