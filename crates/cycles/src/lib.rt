@@ -93,6 +93,7 @@ fn subtract_paths(
     requires { (j < 63) × Subtractable paths.now a b n_edges × (length cycles.old ≡ 3969) }
     ensures { cycles.new ≡ paste cycles.old (63 * j) (with_cycle (row n_edges paths.now a) (negsuc 0) (row n_edges paths.now b)) n_edges }
 {
+    // One row is written from two others, so each of the three is read or written at e.
     for e in 0..n_edges {
         cycles[MOST_EDGES * j + e] = paths[MOST_EDGES * a + e] - paths[MOST_EDGES * b + e];
     }
