@@ -7,13 +7,13 @@ ghost use Rattle.answers.specs.Answer.{number_answer};
 ghost use Rattle.answers.specs.Expectation.{expectation_answer};
 ghost use Rattle.answers.specs.Refusal.{refusal_number, answer_of};
 ghost use Rattle.matrices.specs.declared.coupling.KSParams.{KSParams};
-ghost use Rattle.matrices.specs.Coupling.{coupling_answer, coupling_call};
+ghost use Rattle.matrices.specs.Coupling.{coupling_call};
 ghost use Rattle.exports.specs.Exports.{signed, outcome_told, signed_of, zero_of, value_or, reading_number, OpenedOf, stored, three_floats, Exported};
 
 use answers::Answer;
 use answers::expectation::Expectation;
 use answers::refusal::Refusal;
-use matrices::coupling::{Coupling, KSParams};
+use matrices::coupling::KSParams;
 use sheet::{Reading, Sheet, sheet_read};
 
 // A value, or the refusal, which is not 0.
@@ -127,19 +127,6 @@ pub fn open(sheet: &[u8]) -> Opened
     }
 }
 
-// The coupling of an answer goes to three floats: 0.
-pub fn store(answer: Coupling, params: &mut [f64; 3]) -> i64
-    ensures { (g : Float) (own : KSParams) → Answered (coupling_call g own) (coupling_answer answer) none_lent → Exported (stored (coupling_call g own) three_floats params.old) result params.new }
-{
-    match answer {
-        Coupling::Params(p) => {
-            *params = [p.g_squared, p.electric, p.magnetic];
-            0
-        }
-        Coupling::Refused(number) => refused(number),
-    }
-}
-
 // The expectation of an answer goes to a float: 0.
 pub fn store_expectation(answer: Expectation, expectation: &mut f64) -> i64
     ensures { (result ≡ signed (zero_of (expectation_answer answer))) × (expectation.new ≡ value_or (expectation_answer answer) expectation.old) }
@@ -176,6 +163,6 @@ pub fn store_params(params: Result<KSParams, Refusal>, floats: &mut [f64; 3]) ->
             *floats = [p.g_squared, p.electric, p.magnetic];
             0
         }
-        Err(refusal) => signed_refusal(refusal),
+        Err(reason) => signed_refusal(reason),
     }
 }

@@ -9,13 +9,15 @@ use lib.Dec.{eqb}
 use lib.Ieee.{Float, nan, round, neg, le, lt, eq, of_int}
 use lib.ListN.{get_or, length, replicate, length-replicate, get_or-replicate}
 use Rattle.mathematics.specs.Tests.{every_entry}
-use Rattle.mathematics.specs.Refusals.{first}
+use Rattle.mathematics.specs.Refusals.{first, value, refused}
+use Rattle.mathematics.specs.Calls.{Answered, none_lent}
+use Rattle.mathematics.proofs.Calls.{none, here, past, refuses, ends}
 use Rattle.mathematics.proofs.Tests.{or_false, at_all}
 use Rattle.matrices.specs.Coupling.{float_of}
 use Rattle.matrices.specs.Weights.{bounded}
 use Rattle.matvec.specs.Product.{lengths_wrong, places_wrong, numbers_wrong, product_tests, Within}
 use Rattle.matvec.proofs.Validity.{fit_valid, passes_valid, valid_passes}
-use Rattle.held_rows.specs.Lists.{row_count, list_lengths_wrong, list_places_wrong, values_wrong, lists_tests, ValidLists}
+use Rattle.held_rows.specs.Lists.{row_count, list_lengths_wrong, list_places_wrong, values_wrong, lists_tests, lists_call, ValidLists}
 
 -- where a vector has one amplitude for each row, its test of the starts is that of the lists
 no_start : (n m : ℕ) → m ≡ n - 1 → not (eqb n (m + 1)) ≡ eqb n 0
@@ -73,3 +75,23 @@ module _ (starts columns : List ℕ) (values : List Float) where
       let long : length zeros ≡ row_count starts = length-replicate (row_count starts) (float_of 0) in
       let within : (i : ℕ) → i < length zeros → Within (float_of (2 ^ 32)) (get_or zeros i nan) = λ i h. rw (get_or-replicate (row_count starts) i (float_of 0) nan (omega arith)) zero_within in
       (taken_judged zeros (length zeros) (valid_passes starts columns values zeros (length zeros) (valid zeros long within) (omega arith))).1
+
+-- ---- what the judge answers, by the test that decides it
+module _ (starts columns : List ℕ) (values : List Float) where
+  pub lengths_told : list_lengths_wrong starts columns values ≡ true → Answered (lists_call starts columns values) (refused 12) none_lent
+  unfolding lists_call
+  lengths_told h = refuses _ (here h) refl
+
+  module _ (fit : list_lengths_wrong starts columns values ≡ false) where
+    pub places_told : list_places_wrong starts columns ≡ true → Answered (lists_call starts columns values) (refused 13) none_lent
+    unfolding lists_call
+    places_told h = refuses _ (past fit (here h)) refl
+
+    module _ (placed : list_places_wrong starts columns ≡ false) where
+      pub values_told : values_wrong values ≡ true → Answered (lists_call starts columns values) (refused 14) none_lent
+      unfolding lists_call
+      values_told h = refuses _ (past fit (past placed (here h))) refl
+
+      pub rows_told : values_wrong values ≡ false → Answered (lists_call starts columns values) (value (row_count starts)) none_lent
+      unfolding lists_call
+      rows_told h = ends _ (past fit (past placed (past h none))) refl refl (lists_valid starts columns values fit placed h)

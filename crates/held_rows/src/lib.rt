@@ -3,37 +3,35 @@
 
 ghost use Rattle.std.specs.Prelude.{◌≡◌, length};
 ghost use Rattle.mathematics.specs.Calls.{Answered, none_lent};
-ghost use Rattle.matvec.specs.Product.{product_answer, product_call};
+ghost use Rattle.answers.specs.Refusal.{answer_of};
+ghost use Rattle.matvec.specs.Product.{product_call};
 ghost use Rattle.held_rows.specs.Lists.{row_count, lists_call};
 
-use matvec::product::{Product, columns_right, matvec, starts_right, values_right};
+use answers::refusal::Refusal;
+use matvec::product::{columns_right, matvec, starts_right, values_right};
 
 // How many rows the starts tell of.
 pub fn count_rows(starts: &[u32]) -> usize
     ensures { result ≡ row_count starts.now }
 {
-    if starts.len() == 0 {
-        0
-    } else {
-        starts.len() - 1
-    }
+    starts.len().saturating_sub(1)
 }
 
 // What can be told of row lists without a vector: the number of rows, or the refusal of every product.
-pub fn judge_lists(starts: &[u32], columns: &[u32], values: &[f64]) -> Product
-    ensures { Answered (lists_call starts.now columns.now values.now) (product_answer result) none_lent }
+pub fn judge_lists(starts: &[u32], columns: &[u32], values: &[f64]) -> Result<usize, Refusal>
+    ensures { Answered (lists_call starts.now columns.now values.now) (answer_of result) none_lent }
 {
-    if (starts.len() == 0) | (columns.len() != values.len()) {
-        return Product::Refused(12);
+    if starts.is_empty() | (columns.len() != values.len()) {
+        return Err(Refusal::WrongListLength);
     }
     let n = count_rows(starts);
     if !starts_right(starts, n, columns.len()) | !columns_right(columns, n) {
-        return Product::Refused(13);
+        return Err(Refusal::OutOfRange);
     }
     if !values_right(values) {
-        return Product::Refused(14);
+        return Err(Refusal::WrongFloat);
     }
-    Product::Rows(n)
+    Ok(n)
 }
 
 // The three lists of a matrix, as lent. Each method takes the record apart and hands over to a function on plain lists.
@@ -71,15 +69,15 @@ impl<'s, 'c, 'v> RowLists<'s, 'c, 'v> {
     }
 
     // The number of rows, or why a product with any vector is refused.
-    pub fn judge(self) -> Product
-        ensures { Answered (lists_call self.entry.starts.now self.entry.columns.now self.entry.values.now) (product_answer result) none_lent }
+    pub fn judge(self) -> Result<usize, Refusal>
+        ensures { Answered (lists_call self.entry.starts.now self.entry.columns.now self.entry.values.now) (answer_of result) none_lent }
     {
         judge_lists(self.starts, self.columns, self.values)
     }
 
     // The product with a vector.
-    pub fn matvec<'x, 'y>(self, vector: &'x [f64], res: &'y mut [f64]) -> Product
-        ensures { Answered (product_call self.entry.starts.now self.entry.columns.now self.entry.values.now vector.now res.old) (product_answer result) res.new }
+    pub fn matvec<'x, 'y>(self, vector: &'x [f64], res: &'y mut [f64]) -> Result<usize, Refusal>
+        ensures { Answered (product_call self.entry.starts.now self.entry.columns.now self.entry.values.now vector.now res.old) (answer_of result) res.new }
     {
         matvec(self.starts, self.columns, self.values, vector, res)
     }
@@ -92,8 +90,8 @@ pub fn held_matvec(
     values: &[f64],
     vector: &[f64],
     res: &mut [f64],
-) -> Product
-    ensures { Answered (product_call starts.now columns.now values.now vector.now res.old) (product_answer result) res.new }
+) -> Result<usize, Refusal>
+    ensures { Answered (product_call starts.now columns.now values.now vector.now res.old) (answer_of result) res.new }
 {
     RowLists::new(starts, columns, values).matvec(vector, res)
 }

@@ -1,13 +1,17 @@
 -- Every coupling that is made passes the test of its own mode.
+use Prim.{tt}
 use Prim.Native.Nat.{ℕ, zero, suc, ◌+◌, ◌-◌, ◌*◌, ◌/◌, ◌%◌, ◌^◌, compare}
-use mathlib.Core.Bool.{Bool, true, false, cond, false≢true}
-use mathlib.Core.Path.{◌≡◌, refl}
+use mathlib.Core.Bool.{Bool, true, false, not, ◌&&◌, cond, false≢true}
+use mathlib.Core.Path.{◌≡◌, refl, ap}
 use borrow.Author.Tests.{eq-eqb}
 use lib.Dec.{eqb, ltb}
 use lib.IntN.{ℤ, pos, negsuc}
 use lib.Ieee.{Float, nan, inf, fin, binary64, low, emax, prec, unlike, size, nearest, odd, units, round, neg, mul, div, eq, le, lt, of_int, up, down}
+use Rattle.mathematics.specs.Refusals.{value, refused}
+use Rattle.mathematics.specs.Calls.{Answered, none_lent}
+use Rattle.mathematics.proofs.Calls.{none, here, past, refuses, ends}
 use Rattle.matrices.specs.declared.coupling.KSParams.{KSParams}
-use Rattle.matrices.specs.Coupling.{float_of, coupling_right, u1_params, su2_params, params_right, u1_right, su2_right}
+use Rattle.matrices.specs.Coupling.{float_of, coupling_right, coupling_call, u1_params, su2_params, params_right, u1_right, su2_right}
 
 -- ---- a number is equal to itself
 number : Float → Bool
@@ -95,3 +99,30 @@ su2_made (fin s m e) h =
     right_own (su2_params (fin s m e)) h
     (over_number (mul binary64 (float_of 3) (fin s m e)) false (pos 3) (round_number (unlike false s) (3 * 1 * (m * up e)) (1 * down e)))
     (half_number s m e)
+
+-- ---- a record of a coupling in its range is compared with the one that is made of its g²
+in_range_number : (g : Float) → coupling_right g ≡ true → number g ≡ true
+unfolding number
+in_range_number nan h = absurd (refused_nan h)
+in_range_number (inf s) h = refl
+in_range_number (fin s m e) h = refl
+
+pub own_tests : (p own : KSParams) → own.g_squared ≡ p.g_squared
+    → (coupling_right p.g_squared && (eq p.g_squared own.g_squared && (eq p.electric own.electric && eq p.magnetic own.magnetic))) ≡ params_right p own
+unfolding params_right
+own_tests p own same = rw same (go (coupling_right p.g_squared) refl)
+  where
+    go : (b : Bool) → coupling_right p.g_squared ≡ b
+        → (b && (eq p.g_squared p.g_squared && (eq p.electric own.electric && eq p.magnetic own.magnetic))) ≡ (b && (eq p.electric own.electric && eq p.magnetic own.magnetic))
+    go true h = rw (equal_to_itself p.g_squared (in_range_number p.g_squared h))
+    go false h = refl
+
+-- ---- the call
+module _ (p : KSParams) where
+  pub coupling_refused : coupling_right p.g_squared ≡ false → Answered (coupling_call p.g_squared p) (refused 14) none_lent
+  unfolding coupling_call
+  coupling_refused h = refuses _ (here (ap not h)) refl
+
+  pub coupling_told : coupling_right p.g_squared ≡ true → Answered (coupling_call p.g_squared p) (value p) none_lent
+  unfolding coupling_call
+  coupling_told h = ends _ (past (ap not h) none) refl refl tt

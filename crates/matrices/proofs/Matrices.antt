@@ -1,5 +1,5 @@
 -- A matrix in a list: one entry more is added, and what the list then is.
-use Prim.Native.Nat.{ℕ, zero, suc, ◌+◌, ◌-◌, ◌*◌, ◌/◌, ◌%◌, ◌≤◌, ◌<◌}
+use Prim.Native.Nat.{ℕ, zero, suc, ◌+◌, ◌-◌, ◌*◌, ◌/◌, ◌%◌, ◌^◌, ◌≤◌, ◌<◌}
 use mathlib.Core.List.{List, [], map, flatten, ◌++◌}
 use mathlib.Core.Bool.{◌&&◌, cond}
 use mathlib.Core.Path.{◌≡◌, refl, sym, ap, ◌∙◌}
@@ -10,8 +10,8 @@ use native.Mathlib.Decide.{ℕ_discrete, dec_lt}
 use borrow.Author.Tests.{eq-eqb, ne_eqb, lt-ltb, le-ltb}
 use lib.Dec.{eqb, ltb}
 use lib.Ieee.{Float, nan, binary64, add}
-use lib.ListN.{get_or, length, drop, set, length-set, length-map, length-append, length-drop}
-use lib.Seq.{get_or-set_same, get_or-set_other, get_or-append-add, get_or-drop, ext_get_or}
+use lib.ListN.{get_or, length, drop, set, replicate, length-set, length-map, length-append, length-drop, length-replicate, get_or-append, get_or-replicate}
+use lib.Seq.{get_or-set_same, get_or-set_other, get_or-append-add, get_or-append_right, get_or-drop, ext_get_or}
 use Rattle.mathematics.specs.Counting.{below}
 use Rattle.mathematics.specs.Writing.{front}
 use Rattle.mathematics.proofs.Below.{length_below, map_below_at}
@@ -25,6 +25,10 @@ row_end n i j h = omega (arith, suc-mul i n)
 
 pub in_matrix : (n i j : ℕ) → i < n → j < n → i * n + j < n * n
 in_matrix n i j h k = omega (arith, row_end n i j k, mul-le-mul h (le_refl n))
+
+-- so few that their places fit
+pub few_entries : (n : ℕ) → n ≤ 2 ^ 20 → n * n ≤ 2 ^ 40
+few_entries n h = mul-le-mul h h
 
 -- rows and columns are read off a place
 same_row : (n i j a b : ℕ) → j < n → b < n → i * n + j ≡ a * n + b → i ≡ a
@@ -137,8 +141,19 @@ cleared_more k old new m room =
     go i h (yes e) = rw e (get_or-set_same new k (float_of 0) nan (omega (arith, m.long)))
     go i h (no e) = get_or-set_other new k i (float_of 0) nan e ∙ m.zeros i (omega arith)
 
-pub cleared_matrix : (n : ℕ) (old new : List Float) → Cleared (n * n) old new → Matrix (λ i j. float_of 0) n old new
-cleared_matrix n old new m = record { long = m.long; entries = λ i j h k. m.zeros (i * n + j) (in_matrix n i j h k); beyond = m.beyond }
+-- a list that begins with as many zeros as the matrix has entries
+pub filled_matrix : (n : ℕ) (h : List Float) → n * n ≤ length h → Matrix (λ i j. float_of 0) n h (replicate (n * n) (float_of 0) ++ drop (n * n) h)
+filled_matrix n h room =
+    let many = length-replicate (n * n) (float_of 0) in
+    record {
+      long = simp (length-append, length-replicate, length-drop) (omega arith);
+      entries = λ i j a b.
+          let inside : i * n + j < n * n = in_matrix n i j a b in
+          get_or-append (replicate (n * n) (float_of 0)) (drop (n * n) h) nan (i * n + j) (rw many inside) ∙ get_or-replicate (n * n) (i * n + j) (float_of 0) nan inside;
+      beyond = λ k l.
+          let e : n * n + (k - n * n) ≡ k = omega arith in
+          rw (get_or-append_right (replicate (n * n) (float_of 0)) (drop (n * n) h) k nan (rw many l), many, get_or-drop (n * n) h (k - n * n) nan, e);
+    }
 
 -- ---- one entry of each row
 -- a bound one higher matters to the number itself alone

@@ -1,4 +1,4 @@
--- Sums of squares: in the machine, and one value more.
+-- Sums of squares: how large a square is, and one value more.
 use Prim.Native.Nat.{ℕ, ◌+◌, ◌*◌, ◌^◌, ◌≤◌}
 use mathlib.Core.List.{List, [], ◌∷◌, ◌++◌}
 use mathlib.Core.Path.{◌≡◌, refl, sym, ap, ◌∙◌}
@@ -8,14 +8,25 @@ use lib.Dec.{T}
 use lib.IntN.{ℤ, pos, negsuc, nat_abs, ◌*ℤ◌}
 use lib.Ieee.{binary64, in_float}
 use lib.Dec.{le→leb}
+use mir.Syntax.{w32}
+use mir.Val.{to_z, of_z}
+use Rattle.mathematics.proofs.Signed.{small_back}
 use Rattle.matrices.specs.Squares.{squares}
 
-pub square_is : (x : ℤ) → x *ℤ x ≡ pos (nat_abs x * nat_abs x)
+square_is : (x : ℤ) → x *ℤ x ≡ pos (nat_abs x * nat_abs x)
 square_is (pos n) = refl
 square_is (negsuc n) = refl
 
 pub square_small : (x : ℤ) → nat_abs x ≤ 1000 → nat_abs x * nat_abs x ≤ 1000000
 square_small x h = mul-le-mul h h
+
+-- the square in the machine
+module _ (x : ℤ) (h : nat_abs x ≤ 1000) where
+  pub square_made : to_z w32 (of_z w32 x) *ℤ to_z w32 (of_z w32 x) ≡ pos (nat_abs x * nat_abs x)
+  square_made = rw (small_back x (omega arith)) (square_is x)
+
+  pub square_back : to_z w32 (of_z w32 (to_z w32 (of_z w32 x) *ℤ to_z w32 (of_z w32 x))) ≡ pos (nat_abs x * nat_abs x)
+  square_back = rw square_made (small_back (pos (nat_abs x * nat_abs x)) (omega (arith, square_small x h)))
 
 pub squares_last : (s : List ℤ) (x : ℤ) → squares (s ++ (x ∷ [])) ≡ squares s + nat_abs x * nat_abs x
 unfolding squares

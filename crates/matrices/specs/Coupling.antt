@@ -3,11 +3,8 @@ use Prim.{Unit}
 use Rattle.std.specs.Prelude.{ℕ, ◌^◌, List, [], ◌∷◌, Bool, not, ◌&&◌, pos, Float}
 use Rattle.std.specs.Float.{binary64}
 use Rattle.std.specs.Float.Ieee.{of_int, neg, mul, div, le, eq}
-use Rattle.mathematics.specs.Refusals.{Outcome, value, refused}
 use Rattle.mathematics.specs.Calls.{Call, NoneLent, none_lent}
 use Rattle.matrices.specs.declared.coupling.KSParams.{KSParams}
-use Rattle.matrices.specs.declared.coupling.Coupling.{Coupling}
-use Rattle.matrices.specs.declared.coupling.Coupling.TheVariants.{Params, Refused}
 
 -- a whole number as a float
 unfoldable pub float_of : ℕ → Float
@@ -24,11 +21,6 @@ u1_params g² = record { g_squared = g²; electric = div binary64 g² (float_of 
 -- Z2: (3 g²)/8 and -0.5/g²
 unfoldable pub su2_params : Float → KSParams
 su2_params g² = record { g_squared = g²; electric = div binary64 (mul binary64 (float_of 3) g²) (float_of 8); magnetic = div binary64 (neg (div binary64 (float_of 1) (float_of 2))) g² }
-
--- what an answer says
-unfoldable pub coupling_answer : Coupling → Outcome KSParams
-coupling_answer (Params p) = value p
-coupling_answer (Refused n) = refused n
 
 -- 14 for a g² out of its range
 abbrev pub coupling_tests : Float → List (ℕ × Bool)

@@ -6,9 +6,13 @@ use Rattle.std.specs.Float.Ieee.{neg, le}
 use Rattle.mathematics.specs.Tests.{every_entry}
 use Rattle.matrices.specs.Coupling.{float_of}
 
--- from -2^32 to 2^32; nothing that is not a number passes
+-- from -limit to limit; nothing that is not a number passes
+abbrev pub within : Float → Float → Bool
+within limit x = le (neg limit) x && le x limit
+
+-- from -2^32 to 2^32
 unfoldable pub bounded : Float → Bool
-bounded x = le (neg (float_of (2 ^ 32))) x && le x (float_of (2 ^ 32))
+bounded x = within (float_of (2 ^ 32)) x
 
 -- the weight of triangle t, 1 where no weights are given
 unfoldable pub weight : Bool → List Float → ℕ → Float

@@ -3,6 +3,7 @@ ghost use Rattle.std.specs.Prelude.{◌≡◌, ℕ, ◌*◌, ◌^◌, ◌<◌, �
 ghost use Rattle.std.specs.Int.Count.{ones};
 ghost use Rattle.matrices.specs.Squares.{squares, energy};
 
+// The product of the signed number with itself: with its absolute value six squares take 7.0 ns, and so 6.0 ns.
 fn square(x: i32) -> u32
     requires { nat_abs x ≤ 1000 }
     ensures { result ≡ nat_abs x * nat_abs x }
@@ -16,13 +17,14 @@ pub fn squares(state: &[i32]) -> usize
     ensures { (result ≡ squares state.now) × (result ≤ 63000000) }
 {
     let mut sum = 0;
-    for e in 0..state.len() {
-        sum += square(state[e]);
+    for x in state {
+        sum += square(*x);
     }
     sum as usize
 }
 
 // A factor times a whole number.
+#[tactic(auto, using(crate::proofs::Squares::whole_held), unfolding(crate::specs::Coupling::float_of))]
 pub fn energy(factor: f64, count: usize) -> f64
     requires { count ≤ 2 ^ 53 }
     ensures { result ≡ energy factor count }
@@ -34,5 +36,5 @@ pub fn energy(factor: f64, count: usize) -> f64
 pub fn mask_energy(factor: f64, mask: u64) -> f64
     ensures { result ≡ energy factor (ones mask) }
 {
-    energy(factor, u64::count_ones(mask) as usize)
+    energy(factor, mask.count_ones() as usize)
 }

@@ -5,6 +5,7 @@ ghost use Rattle.matrices.specs.Terms.{dense_plaquette_term, row_plaquette_term}
 use crate::coupling::KSParams;
 
 // What the plaquette of a triangle with a weight adds to the dense matrix.
+#[tactic(auto, using(crate::proofs::Literals::half), unfolding(crate::specs::Terms::dense_plaquette_term))]
 pub fn dense_plaquette_term(p: KSParams, weight: f64) -> f64
     ensures { result ≡ dense_plaquette_term p weight }
 {
@@ -12,6 +13,7 @@ pub fn dense_plaquette_term(p: KSParams, weight: f64) -> f64
 }
 
 // What it gives to the row lists.
+#[tactic(auto, using(crate::proofs::Literals::half), unfolding(crate::specs::Terms::row_plaquette_term))]
 pub fn row_plaquette_term(p: KSParams, weight: f64) -> f64
     ensures { result ≡ row_plaquette_term p weight }
 {

@@ -2,26 +2,35 @@
 ghost use Rattle.std.specs.Prelude.{◌≡◌, true, ◌<◌, length, not, ◌&&◌, eqb};
 ghost use Rattle.mathematics.specs.Tests.{every_entry};
 ghost use Rattle.mathematics.specs.Refusals.{first};
-ghost use Rattle.matrices.specs.Weights.{bounded, weight, weights_tests, vector_tests, is_given, given_list};
+ghost use Rattle.matrices.specs.Weights.{within, bounded, weight, weights_tests, vector_tests, is_given, given_list};
 ghost use Rattle.answers.specs.Refusal.{judged};
 
 use answers::refusal::Refusal;
 
-// Whether a float is from -2^32 to 2^32; the tests are written so that what is not a number fails.
-fn bounded(x: f64) -> bool
-    ensures { result ≡ bounded x }
+// Whether a float is from -limit to limit; the tests are written so that what is not a number fails.
+fn within(limit: f64, x: f64) -> bool
+    ensures { result ≡ within limit x }
 {
-    (-4294967296.0 <= x) & (x <= 4294967296.0)
+    (-limit <= x) & (x <= limit)
 }
 
-pub fn all_bounded(list: &[f64]) -> bool
-    ensures { result ≡ every_entry bounded list.now }
+// Every entry is tested, since that is faster than to stop at the first that fails.
+pub fn all_within(limit: f64, list: &[f64]) -> bool
+    ensures { result ≡ every_entry (within limit) list.now }
 {
     let mut so_far = true;
     for x in list {
-        so_far &= bounded(*x);
+        so_far &= within(limit, *x);
     }
     so_far
+}
+
+// Whether every float is from -2^32 to 2^32.
+#[tactic(auto, using(crate::proofs::Literals::limit), unfolding(crate::specs::Weights::bounded))]
+pub fn all_bounded(list: &[f64]) -> bool
+    ensures { result ≡ every_entry bounded list.now }
+{
+    all_within(4294967296.0, list)
 }
 
 // Whether weights are given that are not one for each of n triangles.
@@ -87,6 +96,7 @@ pub fn weight_at(weights: Option<&[f64]>, t: usize) -> f64
         None => 1.0,
     }
 }
+
 // 12 for the number of the given weights, 14 for a coupling that is not right or a weight out of its range, 0 for neither. Weights
 // that are not given are not read.
 pub fn judge_weights(n_triangles: usize, right: bool, given: bool, weights: &[f64]) -> u8

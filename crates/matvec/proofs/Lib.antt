@@ -2,3 +2,4 @@ pub mod Judging
 pub mod Summing
 pub mod Validity
 pub mod Examples
+pub mod Calls

@@ -7,14 +7,11 @@ use Rattle.std.specs.Float.Ieee.Scale.{finite}
 use Rattle.std.proofs.Math.Seq.{slice}
 use Rattle.mathematics.specs.Tests.{every_entry, every}
 use Rattle.mathematics.specs.Counting.{below}
-use Rattle.mathematics.specs.Refusals.{Outcome, value, refused}
 use Rattle.mathematics.specs.Writing.{front}
 use Rattle.mathematics.specs.Calls.{Call}
 use Rattle.matrices.specs.Coupling.{float_of}
-use Rattle.matrices.specs.Weights.{bounded}
+use Rattle.matrices.specs.Weights.{within, bounded}
 use Rattle.rows.specs.Entries.{pairs}
-use Rattle.matvec.specs.declared.product.Product.{Product}
-use Rattle.matvec.specs.declared.product.Product.TheVariants.{Rows, Refused}
 
 -- the entries of row i: from start i to start i + 1
 unfoldable pub row_entries : List ℕ → List ℕ → List Float → ℕ → List (ℕ × Float)
@@ -48,7 +45,7 @@ columns_right columns n = every_entry (λ j. ltb j n) columns
 
 -- from -2^80 to 2^80; nothing that is not a number passes
 unfoldable pub value_right : Float → Bool
-value_right x = le (neg (float_of (2 ^ 80))) x && le x (float_of (2 ^ 80))
+value_right x = within (float_of (2 ^ 80)) x
 
 -- the starts are not one more than the amplitudes, or columns and values differ in number
 abbrev pub lengths_wrong : List ℕ → List ℕ → List Float → List Float → Bool
@@ -90,11 +87,6 @@ pub record Valid (starts columns : List ℕ) (values vector : List Float) : Type
   pub amplitudes_within : (i : ℕ) → i < length vector → Within (float_of (2 ^ 32)) (get_or vector i nan)
 
 -- ---- the call
--- what an answer says
-unfoldable pub product_answer : Product → Outcome ℕ
-product_answer (Rows n) = value n
-product_answer (Refused n) = refused n
-
 -- matvec: the number of rows is told, and the result begins with the product.
 unfoldable pub product_call : List ℕ → List ℕ → List Float → List Float → List Float → Call ℕ (List Float)
 product_call starts columns values vector result =

@@ -7,8 +7,9 @@ use native.Mathlib.Nat.{add-zero, zero-add}
 use native.Mathlib.Numerals.{add-one}
 use native.Mathlib.Omega.{arith}
 use lib.Ieee.{Float}
-use lib.ListN.{get_or, length, take, drop, set, length-append, length-map}
-use lib.Seq.{paste, paste-suc, length-take-le, take-set-le, take-suc-set}
+use lib.ListN.{length, take, drop, set, length-append, length-map}
+use lib.Seq.{paste, length-take-le, take-set-le, take-suc-set}
+use mir.Val.{bool_byte}
 use Rattle.mathematics.specs.Counting.{below}
 use Rattle.mathematics.specs.Writing.{put, front}
 use Rattle.mathematics.proofs.Below.{length_below}
@@ -100,18 +101,17 @@ module _ (row : ℕ → List (ℕ × Float)) where
 -- ---- a row in two lists
 -- an entry behind the first n, where it is taken
 module _ (columns : List ℕ) (values : List Float) (n column : ℕ) (value : Float) (room : n < length columns) (same : length columns ≡ length values) where
-  pub entry_taken : (taken : Bool) → taken ≡ true → EntryPushed (pairs columns values) n (column, value) taken (n + 1) (pairs (set columns n column) (set values n value))
-  entry_taken taken is =
+  pub entry_pushed : (taken : Bool) → EntryPushed (pairs columns values) n (column, value) taken (n + bool_byte taken) (pairs (set columns n column) (set values n value))
+  entry_pushed true =
       record {
-        front = rw (is, pairs_set columns values n column value, add-one n) (take-suc-set (pairs columns values) n (column, value) (omega (arith, pairs_length columns values same)));
-        count = rw is;
+        front = rw (pairs_set columns values n column value, add-one n) (take-suc-set (pairs columns values) n (column, value) (omega (arith, pairs_length columns values same)));
+        count = refl;
       }
-
-  pub entry_left : (taken : Bool) → taken ≡ false → EntryPushed (pairs columns values) n (column, value) taken n (pairs (set columns n column) (set values n value))
-  entry_left taken is =
+  entry_pushed false =
       record {
-        front = rw (is, pairs_set columns values n column value) (take-set-le n (pairs columns values) n (column, value) (omega arith) ∙ sym (append-nil (take n (pairs columns values))));
-        count = rw is (sym (add-zero n));
+        front =
+            rw (add-zero n, pairs_set columns values n column value) (take-set-le n (pairs columns values) n (column, value) (omega arith) ∙ sym (append-nil (take n (pairs columns values))));
+        count = refl;
       }
 
 columns_taken : (columns : List ℕ) (values : List Float) (m : ℕ) → length columns ≡ length values → map (λ e. e.0) (take m (pairs columns values)) ≡ take m columns
@@ -130,10 +130,6 @@ values_taken [] (x ∷ values) m e = absurd (omega arith)
 values_taken (j ∷ columns) [] m e = absurd (omega arith)
 values_taken (j ∷ columns) (x ∷ values) zero e = refl
 values_taken (j ∷ columns) (x ∷ values) (suc m) e = ap (λ l. x ∷ l) (values_taken columns values m (omega arith))
-
--- one entry more of a list that is copied from a place on
-pub paste_turn : {A : Type 0} (d : List A) (at : ℕ) (s now : List A) (k : ℕ) (z : A) → at + k < length d → k < length s → now ≡ paste d at s k → set now (at + k) (get_or s k z) ≡ paste d at s (k + 1)
-paste_turn d at s now k z room enough is = rw (is, add-one k) (paste-suc d at s k z room enough)
 
 taken_put : {A : Type 0} (d : List A) (at : ℕ) (s : List A) (m : ℕ) → m ≤ length s → paste d at s m ≡ put d at (take m s)
 unfolding put

@@ -6,6 +6,7 @@ ghost use Rattle.rows.specs.Row.{kept};
 ghost use Rattle.rows.specs.RowLists.{EntryPushed, RowAppended};
 
 // Whether the absolute value of a float exceeds 0.
+#[tactic(auto, using(matrices::proofs::Literals::zero), unfolding(crate::specs::Row::kept))]
 pub fn is_kept(x: f64) -> bool
     ensures { result ≡ kept x }
 {
@@ -26,7 +27,7 @@ pub fn push_entry(
 {
     columns[n] = column;
     values[n] = value;
-    if taken { n + 1 } else { n }
+    n + usize::from(taken)
 }
 
 // The first m columns and values of a row go to two lists, from a place on.
@@ -41,10 +42,8 @@ pub fn copy_row(
     requires { (m ≤ length row_columns.now) × (m ≤ length row_values.now) × (at + m ≤ length columns.old) × (at + m ≤ length values.old) }
     ensures { (columns.new ≡ paste columns.old at row_columns.now m) × (values.new ≡ paste values.old at row_values.now m) }
 {
-    for k in 0..m {
-        columns[at + k] = row_columns[k];
-        values[at + k] = row_values[k];
-    }
+    columns[at..at + m].copy_from_slice(&row_columns[..m]);
+    values[at..at + m].copy_from_slice(&row_values[..m]);
 }
 
 // Row i, the first m entries of two lists, goes to its place behind the rows before it. Where the next begins is told.

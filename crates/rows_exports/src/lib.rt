@@ -2,26 +2,20 @@
 #![tactic(auto)]
 
 ghost use Rattle.std.specs.Prelude.{◌≡◌};
-ghost use Rattle.matvec.specs.Product.{product_answer, product_call};
+ghost use Rattle.answers.specs.Refusal.{answer_of};
+ghost use Rattle.matvec.specs.Product.{product_call};
 ghost use Rattle.exports.specs.Exports.{outcome_told, zero_of, zero_told, Exported};
 
-use exports::{Told, signed};
-use matvec::product::{Product, matvec};
+use answers::refusal::Refusal;
+use exports::{Told, signed, told_result};
+use matvec::product::matvec;
 
 // The number of rows is not told: no bound of it is known.
-fn told_product(answer: Product) -> Told
-    ensures { result ≡ outcome_told (zero_of (product_answer answer)) }
+#[tactic(auto, unfolding(exports::specs::Exports::outcome_told, exports::specs::Exports::zero_of))]
+fn told_product(answer: Result<usize, Refusal>) -> Told
+    ensures { result ≡ outcome_told (zero_of (answer_of answer)) }
 {
-    match answer {
-        Product::Rows(_) => Told {
-            refusal: 0,
-            value: 0,
-        },
-        Product::Refused(number) => Told {
-            refusal: number,
-            value: 0,
-        },
-    }
+    told_result(answer.map(|_| 0))
 }
 
 // The product of row lists with a vector: 0.

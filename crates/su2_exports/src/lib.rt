@@ -11,7 +11,7 @@ ghost use Rattle.su2_products.specs.Product.{su2_product_call};
 ghost use Rattle.su2_loops.specs.Loop.{su2_loop_call, su2_passes_call};
 ghost use Rattle.exports.specs.Exports.{on_sheet, stored, value_lent, three_floats, Exported};
 
-use exports::{open, refused, signed, store, store_expectation, told_number, told_result};
+use exports::{open, refused, signed, store_expectation, store_params, told_number, told_result};
 use matrices::coupling::KSParams;
 use su2_entries::su2_count_entries;
 use su2_loops::{su2_wilson_loop, su2_wilson_passes};
@@ -38,7 +38,7 @@ pub fn export_su2_basis(sheet: &[u8], states: &mut [u64]) -> i64
 pub fn export_su2_params(g_squared: f64, params: &mut [f64; 3]) -> i64
     ensures { Exported (stored (coupling_call g_squared (su2_params g_squared)) three_floats params.old) result params.new }
 {
-    store(KSParams::su2(g_squared), params)
+    store_params(KSParams::su2(g_squared), params)
 }
 
 // The dense matrix of a sheet in the two-valued mode: the number of its states.

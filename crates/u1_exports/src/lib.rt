@@ -22,7 +22,7 @@ use electric::electric_field_sq;
 use entries::count_entries;
 use enumeration::count::count_states;
 use enumeration::enumerate_gauge_invariant;
-use exports::{Told, open, refused, signed, store, store_expectation, told_number};
+use exports::{Told, open, refused, signed, store_expectation, store_params, told_number};
 use hamiltonian::dense::build_hamiltonian;
 use hilbert::index::{Index, config_to_index};
 use lanczos::matvec::hamiltonian_matvec;
@@ -163,7 +163,7 @@ pub fn export_apply_triangle_shift(
 pub fn export_u1_params(g_squared: f64, params: &mut [f64; 3]) -> i64
     ensures { Exported (stored (coupling_call g_squared (u1_params g_squared)) three_floats params.old) result params.new }
 {
-    store(KSParams::u1(g_squared), params)
+    store_params(KSParams::u1(g_squared), params)
 }
 
 // The dense matrix of a sheet: the number of its states.

@@ -1,7 +1,0 @@
-use Rattle.std.proofs.Common.{◌≡◌, take}
-use Rattle.mathematics.specs.Tests.{every_entry}
-use Rattle.matrices.specs.Weights.{bounded}
-use Rattle.matrices.proofs.weights.all_bounded.Given as goal
-
-abbrev pub invariant-loop-x : goal.invariant-loop-x
-invariant-loop-x l = l.so_far ≡ every_entry bounded (take l.x-index l.list)
