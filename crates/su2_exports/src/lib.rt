@@ -11,7 +11,7 @@ ghost use Rattle.su2_products.specs.Product.{su2_product_call};
 ghost use Rattle.su2_loops.specs.Loop.{su2_loop_call, su2_passes_call};
 ghost use Rattle.exports.specs.Exports.{on_sheet, stored, value_lent, three_floats, Exported};
 
-use exports::{open, refused, signed_refusal, signed_result, store_expectation, store_params};
+use exports::{signed_refusal, signed_result, store_params, store_value};
 use matrices::coupling::KSParams;
 use sheet::read_sheet;
 use su2_entries::su2_count_entries;
@@ -151,14 +151,13 @@ pub fn export_su2_wilson_loop(
 ) -> i64
     ensures { Exported (on_sheet sheet.now (λ c L. value_lent (su2_loop_call c vector.now path.now states.old) expectation.old)) result (states.new, expectation.new) }
 {
-    let opened = open(sheet);
-    let number = opened.refusal;
-    if number != 0 {
-        return refused(number);
+    match read_sheet(sheet) {
+        Ok(s) => store_value(
+            su2_wilson_loop(s.complex, vector, path, states),
+            expectation,
+        ),
+        Err(refusal) => signed_refusal(refusal),
     }
-    let s = opened.sheet;
-    let answer = su2_wilson_loop(s.complex, vector, path, states);
-    store_expectation(answer, expectation)
 }
 
 // The same by the path's passes modulo two: 0.
@@ -171,12 +170,11 @@ pub fn export_su2_wilson_passes(
 ) -> i64
     ensures { Exported (on_sheet sheet.now (λ c L. value_lent (su2_passes_call c vector.now path.now states.old) expectation.old)) result (states.new, expectation.new) }
 {
-    let opened = open(sheet);
-    let number = opened.refusal;
-    if number != 0 {
-        return refused(number);
+    match read_sheet(sheet) {
+        Ok(s) => store_value(
+            su2_wilson_passes(s.complex, vector, path, states),
+            expectation,
+        ),
+        Err(refusal) => signed_refusal(refusal),
     }
-    let s = opened.sheet;
-    let answer = su2_wilson_passes(s.complex, vector, path, states);
-    store_expectation(answer, expectation)
 }
