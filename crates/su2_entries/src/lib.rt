@@ -2,29 +2,20 @@
 #![tactic(auto)]
 
 ghost use Rattle.mathematics.specs.Calls.{Answered, none_lent};
-ghost use Rattle.answers.specs.Answer.{number_answer};
+ghost use Rattle.answers.specs.Refusal.{answer_of};
 ghost use Rattle.complex.specs.Complex.{complex_of};
 ghost use Rattle.su2_entries.specs.Entries.{su2_entries_call};
 
-use acceptance::judge;
-use answers::Answer;
+use answers::refusal::Refusal;
 use complex::SimplicialComplex;
-use su2_even_sets::closing_loops;
+use su2_masks::accepted::accepted_loops;
+use su2_rows::build::entries_number;
 
 // How many entries the row lists of a record have, whatever the coupling and the weights are. The record is judged first.
-pub fn su2_count_entries(c: SimplicialComplex) -> Answer
-    ensures { Answered (su2_entries_call (complex_of c)) (number_answer result) none_lent }
+pub fn su2_count_entries(c: SimplicialComplex) -> Result<usize, Refusal>
+    ensures { Answered (su2_entries_call (complex_of c)) (answer_of result) none_lent }
 {
-    let number = judge(c);
-    if number != 0 {
-        return Answer::Refused(number);
-    }
-    let f = closing_loops(c);
-    let count = f.count;
-    if 20 < count {
-        return Answer::Refused(10);
-    }
-    let n = 1 << count;
-    let entries = (c.n_triangles + 1) * n - 1;
-    Answer::Number(entries)
+    let f = accepted_loops(c)?;
+    let n = 1 << f.count;
+    Ok(entries_number(c.n_triangles, n))
 }

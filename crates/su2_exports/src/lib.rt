@@ -11,8 +11,9 @@ ghost use Rattle.su2_products.specs.Product.{su2_product_call};
 ghost use Rattle.su2_loops.specs.Loop.{su2_loop_call, su2_passes_call};
 ghost use Rattle.exports.specs.Exports.{on_sheet, stored, value_lent, three_floats, Exported};
 
-use exports::{open, refused, signed, store_params, store_value, told_number, told_result};
+use exports::{signed_refusal, signed_result, store_params, store_value};
 use matrices::coupling::KSParams;
+use sheet::read_sheet;
 use su2_entries::su2_count_entries;
 use su2_loops::{su2_wilson_loop, su2_wilson_passes};
 use su2_masks::count::su2_count_states;
@@ -25,13 +26,10 @@ use su2_rows::build::build_csr_su2;
 pub fn export_su2_basis(sheet: &[u8], states: &mut [u64]) -> i64
     ensures { Exported (on_sheet sheet.now (λ c L. su2_basis_call c states.old)) result states.new }
 {
-    let opened = open(sheet);
-    let number = opened.refusal;
-    if number != 0 {
-        return refused(number);
+    match read_sheet(sheet) {
+        Ok(s) => signed_result(su2_basis(s.complex, states)),
+        Err(refusal) => signed_refusal(refusal),
     }
-    let s = opened.sheet;
-    signed(told_result(su2_basis(s.complex, states)))
 }
 
 // g² and the factors of the two-valued mode: 0.
@@ -54,19 +52,16 @@ pub fn export_build_su2_hamiltonian(
 ) -> i64
     ensures { Exported (on_sheet sheet.now (λ c L. su2_dense_call c (record { g_squared = g_squared; electric = electric; magnetic = magnetic }) given weights.now states.old res.old)) result (states.new, res.new) }
 {
-    let opened = open(sheet);
-    let number = opened.refusal;
-    if number != 0 {
-        return refused(number);
-    }
-    let s = opened.sheet;
     let p = KSParams {
-        g_squared: g_squared,
-        electric: electric,
-        magnetic: magnetic,
+        g_squared,
+        electric,
+        magnetic,
     };
-    let answer = build_su2_hamiltonian(s.complex, p, given, weights, states, res);
-    signed(told_number(answer))
+    let weights = given.then_some(weights);
+    match read_sheet(sheet) {
+        Ok(s) => signed_result(build_su2_hamiltonian(s.complex, p, weights, states, res)),
+        Err(refusal) => signed_refusal(refusal),
+    }
 }
 
 // The matrix of a sheet in the two-valued mode as row lists: the number of its entries.
@@ -84,47 +79,40 @@ pub fn export_build_csr_su2(
 ) -> i64
     ensures { Exported (on_sheet sheet.now (λ c L. su2_rows_call c (record { g_squared = g_squared; electric = electric; magnetic = magnetic }) given weights.now states.old starts.old columns.old values.old)) result (states.new, starts.new, columns.new, values.new) }
 {
-    let opened = open(sheet);
-    let number = opened.refusal;
-    if number != 0 {
-        return refused(number);
-    }
-    let s = opened.sheet;
     let p = KSParams {
-        g_squared: g_squared,
-        electric: electric,
-        magnetic: magnetic,
+        g_squared,
+        electric,
+        magnetic,
     };
-    let answer = build_csr_su2(
-        s.complex, p, given, weights, states, starts, columns, values,
-    );
-    signed(told_number(answer))
+    let weights = given.then_some(weights);
+    match read_sheet(sheet) {
+        Ok(s) => signed_result(build_csr_su2(
+            s.complex, p, weights, states, starts, columns, values,
+        )),
+        Err(refusal) => signed_refusal(refusal),
+    }
 }
 
 // How many even edge sets a sheet has.
+#[tactic(auto, using(crate::proofs::Small::counted_small))]
 pub fn export_su2_count_states(sheet: &[u8]) -> i64
     ensures { Exported (on_sheet sheet.now (λ c L. su2_counted_call c)) result none_lent }
 {
-    let opened = open(sheet);
-    let number = opened.refusal;
-    if number != 0 {
-        return refused(number);
+    match read_sheet(sheet) {
+        Ok(s) => signed_result(su2_count_states(s.complex)),
+        Err(refusal) => signed_refusal(refusal),
     }
-    let s = opened.sheet;
-    signed(told_result(su2_count_states(s.complex)))
 }
 
 // How many entries the row lists of a sheet have in the two-valued mode.
+#[tactic(auto, using(crate::proofs::Small::count_small))]
 pub fn export_su2_count_entries(sheet: &[u8]) -> i64
     ensures { Exported (on_sheet sheet.now (λ c L. su2_entries_call c)) result none_lent }
 {
-    let opened = open(sheet);
-    let number = opened.refusal;
-    if number != 0 {
-        return refused(number);
+    match read_sheet(sheet) {
+        Ok(s) => signed_result(su2_count_entries(s.complex)),
+        Err(refusal) => signed_refusal(refusal),
     }
-    let s = opened.sheet;
-    signed(told_number(su2_count_entries(s.complex)))
 }
 
 // The product of a sheet's matrix in the two-valued mode with a vector: the number of its states.
@@ -141,19 +129,16 @@ pub fn export_su2_hamiltonian_matvec(
 ) -> i64
     ensures { Exported (on_sheet sheet.now (λ c L. su2_product_call c (record { g_squared = g_squared; electric = electric; magnetic = magnetic }) given weights.now vector.now states.old res.old)) result (states.new, res.new) }
 {
-    let opened = open(sheet);
-    let number = opened.refusal;
-    if number != 0 {
-        return refused(number);
-    }
-    let s = opened.sheet;
     let p = KSParams {
-        g_squared: g_squared,
-        electric: electric,
-        magnetic: magnetic,
+        g_squared,
+        electric,
+        magnetic,
     };
-    let answer = su2_hamiltonian_matvec(s.complex, p, given, weights, vector, states, res);
-    signed(told_number(answer))
+    let weights = given.then_some(weights);
+    match read_sheet(sheet) {
+        Ok(s) => signed_result(su2_hamiltonian_matvec(s.complex, p, weights, vector, states, res)),
+        Err(refusal) => signed_refusal(refusal),
+    }
 }
 
 // The expectation of a path's loop on a sheet in the two-valued mode, by the set of its edges, goes to a float: 0.
@@ -166,14 +151,13 @@ pub fn export_su2_wilson_loop(
 ) -> i64
     ensures { Exported (on_sheet sheet.now (λ c L. value_lent (su2_loop_call c vector.now path.now states.old) expectation.old)) result (states.new, expectation.new) }
 {
-    let opened = open(sheet);
-    let number = opened.refusal;
-    if number != 0 {
-        return refused(number);
+    match read_sheet(sheet) {
+        Ok(s) => store_value(
+            su2_wilson_loop(s.complex, vector, path, states),
+            expectation,
+        ),
+        Err(refusal) => signed_refusal(refusal),
     }
-    let s = opened.sheet;
-    let answer = su2_wilson_loop(s.complex, vector, path, states);
-    store_value(answer, expectation)
 }
 
 // The same by the path's passes modulo two: 0.
@@ -186,12 +170,11 @@ pub fn export_su2_wilson_passes(
 ) -> i64
     ensures { Exported (on_sheet sheet.now (λ c L. value_lent (su2_passes_call c vector.now path.now states.old) expectation.old)) result (states.new, expectation.new) }
 {
-    let opened = open(sheet);
-    let number = opened.refusal;
-    if number != 0 {
-        return refused(number);
+    match read_sheet(sheet) {
+        Ok(s) => store_value(
+            su2_wilson_passes(s.complex, vector, path, states),
+            expectation,
+        ),
+        Err(refusal) => signed_refusal(refusal),
     }
-    let s = opened.sheet;
-    let answer = su2_wilson_passes(s.complex, vector, path, states);
-    store_value(answer, expectation)
 }

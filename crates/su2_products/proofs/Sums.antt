@@ -8,7 +8,6 @@ use lib.Bits.{bit_xor}
 use lib.Count.{ones}
 use lib.Ieee.{Float, binary64, nan, add, mul}
 use lib.ListN.{get_or, length, length-append, get_or-append}
-use lib.Pow.{pow_mono}
 use Rattle.mathematics.specs.Counting.{below}
 use Rattle.mathematics.specs.Writing.{front}
 use Rattle.mathematics.proofs.Below.{below_each, map_below_at}
@@ -21,7 +20,7 @@ use Rattle.matrices.specs.Squares.{energy}
 use Rattle.su2_even_sets.specs.declared.Forest.{Forest}
 use Rattle.su2_even_sets.specs.EvenSets.{su2_states}
 use Rattle.su2_masks.specs.Flips.{su2_target}
-use Rattle.su2_masks.proofs.Placing.{states_number}
+use Rattle.su2_rows.proofs.ListedRows.{states_few}
 use Rattle.su2_masks.proofs.Flips.{su2_target_read, flip_within}
 use Rattle.su2_rows.specs.Rows.{su2_diagonal, Tables}
 use Rattle.mathematics.proofs.Maps.{map_each}
@@ -76,23 +75,21 @@ module _ (c : Complex) (accepted : Accepted c) (p : KSParams) (w : ℕ → Float
 -- ---- the product of a complex
 module _ {c : Complex} {f : Forest} {n vector_long room : ℕ} (m : ProductOf c f n vector_long room) where
   pub few_states : n ≤ 2 ^ 20
-  few_states = rw (m.states, states_number c f m.loops) (pow_mono m.few)
+  few_states = rw m.states (states_few m.loops).1
 
   module _ {p : KSParams} {w : ℕ → Float} {places : List ℕ} {terms : List Float} (tables : Tables c p w (length c.triangles) places terms) (states rest : List ℕ) (begins : states ≡ su2_states c ++ rest) where
-    pub block_fits : 256 ≤ length places → 256 ≤ length terms → (vector : List Float) → length vector ≡ vector_long → BlockFits 0 n states places terms vector (length c.triangles)
-    block_fits places_long terms_long vector long =
-        let few = m.loops.accepted.few_triangles in
+    pub block_fits : (vector : List Float) → length vector ≡ vector_long → BlockFits 0 n states places terms vector (length c.triangles)
+    block_fits vector long =
+        let few = m.loops.of.accepted.few_triangles in
         let same : length vector ≡ length (su2_states c) = long ∙ m.amplitudes ∙ m.states in
         record {
           few_triangles = few;
           states_long = omega (arith, m.states, ap length begins, length-append (su2_states c) rest);
           vector_long = omega (arith, long, m.amplitudes);
-          places_long = omega (arith, few, places_long);
-          terms_long = omega (arith, few, terms_long);
           within = λ i t h b.
               let inside : i < length (su2_states c) = omega (arith, m.states, h) in
-              rw (tables.places_are t b, same) (flip_within c m.loops.accepted t b i inside);
+              rw (tables.places_are t b, same) (flip_within c m.loops.of.accepted t b i inside);
         }
 
     pub product_written : (vector result old : List Float) → result ≡ front (map (listed_product_at p.electric states places terms vector (length c.triangles)) (below n)) old → result ≡ front (su2_product c p w vector) old
-    product_written vector result old is = is ∙ ap (λ l. front l old) (product_is c m.loops.accepted p w places terms tables states rest begins vector n m.states)
+    product_written vector result old is = is ∙ ap (λ l. front l old) (product_is c m.loops.of.accepted p w places terms tables states rest begins vector n m.states)

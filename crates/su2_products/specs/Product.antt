@@ -18,7 +18,7 @@ use Rattle.su2_even_sets.specs.declared.Forest.{Forest}
 use Rattle.su2_even_sets.specs.EvenSets.{su2_states}
 use Rattle.su2_masks.specs.Basis.{su2_tests}
 use Rattle.su2_masks.specs.Flips.{su2_target}
-use Rattle.su2_masks.specs.Place.{LoopsOf}
+use Rattle.su2_masks.specs.Place.{FewLoops}
 use Rattle.su2_rows.specs.Rows.{su2_diagonal}
 
 -- from 0.0; the diagonal of state i × its amplitude is added
@@ -75,14 +75,11 @@ pub record BlockFits (from room : ℕ) (states places : List ℕ) (terms vector 
   pub few_triangles : n ≤ 256
   pub states_long : from + room ≤ length states
   pub vector_long : from + room ≤ length vector
-  pub places_long : n ≤ length places
-  pub terms_long : n ≤ length terms
   pub within : (i t : ℕ) → i < from + room → t < n → bit_xor i (get_or places t 0) < length vector
 
 -- the loops of an accepted complex that has n states, and room for a vector of them
 pub record ProductOf (c : Complex) (f : Forest) (n vector_long room : ℕ) : Type 0 where
-  pub loops : LoopsOf c f
-  pub few : f.count ≤ 20
+  pub loops : FewLoops c f
   pub states : n ≡ length (su2_states c)
   pub amplitudes : vector_long ≡ n
   pub long : n ≤ room

@@ -4,22 +4,22 @@ ghost use Rattle.std.specs.Int.Bits.{bit_xor};
 ghost use Rattle.std.specs.Int.Count.{ones};
 ghost use Rattle.mathematics.specs.Writing.{front};
 ghost use Rattle.mathematics.specs.Calls.{Answered};
-ghost use Rattle.answers.specs.Answer.{number_answer};
+ghost use Rattle.answers.specs.Refusal.{answer_of};
 ghost use Rattle.complex.specs.Complex.{complex_of};
-ghost use Rattle.matrices.specs.Weights.{weight, Weighed};
+ghost use Rattle.matrices.specs.Weights.{weight, Weighed, is_given, given_list};
 ghost use Rattle.matrices.specs.Matrix.{Matrix, passed};
 ghost use Rattle.su2_even_sets.specs.EvenSets.{su2_states};
 ghost use Rattle.su2_quantum.specs.Dense.{su2_electric_entry, su2_entry, su2_dense, su2_dense_call, MatrixOf};
 ghost use Rattle.matrices.specs.Squares.{energy};
 
-use acceptance::judge;
-use answers::Answer;
+use answers::refusal::Refusal;
 use complex::SimplicialComplex;
 use matrices::coupling::{KSParams, is_su2};
 use matrices::electric::mask_energy;
 use matrices::matrix::{add_entry, clear_matrix};
-use matrices::weights::{judge_weights, weight_of};
-use su2_even_sets::{Forest, closing_loops};
+use matrices::weights::{accept_weights, weight_at};
+use su2_even_sets::Forest;
+use su2_masks::accepted::accepted_loops;
 use su2_masks::flip::triangle_place;
 use su2_masks::write_masks;
 use triangles::{all_sides, sides_at};
@@ -29,8 +29,8 @@ fn add_energies(h: &mut [f64], n: usize, factor: f64, states: &[u64])
     requires { (n ≤ 2 ^ 20) × (n * n ≤ length h.old) × (n ≤ length states.now) }
     ensures { (f : ℕ → ℕ → Float) (old : List Float) → Matrix f n old h.old → Matrix (passed f (λ i. i) (λ i. energy factor (ones (get_or states.now i 0))) n) n old h.new }
 {
-    for i in 0..n {
-        add_entry(h, n, i, i, mask_energy(factor, states[i]));
+    for (i, state) in states[..n].iter().enumerate() {
+        add_entry(h, n, i, i, mask_energy(factor, *state));
     }
 }
 
@@ -51,16 +51,15 @@ fn add_triangles(
     c: SimplicialComplex,
     f: Forest,
     p: KSParams,
-    given: bool,
-    weights: &[f64],
+    weights: Option<&[f64]>,
 )
-    requires { MatrixOf (complex_of c) f n (length h.old) × Weighed (length (complex_of c).triangles) given weights.now }
-    ensures { (old : List Float) → Matrix (su2_electric_entry (complex_of c) p) n old h.old → Matrix (su2_entry (complex_of c) p (weight given weights.now) (length (complex_of c).triangles)) n old h.new }
+    requires { MatrixOf (complex_of c) f n (length h.old) × Weighed (length (complex_of c).triangles) (is_given weights) (given_list weights) }
+    ensures { (old : List Float) → Matrix (su2_electric_entry (complex_of c) p) n old h.old → Matrix (su2_entry (complex_of c) p (weight (is_given weights.entry) (given_list weights.entry)) (length (complex_of c).triangles)) n old h.new }
 {
     let all = all_sides(c);
     for t in 0..c.n_triangles {
         let place = triangle_place(f, sides_at(&all, t));
-        add_flips(h, n, place, p.magnetic * weight_of(given, weights, t));
+        add_flips(h, n, place, p.magnetic * weight_at(weights, t));
     }
 }
 
@@ -71,48 +70,34 @@ fn write_matrix(
     c: SimplicialComplex,
     f: Forest,
     p: KSParams,
-    given: bool,
-    weights: &[f64],
+    weights: Option<&[f64]>,
     states: &[u64],
 )
-    requires { MatrixOf (complex_of c) f n (length h.old) × Weighed (length (complex_of c).triangles) given weights.now × ((rest : List ℕ) × (states.now ≡ su2_states (complex_of c) ++ rest)) }
-    ensures { h.new ≡ front (su2_dense (complex_of c) p (weight given weights.now)) h.old }
+    requires { MatrixOf (complex_of c) f n (length h.old) × Weighed (length (complex_of c).triangles) (is_given weights) (given_list weights) × ((rest : List ℕ) × (states.now ≡ su2_states (complex_of c) ++ rest)) }
+    ensures { h.new ≡ front (su2_dense (complex_of c) p (weight (is_given weights.entry) (given_list weights.entry))) h.old }
 {
     clear_matrix(h, n);
     add_energies(h, n, p.electric, states);
-    add_triangles(h, n, c, f, p, given, weights);
+    add_triangles(h, n, c, f, p, weights);
 }
 
 // All even edge sets of a record go to the beginning of one list, and the Hamiltonian on them to that of another. All is judged first.
 pub fn build_su2_hamiltonian(
     c: SimplicialComplex,
     p: KSParams,
-    given: bool,
-    weights: &[f64],
+    weights: Option<&[f64]>,
     states: &mut [u64],
     res: &mut [f64],
-) -> Answer
-    ensures { Answered (su2_dense_call (complex_of c) p given weights.now states.old res.old) (number_answer result) (states.new, res.new) }
+) -> Result<usize, Refusal>
+    ensures { Answered (su2_dense_call (complex_of c) p (is_given weights.entry) (given_list weights.entry) states.old res.old) (answer_of result) (states.new, res.new) }
 {
-    let number = judge(c);
-    if number != 0 {
-        return Answer::Refused(number);
-    }
-    let f = closing_loops(c);
-    let count = f.count;
-    if 20 < count {
-        return Answer::Refused(10);
-    }
-    let other = judge_weights(c.n_triangles, is_su2(p), given, weights);
-    if other != 0 {
-        return Answer::Refused(other);
-    }
-    let n = 1 << count;
+    let f = accepted_loops(c)?;
+    accept_weights(c.n_triangles, is_su2(p), weights)?;
+    let n = 1 << f.count;
     if (states.len() < n) | (res.len() < n * n) {
-        return Answer::Refused(15);
+        return Err(Refusal::NoRoom);
     }
-    let loops = f.loops;
-    write_masks(states, &loops, count);
-    write_matrix(res, n, c, f, p, given, weights, states);
-    Answer::Number(n)
+    write_masks(states, &f.loops, f.count);
+    write_matrix(res, n, c, f, p, weights, states);
+    Ok(n)
 }

@@ -9,8 +9,8 @@ use native.Mathlib.Decide.{ℕ_discrete}
 use native.Mathlib.Omega.{arith}
 use lib.Bits.{bit_xor, xor_comm}
 use lib.Ieee.{Float, nan}
-use lib.ListN.{get_or, length, take, set}
-use lib.Seq.{get_or-set_same, get_or-set_other}
+use lib.ListN.{get_or, length, take, drop, set, length-append, length-drop, get_or-append}
+use lib.Seq.{length-take-le, get_or-take, get_or-set_same, get_or-set_other}
 use Rattle.mathematics.specs.Bits.{bit}
 use Rattle.mathematics.specs.Counting.{below}
 use Rattle.mathematics.specs.Entries.{Each}
@@ -128,6 +128,20 @@ flipped_are old new values n by room same_long long flipped =
     entries_are (λ t. bit_xor (get_or old t 0) by) (λ t. get_or values t nan) new values (same_long ∙ long) n (rw same_long room) flipped (λ t b. refl)
     ∙ sym (ap (flipped_entries by) (entries_are (λ t. get_or old t 0) (λ t. get_or values t nan) old values long n room (λ t b. refl) (λ t b. refl))
     ∙ map-map (λ (e : ℕ × Float). (bit_xor e.0 by, e.1)) (λ t. (get_or old t 0, get_or values t nan)) (below n))
+
+-- the flipped columns before those that are kept
+module _ (old columns : List ℕ) (values : List Float) (n by : ℕ) (room : n ≤ length old) (same : length columns ≡ length (take n old)) where
+  many : length columns ≡ n
+  many = same ∙ length-take-le n old room
+
+  pub long_kept : length (columns ++ drop n old) ≡ length old
+  long_kept = omega (arith, many, length-append columns (drop n old), length-drop n old)
+
+  pub flipped_front : length old ≡ length values → ((t : ℕ) → t < length columns → get_or columns t 0 ≡ bit_xor (get_or (take n old) t 0) by)
+      → take n (pairs (columns ++ drop n old) values) ≡ flipped_entries by (take n (pairs old values))
+  flipped_front long flipped =
+      flipped_are old (columns ++ drop n old) values n by room long_kept long
+      (λ t h. let inside : t < length columns = rw many h in get_or-append columns (drop n old) 0 t inside ∙ flipped t inside ∙ ap (λ (x : ℕ). bit_xor x by) (get_or-take n old t 0 h))
 
 module _ (places : List ℕ) (terms : List Float) (n : ℕ) where
   -- the tables are those of row 0

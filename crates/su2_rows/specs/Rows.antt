@@ -1,5 +1,5 @@
 -- The two-valued Hamiltonian as row lists: for each state the columns that have an entry, rising, with their values.
-use Rattle.std.specs.Prelude.{ℕ, ◌+◌, ◌-◌, ◌*◌, ◌^◌, ◌≤◌, ◌<◌, List, [], ◌∷◌, ◌++◌, map, Bool, true, ◌||◌, ◌≡◌, ltb, Float, get_or, length}
+use Rattle.std.specs.Prelude.{ℕ, ◌+◌, ◌-◌, ◌*◌, ◌^◌, ◌≤◌, ◌<◌, List, [], ◌∷◌, ◌++◌, map, Bool, true, ◌||◌, ◌≡◌, ltb, Float, get_or, length, take}
 use Rattle.std.specs.Int.Bits.{bit_xor}
 use Rattle.std.specs.Int.Count.{ones}
 use Rattle.std.specs.Float.{binary64, nan}
@@ -12,6 +12,7 @@ use Rattle.matrices.specs.declared.coupling.KSParams.{KSParams}
 use Rattle.matrices.specs.Coupling.{su2_right}
 use Rattle.matrices.specs.Weights.{weight, weights_tests}
 use Rattle.matrices.specs.Squares.{energy}
+use Rattle.rows.specs.Entries.{pairs}
 use Rattle.rows.specs.Row.{row_of, diagonal_first, Sorted}
 use Rattle.rows.specs.RowLists.{rows_to, row_starts, row_columns, row_values, RowAppended, AllRowsFit}
 use Rattle.gauss_law.specs.Listing.{limit}
@@ -19,7 +20,8 @@ use Rattle.su2_even_sets.specs.declared.Forest.{Forest}
 use Rattle.su2_even_sets.specs.EvenSets.{su2_states, mask_place}
 use Rattle.su2_masks.specs.Basis.{su2_tests}
 use Rattle.su2_masks.specs.Flips.{triangle_mask, flips}
-use Rattle.su2_masks.specs.Place.{LoopsOf}
+use Rattle.su2_masks.specs.Place.{FewLoops}
+use Rattle.su2_rows.specs.declared.tables.Flips.{Flips}
 use Rattle.su2_rows.specs.Once.{ColumnsOnce}
 
 -- the electric factor times the number of edges in state i
@@ -72,6 +74,10 @@ su2_rows_call c p given weights work starts columns values =
 abbrev pub flipped_entries : ℕ → List (ℕ × Float) → List (ℕ × Float)
 flipped_entries by entries = map (λ e. (bit_xor e.0 by, e.1)) entries
 
+-- the entries of the triangles in a row
+abbrev pub flips_in : Flips → List (ℕ × Float)
+flips_in f = take f.count (pairs f.places f.terms)
+
 -- the entries of the triangles in row i, by the tables of n triangles: the flip and the term of each
 abbrev pub flip_entries : List ℕ → List Float → ℕ → ℕ → List (ℕ × Float)
 flip_entries places terms n i = map (λ t. (bit_xor i (get_or places t 0), get_or terms t nan)) (below n)
@@ -97,17 +103,13 @@ pub record RowsFit (n : ℕ) (electric : Float) (states places : List ℕ) (term
   pub few : n ≤ 2 ^ 20
   pub few_triangles : t ≤ 256
   pub states_long : n ≤ length states
-  pub places_long : t ≤ length places
-  pub terms_long : t ≤ length terms
-  pub same_long : length places ≡ length terms
   pub starts_fit : n < starts_room
   pub fit : AllRowsFit (table_entries electric states places terms t) n columns_room values_room
 
 -- the loops of an accepted complex that has n states, a coupling in its range, and room for all rows and their starts
 pub record RowsOf (c : Complex) (f : Forest) (p : KSParams) (n starts_room columns_room values_room : ℕ) : Type 0 where
-  pub loops : LoopsOf c f
-  pub few : f.count ≤ 20
-  pub states : n ≡ 2 ^ f.count
+  pub loops : FewLoops c f
+  pub states : n ≡ length (su2_states c)
   pub right : su2_right p ≡ true
   pub starts_fit : n < starts_room
   pub columns_fit : (length c.triangles + 1) * n - 1 ≤ columns_room

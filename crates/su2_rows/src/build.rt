@@ -1,21 +1,21 @@
 // The two-valued Hamiltonian as row lists.
-ghost use Rattle.std.specs.Prelude.{◌≡◌, List, ◌++◌, ℕ, length};
+ghost use Rattle.std.specs.Prelude.{◌≡◌, List, ◌++◌, ℕ, ◌+◌, ◌-◌, ◌*◌, ◌^◌, ◌<◌, ◌≤◌, length};
 ghost use Rattle.mathematics.specs.Calls.{Answered};
-ghost use Rattle.answers.specs.Answer.{number_answer};
+ghost use Rattle.answers.specs.Refusal.{answer_of};
 ghost use Rattle.complex.specs.Complex.{complex_of};
-ghost use Rattle.matrices.specs.Weights.{weight, Weighed};
+ghost use Rattle.matrices.specs.Weights.{weight, Weighed, is_given, given_list};
 ghost use Rattle.rows.specs.RowLists.{RowsWritten};
 ghost use Rattle.su2_even_sets.specs.EvenSets.{su2_states};
 ghost use Rattle.su2_rows.specs.Rows.{su2_row, su2_entries, su2_rows_call, RowsOf};
 
 use crate::fill::write_rows;
-use crate::tables::write_tables;
-use acceptance::judge;
-use answers::Answer;
+use crate::tables::Flips;
+use answers::refusal::Refusal;
 use complex::SimplicialComplex;
 use matrices::coupling::{KSParams, is_su2};
-use matrices::weights::judge_weights;
-use su2_even_sets::{Forest, closing_loops};
+use matrices::weights::accept_weights;
+use su2_even_sets::Forest;
+use su2_masks::accepted::accepted_loops;
 use su2_masks::write_masks;
 
 // The rows of all states go to the beginning of three lists. Another list begins with the states.
@@ -24,30 +24,25 @@ fn write_lists(
     c: SimplicialComplex,
     f: Forest,
     p: KSParams,
-    given: bool,
-    weights: &[f64],
+    weights: Option<&[f64]>,
     states: &[u64],
     starts: &mut [u32],
     columns: &mut [u32],
     values: &mut [f64],
 )
-    requires { RowsOf (complex_of c) f p n (length starts.old) (length columns.old) (length values.old) × Weighed (length (complex_of c).triangles) given weights.now × ((rest : List ℕ) × (states.now ≡ su2_states (complex_of c) ++ rest)) }
-    ensures { RowsWritten (su2_row (complex_of c) p (weight given weights.now)) n (su2_entries (complex_of c) p (weight given weights.now)) starts.old columns.old values.old starts.new columns.new values.new }
+    requires { RowsOf (complex_of c) f p n (length starts.old) (length columns.old) (length values.old) × Weighed (length (complex_of c).triangles) (is_given weights) (given_list weights) × ((rest : List ℕ) × (states.now ≡ su2_states (complex_of c) ++ rest)) }
+    ensures { RowsWritten (su2_row (complex_of c) p (weight (is_given weights.entry) (given_list weights.entry))) n (su2_entries (complex_of c) p (weight (is_given weights.entry) (given_list weights.entry))) starts.old columns.old values.old starts.new columns.new values.new }
 {
-    let mut places = [0u32; 256];
-    let mut terms = [0.0f64; 256];
-    write_tables(&mut places, &mut terms, c, f, p, given, weights);
-    write_rows(
-        n,
-        p.electric,
-        states,
-        &mut places,
-        &mut terms,
-        c.n_triangles,
-        starts,
-        columns,
-        values,
-    );
+    let mut flips = Flips::of(c, f, p, weights);
+    write_rows(n, p.electric, states, &mut flips, starts, columns, values);
+}
+
+// How many entries n rows have: each one for each triangle and one on the diagonal, all but the first, which has none there.
+pub fn entries_number(n_triangles: usize, n: usize) -> usize
+    requires { (n_triangles ≤ 256) × (0 < n) × (n ≤ 2 ^ 20) }
+    ensures { result ≡ (n_triangles + 1) * n - 1 }
+{
+    (n_triangles + 1) * n - 1
 }
 
 // All even edge sets of a record go to the beginning of one list, and the rows of the Hamiltonian on them to that of three others. All is
@@ -55,37 +50,24 @@ fn write_lists(
 pub fn build_csr_su2(
     c: SimplicialComplex,
     p: KSParams,
-    given: bool,
-    weights: &[f64],
+    weights: Option<&[f64]>,
     states: &mut [u64],
     starts: &mut [u32],
     columns: &mut [u32],
     values: &mut [f64],
-) -> Answer
-    ensures { Answered (su2_rows_call (complex_of c) p given weights.now states.old starts.old columns.old values.old) (number_answer result) (states.new, starts.new, columns.new, values.new) }
+) -> Result<usize, Refusal>
+    ensures { Answered (su2_rows_call (complex_of c) p (is_given weights.entry) (given_list weights.entry) states.old starts.old columns.old values.old) (answer_of result) (states.new, starts.new, columns.new, values.new) }
 {
-    let number = judge(c);
-    if number != 0 {
-        return Answer::Refused(number);
-    }
-    let f = closing_loops(c);
-    let count = f.count;
-    if 20 < count {
-        return Answer::Refused(10);
-    }
-    let other = judge_weights(c.n_triangles, is_su2(p), given, weights);
-    if other != 0 {
-        return Answer::Refused(other);
-    }
-    let n = 1 << count;
-    let entries = (c.n_triangles + 1) * n - 1;
+    let f = accepted_loops(c)?;
+    accept_weights(c.n_triangles, is_su2(p), weights)?;
+    let n = 1 << f.count;
+    let entries = entries_number(c.n_triangles, n);
     if (((states.len() < n) | (starts.len() < n + 1)) | (columns.len() < entries))
         | (values.len() < entries)
     {
-        return Answer::Refused(15);
+        return Err(Refusal::NoRoom);
     }
-    let loops = f.loops;
-    write_masks(states, &loops, count);
-    write_lists(n, c, f, p, given, weights, states, starts, columns, values);
-    Answer::Number(entries)
+    write_masks(states, &f.loops, f.count);
+    write_lists(n, c, f, p, weights, states, starts, columns, values);
+    Ok(entries)
 }

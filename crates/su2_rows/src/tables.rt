@@ -1,34 +1,65 @@
 // What all rows need of each triangle, found once.
-ghost use Rattle.std.specs.Prelude.{◌≤◌, length};
+ghost use Rattle.std.specs.Prelude.{◌≡◌, ◌<◌, ◌≤◌, EachIndex, length, get_or};
+ghost use Rattle.std.specs.Int.Bits.{bit_xor};
 ghost use Rattle.complex.specs.Complex.{complex_of};
-ghost use Rattle.matrices.specs.Weights.{weight, Weighed};
-ghost use Rattle.su2_masks.specs.Place.{LoopsOf};
-ghost use Rattle.su2_rows.specs.Rows.{Tables};
+ghost use Rattle.matrices.specs.Weights.{weight, Weighed, is_given, given_list};
+ghost use Rattle.rows.specs.Row.{ColumnsDiffer, Sorted};
+ghost use Rattle.su2_masks.specs.Place.{FewLoops};
+ghost use Rattle.su2_rows.specs.Rows.{flipped_entries, flips_in, Tables};
 
 use complex::SimplicialComplex;
 use matrices::coupling::KSParams;
-use matrices::weights::weight_of;
+use matrices::weights::weight_at;
+use numbers::sizes::MOST_TRIANGLES;
+use rows::row::sort_row;
 use su2_even_sets::Forest;
 use su2_masks::flip::triangle_place;
 use triangles::{all_sides, sides_at};
 
-// The place of each triangle's edges, and its magnetic factor × weight.
-pub fn write_tables(
-    places: &mut [u32],
-    terms: &mut [f64],
-    c: SimplicialComplex,
-    f: Forest,
-    p: KSParams,
-    given: bool,
-    weights: &[f64],
-)
-    requires { LoopsOf (complex_of c) f × (f.count ≤ 20) × Weighed (length (complex_of c).triangles) given weights.now × (256 ≤ length places.old) × (256 ≤ length terms.old) }
-    ensures { Tables (complex_of c) p (weight given weights.now) (length (complex_of c).triangles) places.new terms.new }
+// Of each triangle the place of its edges, and its magnetic factor × weight. The two lists begin with them.
+#[derive(Drop)]
+pub struct Flips {
+    pub places: [u32; MOST_TRIANGLES],
+    pub terms: [f64; MOST_TRIANGLES],
+    pub count: usize,
+}
+
+// The columns of a row, each flipped by the same bits.
+fn flip_columns(columns: &mut [u32], by: u32)
+    ensures { EachIndex columns.new (λ t. get_or columns.new t 0 ≡ bit_xor (get_or columns.old t 0) by) }
 {
-    let all = all_sides(c);
-    for t in 0..c.n_triangles {
-        let place = triangle_place(f, sides_at(&all, t));
-        places[t] = place as u32;
-        terms[t] = p.magnetic * weight_of(given, weights, t);
+    for column in columns.iter_mut() {
+        *column ^= by;
+    }
+}
+
+impl Flips {
+    // Those of an accepted record: the entries of its triangles in row 0.
+    pub fn of(c: SimplicialComplex, f: Forest, p: KSParams, weights: Option<&[f64]>) -> Flips
+        requires { FewLoops (complex_of c) f × Weighed (length (complex_of c).triangles) (is_given weights) (given_list weights) }
+        ensures { Tables (complex_of c) p (weight (is_given weights.entry) (given_list weights.entry)) (length (complex_of c).triangles) result.places result.terms × (result.count ≡ length (complex_of c).triangles) }
+    {
+        let all = all_sides(c);
+        let mut places = [0; MOST_TRIANGLES];
+        let mut terms = [0.0; MOST_TRIANGLES];
+        for t in 0..c.n_triangles {
+            let place = triangle_place(f, sides_at(&all, t));
+            places[t] = place as u32;
+            terms[t] = p.magnetic * weight_at(weights, t);
+        }
+        Flips {
+            places,
+            terms,
+            count: c.n_triangles,
+        }
+    }
+
+    // The entries of the triangles in one row become those in another, and are sorted. From a row to the next few change their order.
+    pub fn flip(&mut self, by: u32)
+        requires { (self.old.count ≤ 256) × ColumnsDiffer (flips_in self.old) }
+        ensures { Sorted (flipped_entries by (flips_in self.old)) (flips_in self.new) × (self.new.count ≡ self.old.count) }
+    {
+        flip_columns(&mut self.places[..self.count], by);
+        sort_row(&mut self.places, &mut self.terms, self.count);
     }
 }
