@@ -61,7 +61,13 @@ pub fn list_and_seek(basis: &Basis, configuration: &[i32], states: &mut [i32]) -
     requires { Sought basis.now.walker basis.now.lambda basis.now.blocks configuration.now (length states.old) }
     ensures { (c : Complex) (L : ℕ) → BasisOf c L basis.now → FoundIn c L configuration.now states.old states.new result }
 {
-    list_and_find(basis.walker, basis.lambda, basis.blocks, configuration, states)
+    list_and_find(
+        basis.walker,
+        basis.lambda,
+        basis.blocks,
+        configuration,
+        states,
+    )
 }
 
 // The place of a configuration in the basis of a record, which goes to the beginning of the list. All is judged first.

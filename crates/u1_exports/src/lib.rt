@@ -26,8 +26,8 @@ use entries::count_entries;
 use enumeration::count::count_states;
 use enumeration::enumerate_gauge_invariant;
 use exports::{
-    Told, open, refused, signed, signed_refusal, signed_result, store_params, store_value, told_number,
-    told_result,
+    Told, open, refused, signed, signed_refusal, signed_result, store_params, store_value,
+    told_number, told_result,
 };
 use hamiltonian::dense::build_hamiltonian;
 use hilbert::index::config_to_index;

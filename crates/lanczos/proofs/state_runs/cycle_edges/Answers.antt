@@ -11,7 +11,7 @@ pub loop-e-preserved : goal.loop-e-preserved
 loop-e-preserved c =
     let fits : SFits w8 (get_or c.args.cycle.now c.loop-e.e (pos 0)) = search rules in
     elim c.if-sign-ne0.branch [
-      then-sign-ne0 w ↦
+      | then-sign-ne0 w ↦
           covering_pushed _ c.if-sign-ne0.edges.list _ c.if-sign-ne0.edges.count _ _ c.loop-e.invariant (rw w.edges-is w.push.ensures.longer) (rw w.edges-is w.push.ensures.listed)
       | else-sign-ne0 w ↦ rw w.edges-is (covering_passed _ _ _ _ c.loop-e.invariant fits w.if-sign-ne0.false)
     ]

@@ -22,6 +22,6 @@ gap-requires c =
 pub returns : goal.returns
 returns c =
     let turned : to_z w32 (of_z w32 c.turned.result) ≡ c.args.x *ℤ c.args.sign =
-        back32 c.turned.result c.turned.type_inv ∙ c.turned.ensures ∙ ap₂ ◌*ℤ◌ (back32 c.args.x c.ranges.x.sfits) (back8 c.args.sign c.ranges.sign.sfits) in
+    back32 c.turned.result c.turned.type_inv ∙ c.turned.ensures ∙ ap₂ ◌*ℤ◌ (back32 c.args.x c.ranges.x.sfits) (back8 c.args.sign c.ranges.sign.sfits) in
     room_is c.args.lambda c.args.x c.requires.0 c.args.sign c.requires.2 c.args.most _ c.requires.3
     (rw (← (top_back c.args.lambda c.requires.1), ← turned, ← c.gap.ensures) c.min.ensures)

@@ -13,7 +13,7 @@ pub returns-in_err-basis : goal.returns-in_err-basis
 unfolding triangle_call
 returns-in_err-basis c =
     let h = shift_demanded c.args.c c.args.lambda c.args.triangle c.args.state c.args.states.now _ _
-        (rw (answer_passed _ _ c.from_residual.ensures.1) (refuses _ (basis_refused c.in_err-basis.ensures _) (ne_eqb _ 0 (number_positive _)))) in
+    (rw (answer_passed _ _ c.from_residual.ensures.1) (refuses _ (basis_refused c.in_err-basis.ensures _) (ne_eqb _ 0 (number_positive _)))) in
     record { answered = h.0; shift_demand = h.1 }
 
 pub returns-then-c-triangle : goal.returns-then-c-triangle
