@@ -12,7 +12,8 @@ pub fn refusal_text(number: usize, text: &mut [u8]) -> Result<usize, Refusal>
     ensures { Answered (text_call number text.old) (answer_of result) text.new }
 {
     let sentence = Refusal::try_from(number)?.sentence().as_bytes();
-    if text.len() < sentence.len() {
+    let room = text.len();
+    if room < sentence.len() {
         return Err(Refusal::NoRoom);
     }
     text[..sentence.len()].copy_from_slice(sentence);

@@ -13,12 +13,12 @@ returns-in_err-try_from c =
     let no = c.in_err-try_from.ensures in
     call_passed _ _ c.from_residual.ensures.1 (text_call _ _) (rw no.0 (none_told _ no.1 _))
 
-pub returns-then-text-sentence : goal.returns-then-text-sentence
+pub returns-then-room-sentence : goal.returns-then-room-sentence
 unfolding text_call
-returns-then-text-sentence c =
+returns-then-room-sentence c =
     let is = c.in_ok-try_from.ensures in
     let bytes = c.as_bytes-sentence.ensures.value ∙ c.sentence.ensures in
-    refuses (text_call _ _) (past (some_told _ _ is) (here (rw (← is, ← bytes) (lt-ltb _ _ c.if-text-sentence.true)))) refl
+    refuses (text_call _ _) (past (some_told _ _ is) (here (rw (← is, ← bytes) (lt-ltb _ _ c.if-room-sentence.true)))) refl
 
 pub returns : goal.returns
 unfolding text_call
@@ -26,7 +26,7 @@ returns c =
     let is = c.in_ok-try_from.ensures in
     let bytes = c.as_bytes-sentence.ensures.value ∙ c.sentence.ensures in
     let told = bytes ∙ ap sentence is in
-    ends (text_call _ _) (past (some_told _ _ is) (past (rw (← told) (le-ltb _ _ c.if-text-sentence.false)) none))
+    ends (text_call _ _) (past (some_told _ _ is) (past (rw (← told) (le-ltb _ _ c.if-room-sentence.false)) none))
     (ap length told)
     (ap₂ (λ (a b : List ℕ). a ++ drop (length b) c.args.text.now) (c.copy_from_slice.ensures.after ∙ told) told)
     (each_sentence _ (rw (← is) (reason_listed _)))
