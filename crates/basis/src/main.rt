@@ -7,11 +7,9 @@ ghost use Rattle.pages.specs.Pages.{PageReady, Piece};
 ghost use Rattle.pages.specs.Text.{basis_refusal, basis_text};
 ghost use Rattle.basis.specs.Status.{status_digit, status_of, Told};
 
-use answers::Answer;
 use answers::refusal::Refusal;
 use numbers::sizes::INPUT_ROOM;
 use pages::{Filled, fill_begin, fill_more};
-use refusals::refusal_text;
 use std::env::{Env, FillError};
 use std::io::{Error, ErrorKind, Result, Write};
 use streams::{Input, Output, read_input, write_output};
@@ -74,14 +72,11 @@ fn fail(rt: &HostRuntime, what: &[u8], why: Error) {
 
 // The number and the sentence of a refusal go to standard error.
 fn say_refusal(rt: &HostRuntime, refusal: Refusal) {
-    let number = usize::from(refusal.number());
-    let mut text = [0u8; 256];
+    let number = refusal.number();
     say(rt, b"basis: refused ");
     let _ = eprint!(rt; "{number}");
-    if let Answer::Number(n) = refusal_text(number, &mut text) {
-        say(rt, b": ");
-        say(rt, &text[..n]);
-    }
+    say(rt, b": ");
+    say(rt, refusal.sentence().as_bytes());
     say(rt, b"\n");
 }
 

@@ -136,7 +136,7 @@ pub fn export_fundamental_loops(
         return refused(number);
     }
     let s = opened.sheet;
-    signed(told_number(fundamental_loops(s.complex, starts, edges, directions)))
+    signed(told_result(fundamental_loops(s.complex, starts, edges, directions)))
 }
 
 // The same without directions.
@@ -149,12 +149,12 @@ pub fn export_su2_fundamental_loops(sheet: &[u8], starts: &mut [u32], edges: &mu
         return refused(number);
     }
     let s = opened.sheet;
-    signed(told_number(su2_fundamental_loops(s.complex, starts, edges)))
+    signed(told_result(su2_fundamental_loops(s.complex, starts, edges)))
 }
 
 // The sentence of a refusal: the number of its bytes.
 pub fn export_refusal_text(number: u64, text: &mut [u8]) -> i64
     ensures { Exported (text_call number text.old) result text.new }
 {
-    signed(told_number(refusal_text(number as usize, text)))
+    signed(told_result(refusal_text(number as usize, text)))
 }

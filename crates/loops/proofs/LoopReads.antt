@@ -4,7 +4,7 @@ use mathlib.Core.List.{List, [], ◌∷◌, ◌++◌, map, map-append}
 use mathlib.Core.Path.{◌≡◌, sym, ap, ◌∙◌}
 use native.Mathlib.Omega.{arith}
 use lib.IntN.{negsuc}
-use lib.ListN.{get_or, set, length, length-append, length-map}
+use lib.ListN.{get_or, set, take, length, length-append, length-map}
 use lib.Seq.{get_or-take}
 use Rattle.mathematics.specs.Writing.{put}
 use Rattle.mathematics.proofs.Ordered.{each_at}
@@ -102,3 +102,12 @@ module _ {c : SimplicialComplex} {r : TreeParents} (h : Parented c r) where
           let n = next_free in
           let i = each_at 0 (free_below K) j n.more in
           rw n.is (omega (arith, edges_long c))
+
+    -- the entry j of the list of them
+    pub slice_read : {items : List ℕ} {j e : ℕ} → items ≡ take free.count free.list → j < length items → e ≡ get_or items j 0 → FreeRead free j e
+    slice_read {items} {j} {e} stands before is =
+        let long : length items ≡ free.count = ap length (stands ∙ of.stands) ∙ sym of.count in
+        record { more = omega arith; is = is ∙ ap (λ (l : List ℕ). get_or l j 0) stands ∙ get_or-take free.count free.list j 0 (omega arith) }
+
+    pub slice_long : {items : List ℕ} → items ≡ take free.count free.list → length items ≡ free.count
+    slice_long stands = ap length (stands ∙ of.stands) ∙ sym of.count

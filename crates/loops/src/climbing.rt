@@ -23,15 +23,12 @@ pub fn tree_parents(tree: SpanningTree) -> TreeParents
 {
     let mut place = [0u8; MOST_VERTICES];
     let mut led = [0u8; MOST_VERTICES];
-    for i in 0..tree.found {
-        let v = byte(tree.queue[i + 1]);
+    for (i, e) in tree.tree_edges[..tree.found].iter().enumerate() {
+        let v = usize::from(tree.queue[i + 1]);
         place[v] = (i + 1) as u8;
-        led[v] = tree.tree_edges[i];
+        led[v] = *e;
     }
-    TreeParents {
-        place: place,
-        led: led,
-    }
+    TreeParents { place, led }
 }
 
 // The end of edge e across from v.

@@ -1,7 +1,7 @@
 // The fundamental loops of a record.
 ghost use Rattle.std.specs.Prelude.{◌≡◌, ◌+◌, ◌<◌, ◌≤◌, length};
 ghost use Rattle.mathematics.specs.Calls.{Answered};
-ghost use Rattle.answers.specs.Answer.{number_answer};
+ghost use Rattle.answers.specs.Refusal.{answer_of};
 ghost use Rattle.complex.specs.Complex.{complex_of};
 ghost use Rattle.gauss_law.specs.Listing.{free_edges};
 ghost use Rattle.gauss_law.specs.Spanning.{FreeOf};
@@ -9,14 +9,14 @@ ghost use Rattle.loops.specs.Loops.{loop_of, all_steps, loops_call, su2_loops_ca
 ghost use Rattle.loops.specs.Climbing.{Parented, StepsFit, LoopPut, LoopsPut};
 
 use crate::climbing::{TreeParents, path_length, tree_parents, write_path};
-use acceptance::judge;
-use answers::Answer;
+use acceptance::accept;
+use answers::refusal::Refusal;
 use complex::SimplicialComplex;
 use complex::search::search;
 use gauss_law::spanning::free_edges;
 use numbers::edge_list::EdgeList;
 use numbers::sizes::MOST_EDGES;
-use numbers::{byte, edge_end, edge_start};
+use numbers::{edge_end, edge_start};
 
 // The loops of a record have no more steps than this together: there are no more loops than edges, and none goes over an edge twice.
 pub const MOST_STEPS: usize = MOST_EDGES * MOST_EDGES;
@@ -37,8 +37,8 @@ fn total_steps(c: SimplicialComplex, parents: TreeParents, free: EdgeList) -> us
     ensures { result ≡ length (all_steps (complex_of c)) }
 {
     let mut total = 0;
-    for j in 0..free.count {
-        total = total + loop_length(c, parents, byte(free.list[j]));
+    for f in free.as_slice() {
+        total += loop_length(c, parents, usize::from(*f));
     }
     total
 }
@@ -78,12 +78,11 @@ fn write_loops(
     ensures { LoopsPut (complex_of c) starts.old edges.old directions.old starts.new edges.new directions.new }
 {
     let mut at = 0;
-    for j in 0..free.count {
+    for (j, f) in free.as_slice().iter().enumerate() {
         starts[j] = at as u32;
-        at = put_loop(c, parents, byte(free.list[j]), at, edges, directions);
+        at = put_loop(c, parents, usize::from(*f), at, edges, directions);
     }
-    let count = free.count;
-    starts[count] = at as u32;
+    starts[free.len()] = at as u32;
 }
 
 // The fundamental loops of a record by rising free edge: where each begins among all steps and last how many steps there are, and of
@@ -93,28 +92,29 @@ pub fn fundamental_loops(
     starts: &mut [u32],
     edges: &mut [u8],
     directions: &mut [i8],
-) -> Answer
-    ensures { Answered (loops_call (complex_of c) starts.old edges.old directions.old) (number_answer result) (starts.new, edges.new, directions.new) }
+) -> Result<usize, Refusal>
+    ensures { Answered (loops_call (complex_of c) starts.old edges.old directions.old) (answer_of result) (starts.new, edges.new, directions.new) }
 {
-    let number = judge(c);
-    if number != 0 {
-        return Answer::Refused(number);
-    }
+    accept(c)?;
     let tree = search(&c);
     let free = free_edges(c, tree);
     let parents = tree_parents(tree);
     let total = total_steps(c, parents, free);
-    let count = free.count;
+    let count = free.len();
     if (starts.len() < count + 1) | (edges.len() < total) | (directions.len() < total) {
-        return Answer::Refused(15);
+        return Err(Refusal::NoRoom);
     }
     write_loops(c, parents, free, starts, edges, directions);
-    Answer::Number(count)
+    Ok(count)
 }
 
 // The same without directions: they go to a list of its own, which has room for those of every record.
-pub fn su2_fundamental_loops(c: SimplicialComplex, starts: &mut [u32], edges: &mut [u8]) -> Answer
-    ensures { Answered (su2_loops_call (complex_of c) starts.old edges.old) (number_answer result) (starts.new, edges.new) }
+pub fn su2_fundamental_loops(
+    c: SimplicialComplex,
+    starts: &mut [u32],
+    edges: &mut [u8],
+) -> Result<usize, Refusal>
+    ensures { Answered (su2_loops_call (complex_of c) starts.old edges.old) (answer_of result) (starts.new, edges.new) }
 {
     let mut directions = [0i8; MOST_STEPS];
     fundamental_loops(c, starts, edges, &mut directions)

@@ -14,8 +14,9 @@ use Rattle.mathematics.specs.Counting.{below}
 use Rattle.mathematics.proofs.Tests.{and_parts, all_at}
 use Rattle.mathematics.proofs.Lists.{numbers_equal, listed_at}
 use Rattle.mathematics.proofs.Below.{map_below_at}
-use Rattle.lines.specs.Lines.{ascii}
-use Rattle.refusals.specs.Sentences.{refusals, numbers, sentence_in, sentence, in_table, PlainText}
+use Rattle.std.proofs.Common.{codes}
+use Rattle.answers.specs.Sentences.{refusals, numbers, sentence_in, sentence, in_table}
+use Rattle.refusals.specs.Sentences.{PlainText}
 
 -- the numbers are 1 to 17, in order, each once
 pub numbers_in_order : numbers refusals ≡ map suc (below 17)
@@ -54,21 +55,21 @@ plain_means s h =
 
 -- it holds of the sentence with each number of a table, where it holds of the table
 all_plain : List (ℕ × String) → Bool
-all_plain table = every_entry (λ (r : ℕ × String). plain (ascii r.1)) table
+all_plain table = every_entry (λ (r : ℕ × String). plain (codes r.1)) table
 
 plain_in : (table : List (ℕ × String)) → all_plain table ≡ true → (n : ℕ) → listed eqb n (numbers table) ≡ true → plain (sentence_in table n) ≡ true
 unfolding all_plain every_entry listed numbers sentence_in
 plain_in [] h n is = absurd (false≢true is)
 plain_in (r ∷ table) h n is = go (eqb n r.0) is (plain_in table p.1 n)
   where
-    p : (plain (ascii r.1) ≡ true) × (all_plain table ≡ true)
-    p = and_parts (plain (ascii r.1)) (all_plain table) h
+    p : (plain (codes r.1) ≡ true) × (all_plain table ≡ true)
+    p = and_parts (plain (codes r.1)) (all_plain table) h
 
-    go : (b : Bool) → (b || listed eqb n (numbers table)) ≡ true → (listed eqb n (numbers table) ≡ true → plain (sentence_in table n) ≡ true) → plain (cond b (ascii r.1) (sentence_in table n)) ≡ true
+    go : (b : Bool) → (b || listed eqb n (numbers table)) ≡ true → (listed eqb n (numbers table) ≡ true → plain (sentence_in table n) ≡ true) → plain (cond b (codes r.1) (sentence_in table n)) ≡ true
     go true is rest = p.0
     go false is rest = rest is
 
 -- no sentence of the table is empty or longer than 200 bytes, and each is plain ASCII without a line feed
 pub each_sentence : (n : ℕ) → in_table n ≡ true → PlainText (sentence n)
-unfolding in_table sentence refusals all_plain plain printable every_entry ascii
+unfolding in_table sentence refusals all_plain plain printable every_entry
 each_sentence n is = plain_means (sentence n) (plain_in refusals refl n is)

@@ -1,42 +1,87 @@
 -- A sentence is told, or no sentence has the number.
-use Prim.{Unit}
-use Prim.Native.Nat.{ℕ, zero, suc, ◌≤◌, ◌<◌}
-use mathlib.Core.List.{List}
-use mathlib.Core.Path.{◌≡◌, refl}
+use Prim.Native.Nat.{ℕ, zero, suc, ◌≤◌}
+use mathlib.Core.List.{List, [], ◌∷◌, map}
+use mathlib.Core.Path.{◌≡◌, refl, sym, ◌∙◌}
 use mathlib.Core.Bool.{Bool, true, false, not}
 use native.Mathlib.Omega.{arith}
-use lib.ListN.{length}
-use Rattle.mathematics.specs.Refusals.{Outcome, value, refused, first, outcome}
+use lib.Dec.{eqb}
+use lib.ListN.{length, get_or}
+use Rattle.mathematics.specs.Refusals.{value, first, outcome}
 use Rattle.mathematics.specs.Calls.{Answered}
-use Rattle.mathematics.proofs.Calls.{refuses, here}
-use Rattle.refusals.specs.Sentences.{sentence, in_table, text_tests, text_call, front_call}
-use Rattle.refusals.proofs.Table.{table_range, each_sentence}
+use Rattle.mathematics.proofs.Calls.{Tells, here}
+use Rattle.mathematics.specs.Lists.{listed}
+use Rattle.mathematics.proofs.Lists.{numbers_equal, listed_at}
+use Rattle.mathematics.proofs.Below.{map_at}
+use Rattle.answers.specs.declared.refusal.Refusal.{Refusal}
+use Rattle.answers.specs.declared.refusal.Refusal.TheVariants.{ShortSheet, NoMark, OtherVersion, WrongCounts, LargeTruncation, WrongLength, WrongEdge, WrongTriangle, Disconnected, ManyCandidates, WrongPentachoron, WrongListLength, OutOfRange, WrongFloat, NoRoom, OutOfBand, NotInBasis}
+use Rattle.answers.specs.Refusal.{refusal_number}
+use Rattle.answers.specs.Sentences.{refusals, numbers, sentence, in_table}
+use Rattle.refusals.specs.Sentences.{text_tests, text_call}
 
--- what was answered of the sentence alone is what the table answers
-pub sentence_told : (k : ℕ) → in_table k ≡ true → {n : ℕ} → n ≡ k → (old : List ℕ) {a : Outcome ℕ} {l : List ℕ} → Answered (front_call (sentence k) old) a l → Answered (text_call n old) a l
-unfolding text_call front_call first
-sentence_told k is same old h = rw (same, is) (record { answer = h.answer; lists = h.lists; known = λ z. each_sentence k is })
+-- the number of every reason is in the table
+pub reason_listed : (r : Refusal) → in_table (refusal_number r) ≡ true
+unfolding in_table numbers refusals listed
+reason_listed ShortSheet = refl
+reason_listed NoMark = refl
+reason_listed OtherVersion = refl
+reason_listed WrongCounts = refl
+reason_listed LargeTruncation = refl
+reason_listed WrongLength = refl
+reason_listed WrongEdge = refl
+reason_listed WrongTriangle = refl
+reason_listed Disconnected = refl
+reason_listed ManyCandidates = refl
+reason_listed WrongPentachoron = refl
+reason_listed WrongListLength = refl
+reason_listed OutOfRange = refl
+reason_listed WrongFloat = refl
+reason_listed NoRoom = refl
+reason_listed OutOfBand = refl
+reason_listed NotInBasis = refl
 
--- n is none of 1 to k, as a match leaves it
-abbrev pub NoneOf : ℕ → ℕ → Type 0
-NoneOf zero n = Unit {0}
-NoneOf (suc k) n = NoneOf k n × (n ≡ suc k → ⊥)
+-- and no other number
+reasons : List Refusal
+reasons =
+    ShortSheet
+    ∷ NoMark
+    ∷ OtherVersion
+    ∷ WrongCounts
+    ∷ LargeTruncation
+    ∷ WrongLength
+    ∷ WrongEdge
+    ∷ WrongTriangle
+    ∷ Disconnected
+    ∷ ManyCandidates
+    ∷ WrongPentachoron
+    ∷ WrongListLength
+    ∷ OutOfRange
+    ∷ WrongFloat
+    ∷ NoRoom
+    ∷ OutOfBand
+    ∷ NotInBasis
+    ∷ []
 
-none_above : (k n : ℕ) → NoneOf k n → 1 ≤ n → k < n
-none_above zero n others some = some
-none_above (suc k) n others some =
-    let above = none_above k n others.0 some in
-    let other = others.1 in
-    omega arith
+reasons_numbered : numbers refusals ≡ map refusal_number reasons
+unfolding numbers refusals reasons
+reasons_numbered = refl
 
--- no sentence has the number
-pub none_told : (n : ℕ) → NoneOf 17 n → (old : List ℕ) → Answered (text_call n old) (refused 13) old
-unfolding text_call
-none_told n others old = refuses _ (here (go (in_table n) refl)) refl
+pub listed_reason : (n : ℕ) → in_table n ≡ true → (r : Refusal) × (refusal_number r ≡ n)
+unfolding in_table reasons
+listed_reason n is =
+    let at = listed_at eqb numbers_equal 0 n (map refusal_number reasons) (rw reasons_numbered at is) in
+    (get_or reasons at.0 ShortSheet, sym (map_at refusal_number reasons at.0 ShortSheet 0 at.1) ∙ at.2)
+
+-- a number that no reason has is refused
+pub none_told : (n : ℕ) → ((r : Refusal) → refusal_number r ≡ n → ⊥) → (room : ℕ) → Tells (text_tests n room) 13
+none_told n others room = here (go (in_table n) refl)
   where
     go : (b : Bool) → in_table n ≡ b → not b ≡ true
-    go true is = let p = table_range n is in let q = none_above 17 n others p.0 in absurd (omega arith)
+    go true is = let p = listed_reason n is in absurd (others p.0 p.1)
     go false is = refl
+
+-- the number of a reason is not
+pub some_told : (r : Refusal) (n : ℕ) → refusal_number r ≡ n → not (in_table n) ≡ false
+some_told r n is = rw (← is, reason_listed r)
 
 -- no sentence that is told has more than 200 bytes
 pub bytes_few : (n k : ℕ) (old l : List ℕ) → Answered (text_call n old) (value k) l → k ≤ 200

@@ -20,12 +20,12 @@ returns-then-number-ne0 c = sheet_refuses c.before.before.open-opened.ensures _ 
 su2_fundamental_loops-requires : tie.Need-su2_fundamental_loops-requires
 su2_fundamental_loops-requires c κs = search rules
 
-told_number-requires : tie.Need-told_number-requires
-told_number-requires c κs = search rules
+told_result-requires : tie.Need-told_result-requires
+told_result-requires c κs = search rules
 
 signed-requires : tie.Need-signed-requires
 unfolding su2_loops_call
-signed-requires c κs = small_answer c.before.before.before.before.before.su2_fundamental_loops.ensures (λ k. few_small k.few refl) c.told_number.ensures
+signed-requires c κs = small_answer c.before.before.before.before.before.su2_fundamental_loops.ensures (λ k. few_small k.few refl) c.told_result.ensures
 
 shape_of-starts : tie.Need-shape_of-starts
 shape_of-starts c = search rules
@@ -37,9 +37,9 @@ returns : tie.Need-returns
 returns c =
     let t = c.before.before.before.before.before.before in
     let e = t.before.before.before.before in
-    sheet_answers e.before.open-opened.ensures _ e.if-number-ne0.false t.su2_fundamental_loops.ensures (back64 _ c.signed.type_inv ∙ c.signed.ensures ∙ signed_told _ c.before.told_number.ensures)
+    sheet_answers e.before.open-opened.ensures _ e.if-number-ne0.false t.su2_fundamental_loops.ensures (back64 _ c.signed.type_inv ∙ c.signed.ensures ∙ signed_told _ c.before.told_result.ensures)
 
 pub export_su2_fundamental_loops_spec : {M : Type 1} → statement M
 export_su2_fundamental_loops_spec =
     tie.close
-    (tie.spec open-opened-requires refused-requires returns-then-number-ne0 su2_fundamental_loops-requires told_number-requires signed-requires shape_of-starts shape_of-edges returns)
+    (tie.spec open-opened-requires refused-requires returns-then-number-ne0 su2_fundamental_loops-requires told_result-requires signed-requires shape_of-starts shape_of-edges returns)
