@@ -1,4 +1,5 @@
-// What the exported functions of the two-valued mode do.
+// What the exported functions of the two-valued mode do. The coupling comes as three floats, and the weights as a flag and a list, as the C interface
+// has them.
 #![tactic(auto)]
 
 ghost use Rattle.mathematics.specs.Calls.{none_lent};

@@ -24,32 +24,22 @@ fn answers_same(list: &[u8], at: usize, weights: &[f64], vector: &[f64]) -> bool
     let result = field(list, at, 14);
     let p = coupling(list, at);
     let given = given(list, at);
-    if kind == 18 {
-        return su2_basis_same(sheet, told, masks);
+    match kind {
+        18 => su2_basis_same(sheet, told, masks),
+        19 => su2_count_states_same(sheet, told),
+        20 => build_su2_hamiltonian_same(sheet, p, given, weights, told, masks, result),
+        21 => {
+            let starts = field(list, at, 12);
+            let columns = field(list, at, 13);
+            build_csr_su2_same(
+                sheet, p, given, weights, told, masks, starts, columns, result,
+            )
+        }
+        22 => su2_count_entries_same(sheet, told),
+        23 => su2_hamiltonian_matvec_same(sheet, p, given, weights, vector, told, masks, result),
+        24 => su2_wilson_loop_same(sheet, vector, field(list, at, 4), told, masks, result),
+        _ => false,
     }
-    if kind == 19 {
-        return su2_count_states_same(sheet, told);
-    }
-    if kind == 20 {
-        return build_su2_hamiltonian_same(sheet, p, given, weights, told, masks, result);
-    }
-    if kind == 21 {
-        let starts = field(list, at, 12);
-        let columns = field(list, at, 13);
-        return build_csr_su2_same(
-            sheet, p, given, weights, told, masks, starts, columns, result,
-        );
-    }
-    if kind == 22 {
-        return su2_count_entries_same(sheet, told);
-    }
-    if kind == 23 {
-        return su2_hamiltonian_matvec_same(sheet, p, given, weights, vector, told, masks, result);
-    }
-    if kind == 24 {
-        return su2_wilson_loop_same(sheet, vector, field(list, at, 4), told, masks, result);
-    }
-    false
 }
 
 pub fn z2_same(list: &[u8], at: usize) -> bool

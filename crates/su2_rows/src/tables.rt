@@ -16,7 +16,7 @@ use su2_even_sets::Forest;
 use su2_masks::flip::triangle_place;
 use triangles::{all_sides, sides_at};
 
-// Of each triangle the place of its edges, and its magnetic factor × weight. The two lists begin with them.
+// Of each triangle the place of its edges, and its magnetic factor × weight. The two lists begin with them: they are two, as sort_row takes them.
 #[derive(Drop)]
 pub struct Flips {
     pub places: [u32; MOST_TRIANGLES],
