@@ -8,15 +8,16 @@ ghost use Rattle.std.specs.Prelude.{◌≡◌, cond, ◌+◌, ◌*◌, ◌-◌, 
 ghost use Rattle.complex.specs.Complex.{complex_of};
 ghost use Rattle.walker.specs.Tables.{states_of, Fit};
 ghost use Rattle.mathematics.specs.Calls.{Answered};
-ghost use Rattle.answers.specs.Answer.{number_answer};
+ghost use Rattle.answers.specs.Refusal.{answer_of};
 ghost use Rattle.enumeration.specs.Enumeration.{Limited, PreparedFor, enumerated_call, ListingDemand};
 
+use crate::basis::Basis;
 use acceptance::judge_truncated;
-use answers::Answer;
+use answers::refusal::Refusal;
 use complex::SimplicialComplex;
 use cycles::CYCLE_ENTRIES;
 use numbers::sizes::{MOST_CANDIDATES, MOST_EDGES};
-use runs::{count_states, write_states};
+use runs::count_states;
 use walker::blocks::width;
 use walker::tables::{Walker, prepare};
 
@@ -121,19 +122,17 @@ pub fn prepare_basis(c: SimplicialComplex, lambda: usize) -> Prepared
 }
 
 // All states of a record within -lambda to lambda go to the beginning of the list. The record is judged first.
-pub fn enumerate_gauge_invariant(c: SimplicialComplex, lambda: usize, states: &mut [i32]) -> Answer
-    ensures answered { Answered (enumerated_call (complex_of c) lambda states.old) (number_answer result) states.new }
-    ensures listing_demand { ListingDemand (complex_of c) lambda states.old states.new result }
+pub fn enumerate_gauge_invariant(
+    c: SimplicialComplex,
+    lambda: usize,
+    states: &mut [i32],
+) -> Result<usize, Refusal>
+    ensures answered { Answered (enumerated_call (complex_of c) lambda states.old) (answer_of result) states.new }
+    ensures listing_demand { ListingDemand (complex_of c) lambda states.old states.new (answer_of result) }
 {
-    let basis = prepare_basis(c, lambda);
-    let number = basis.refusal;
-    if number != 0 {
-        return Answer::Refused(number);
+    let basis = Basis::prepare(c, lambda)?;
+    if basis.is_too_short(states.len()) {
+        return Err(Refusal::NoRoom);
     }
-    let w = basis.walker;
-    let blocks = basis.blocks;
-    if too_short(w, lambda, blocks, states.len()) {
-        return Answer::Refused(15);
-    }
-    Answer::Number(write_states(w, lambda, blocks, states))
+    Ok(basis.write(states))
 }

@@ -22,7 +22,7 @@ use electric::electric_field_sq;
 use entries::count_entries;
 use enumeration::count::count_states;
 use enumeration::enumerate_gauge_invariant;
-use exports::{Told, open, refused, signed, store, store_expectation, told_number};
+use exports::{Told, open, refused, signed, store, store_expectation, told_number, told_result};
 use hamiltonian::dense::build_hamiltonian;
 use hilbert::index::{Index, config_to_index};
 use lanczos::matvec::hamiltonian_matvec;
@@ -89,7 +89,7 @@ pub fn export_enumerate_gauge_invariant(sheet: &[u8], states: &mut [i32]) -> i64
         return refused(number);
     }
     let s = opened.sheet;
-    signed(told_number(enumerate_gauge_invariant(s.complex, s.lambda, states)))
+    signed(told_result(enumerate_gauge_invariant(s.complex, s.lambda, states)))
 }
 
 // The place of a configuration among the states of a sheet.
@@ -236,7 +236,7 @@ pub fn export_count_states(sheet: &[u8]) -> i64
         return refused(number);
     }
     let s = opened.sheet;
-    signed(told_number(count_states(s.complex, s.lambda)))
+    signed(told_result(count_states(s.complex, s.lambda)))
 }
 
 // How many entries the row lists of a sheet have.
