@@ -4,7 +4,7 @@
 pub mod basis;
 pub mod count;
 
-ghost use Rattle.std.specs.Prelude.{◌≡◌, cond, ◌+◌, ◌*◌, ◌-◌, ◌^◌, ◌≤◌, ltb, length};
+ghost use Rattle.std.specs.Prelude.{◌≡◌, ◌+◌, ◌*◌, ◌-◌, ◌^◌, ◌≤◌, ltb, length};
 ghost use Rattle.complex.specs.Complex.{complex_of};
 ghost use Rattle.walker.specs.Tables.{states_of, Fit};
 ghost use Rattle.mathematics.specs.Calls.{Answered};
@@ -21,30 +21,22 @@ use runs::count_states;
 use walker::blocks::width;
 use walker::tables::{Walker, prepare};
 
-// One factor more, as long as the product is within the limit.
-fn with_factor(product: usize, factor: usize) -> usize
-    requires { (product ≤ 1048576 * 2001) × (factor ≤ 2001) }
-    ensures { result ≡ cond (ltb 1048576 product) product (product * factor) }
-{
-    if MOST_CANDIDATES < product {
-        return product;
-    }
-    product * factor
-}
-
 // A power, or any number above the limit where the power is above it.
 fn power(base: usize, exponent: usize) -> usize
     requires { (1 ≤ base) × (base ≤ 2001) }
     ensures { Limited (base ^ exponent) result }
 {
     let mut product = 1;
-    for j in 0..exponent {
-        product = with_factor(product, base);
+    for _ in 0..exponent {
+        if product <= MOST_CANDIDATES {
+            product *= base;
+        }
     }
     product
 }
 
 // Whether the candidates are over the limit.
+#[tactic(auto, using(crate::proofs::Limits::limited_test))]
 pub fn too_many(n_free: usize, lambda: usize) -> bool
     requires { lambda ≤ 1000 }
     ensures { result ≡ ltb 1048576 ((2 * lambda + 1) ^ n_free) }
