@@ -1,24 +1,29 @@
 -- What preparing a basis tells, by the test that decides it, and what a call tells of whose tests they are the first.
-use Rattle.std.proofs.Common.{◌≡◌, ℕ, ◌+◌, ◌*◌, ◌-◌, ◌^◌, ◌≤◌, Bool, true, List, [], ◌∷◌, ◌++◌, refl, Result, Ok, Err, IsErrAnd, ltb, sym, ◌∙◌}
+use Rattle.std.proofs.Common.{◌≡◌, ℕ, ◌+◌, ◌*◌, ◌-◌, ◌^◌, ◌≤◌, Bool, true, List, [], ◌∷◌, ◌++◌, refl, Result, Ok, Err, IsErrAnd, ltb, sym, ◌∙◌, ℤ, length, ap, ne_eqb}
 use Rattle.std.proofs.lemmas.Result.{err_from_is_err_and}
 use Rattle.mathematics.specs.Tests.{every_entry}
 use Rattle.mathematics.specs.Refusals.{first}
 use Rattle.mathematics.proofs.Refusals.{numbered, first_stops}
-use Rattle.mathematics.proofs.Calls.{Tells, among, past_all}
+use Rattle.mathematics.specs.Refusals.{value}
+use Rattle.mathematics.specs.Calls.{Answered, none_lent}
+use Rattle.mathematics.proofs.Calls.{Tells, none, among, past_all, refuses, ends}
 use Rattle.complex.specs.declared.SimplicialComplex.{SimplicialComplex}
 use Rattle.complex.specs.Complex.{Complex, complex_of}
 use Rattle.complex.specs.Judge.{refusal, truncated_tests}
 use Rattle.complex.proofs.Judging.{truncated_passed}
-use Rattle.answers.specs.Refusal.{refusal_number}
+use Rattle.answers.specs.Refusal.{refusal_number, answer_of}
+use Rattle.answers.proofs.Passing.{answer_passed}
 use Rattle.answers.specs.declared.refusal.Refusal.{Refusal}
 use Rattle.answers.specs.declared.refusal.Refusal.TheVariants.{ManyCandidates}
 use Rattle.answers.proofs.Numbers.{number_positive}
 use Rattle.walker.specs.declared.tables.Walker.{Walker}
-use Rattle.walker.specs.Tables.{Walks, Fit}
+use Rattle.gauss_law.specs.Listing.{states}
+use Rattle.walker.specs.Blocks.{StatesWritten}
+use Rattle.walker.specs.Tables.{Walks, Fit, states_of}
 use Rattle.enumeration.specs.declared.basis.Basis.{Basis}
-use Rattle.enumeration.specs.Enumeration.{limit_test, basis_tests}
+use Rattle.enumeration.specs.Enumeration.{limit_test, basis_tests, short, basis_first, BasisKnown, counted_call}
 use Rattle.enumeration.specs.Basis.{BasisPrepared}
-use Rattle.enumeration.proofs.Enumerating.{by_candidates, basis_accepted, basis_walks}
+use Rattle.enumeration.proofs.Enumerating.{by_candidates, basis_accepted, basis_walks, short_told, basis_written, basis_known}
 
 -- ---- preparing
 module _ (c : Complex) (L : ℕ) where
@@ -57,3 +62,28 @@ module _ {c : Complex} {L : ℕ} where
   pub basis_passed : {b : Basis} → BasisPrepared c L (Ok b) → {rest : List (ℕ × Bool)} {k : ℕ} → Tells rest k → Tells (basis_tests c L ++ rest) k
   unfolding numbered every_entry
   basis_passed h t = past_all (basis_tests c L) refl (sym h.refusal) t
+
+-- ---- what a prepared basis counts and lists
+module _ (c : Complex) (L : ℕ) (b : Basis) (h : BasisPrepared c L (Ok b)) where
+  abbrev its_states : List (List ℤ)
+  its_states = states_of b.walker b.lambda b.blocks
+
+  pub basis_listed : its_states ≡ states c L
+  basis_listed = rw h.basis.truncated h.basis.walks.listed
+
+  pub basis_short : (room : ℕ) → short c L room ≡ ltb room (length its_states * b.walker.n_edges)
+  basis_short room = rw h.basis.truncated (short_told c L b.walker b.blocks h.basis.walks room)
+
+  pub basis_lists : (old new : List ℤ) (r : ℕ) → StatesWritten its_states old new r → (r ≡ length (states c L)) × (new ≡ basis_first c L old)
+  basis_lists old new r w = basis_written c L b.walker b.blocks h.basis.walks old new r (rw h.basis.truncated at w)
+
+  pub basis_is_known : BasisKnown c L
+  basis_is_known = basis_known c L b.walker b.blocks h.basis.walks
+
+  pub count_told : (k : ℕ) → k ≡ length its_states → Answered (counted_call c L) (value k) none_lent
+  unfolding counted_call
+  count_told k e = ends (counted_call c L) (basis_passed h none) (e ∙ ap length basis_listed) refl basis_is_known
+
+pub count_refused : (c : Complex) (L : ℕ) (e : Refusal) → BasisPrepared c L (Err e) → (r : Result ℕ Refusal) → IsErrAnd r (λ y. y ≡ e) → Answered (counted_call c L) (answer_of r) none_lent
+unfolding counted_call
+count_refused c L e h r p = rw (answer_passed r e p) (refuses (counted_call c L) (basis_refused h []) (ne_eqb (refusal_number e) 0 (number_positive e)))

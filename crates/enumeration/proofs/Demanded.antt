@@ -8,7 +8,7 @@ use borrow.Author.Tests.{le-ltb, ltb-false}
 use lib.IntN.{ℤ}
 use lib.ListN.{length}
 use Rattle.mathematics.specs.Tests.{every_entry}
-use Rattle.mathematics.specs.Refusals.{first, outcome, written}
+use Rattle.mathematics.specs.Refusals.{Outcome, first, outcome, written}
 use Rattle.mathematics.specs.Calls.{Answered}
 use Rattle.mathematics.proofs.Refusals.{numbered, first_stops, first_goes_on}
 use Rattle.mathematics.proofs.Calls.{Tells, none, past, past_all}
@@ -18,9 +18,7 @@ use Rattle.complex.specs.Judge.{refusal, truncated_tests}
 use Rattle.complex.proofs.Judging.{with_truncation, truncated_passed}
 use Rattle.complex.proofs.Refusing.{past_truncated}
 use Rattle.complex.proofs.Accepting.{accepted}
-use Rattle.answers.specs.Answer.{number_answer}
 use Rattle.gauss_law.specs.Listing.{free_edges, states}
-use Rattle.answers.specs.declared.Answer.{Answer}
 use Rattle.gauss_law.proofs.Accepted.{listing_complete}
 use Rattle.enumeration.specs.Enumeration.{limit_test, basis_tests, short, basis_first, enumerated_call, Answerable, ListingDemand}
 
@@ -56,10 +54,9 @@ listed : (c : SimplicialComplex) (L : ℕ) (old : List ℤ) → Answerable (comp
 unfolding enumerated_call numbered every_entry
 listed c L old can long = past_all (basis_tests (complex_of c) L) refl (basis_none c L can) (past (not_short (complex_of c) L (length old) long) none)
 
-pub demanded : (c : SimplicialComplex) (L : ℕ) (old new : List ℤ) (r : Answer) → Answered (enumerated_call (complex_of c) L old) (number_answer r) new
-    → Answered (enumerated_call (complex_of c) L old) (number_answer r) new × ListingDemand (complex_of c) L old new r
+pub demanded : (c : SimplicialComplex) (L : ℕ) (old new : List ℤ) (a : Outcome ℕ) → Answered (enumerated_call (complex_of c) L old) a new → Answered (enumerated_call (complex_of c) L old) a new × ListingDemand (complex_of c) L old new a
 unfolding enumerated_call states basis_first outcome written complex_of
-demanded c L old new r h = (
+demanded c L old new a h = (
   h,
   record {
     zero = λ v. refl;

@@ -1,6 +1,6 @@
 -- A power that is multiplied out only as far as the limit, and the room that all candidates take.
 use Prim.Native.Nat.{ℕ, zero, suc, ◌+◌, ◌-◌, ◌*◌, ◌^◌, ◌≤◌, ◌<◌}
-use mathlib.Core.Bool.{false, cond}
+use mathlib.Core.Bool.{false}
 use mathlib.Core.Path.{◌≡◌, refl, sym, ap}
 use native.Mathlib.Omega.{arith}
 use native.Mathlib.Numerals.{add-one}
@@ -19,21 +19,25 @@ use Rattle.walker.proofs.BlockStates.{width_bound, states_few}
 pub limited_one : (b : ℕ) → Limited (b ^ 0) 1
 limited_one b = rw (pow-zero b) (record { exact = λ h. refl; above = λ h. absurd (omega arith); bound = omega arith })
 
-module _ (b : ℕ) (some : 1 ≤ b) (few : b ≤ 2001) where
-  pub limited_more : (j p : ℕ) → Limited (b ^ j) p → Limited (b ^ (j + 1)) (cond (ltb 1048576 p) p (p * b))
-  limited_more j p h = rw (add-one j, pow-suc b j) (go (dec_lt 1048576 p) (dec_lt 1048576 (b ^ j)))
+-- one factor more: a number above the limit is kept, another is multiplied
+module _ (b : ℕ) (some : 1 ≤ b) (few : b ≤ 2001) (j p : ℕ) (h : Limited (b ^ j) p) where
+  pub limited_kept : 1048576 < p → (q : ℕ) → q ≡ p → Limited (b ^ (j + 1)) q
+  limited_kept k q e =
+      let grows : b ^ j * 1 ≤ b ^ j * b = mul-le-mul_left (b ^ j) some in
+      rw (e, add-one j, pow-suc b j) (go (dec_lt 1048576 (b ^ j)) grows)
     where
-      go : Dec (1048576 < p) → Dec (1048576 < b ^ j) → Limited (b ^ j * b) (cond (ltb 1048576 p) p (p * b))
-      go (yes k) (yes l) =
-          let grows : b ^ j * 1 ≤ b ^ j * b = mul-le-mul_left (b ^ j) some in
-          rw (lt-ltb 1048576 p k) (record { exact = λ m. absurd (omega arith); above = λ m. k; bound = h.bound })
-      go (yes k) (no l) = let e = h.exact (omega arith) in absurd (omega arith)
-      go (no k) (yes l) = let m = h.above l in absurd (omega arith)
-      go (no k) (no l) =
+      go : Dec (1048576 < b ^ j) → b ^ j * 1 ≤ b ^ j * b → Limited (b ^ j * b) p
+      go (yes l) grows = record { exact = λ m. absurd (omega arith); above = λ m. k; bound = h.bound }
+      go (no l) grows = let e = h.exact (omega arith) in absurd (omega arith)
+
+  pub limited_times : p ≤ 1048576 → (q : ℕ) → q ≡ p * b → Limited (b ^ (j + 1)) q
+  limited_times k q e = rw (e, add-one j, pow-suc b j) (go (dec_lt 1048576 (b ^ j)))
+    where
+      go : Dec (1048576 < b ^ j) → Limited (b ^ j * b) (p * b)
+      go (yes l) = let m = h.above l in absurd (omega arith)
+      go (no l) =
           let e : p ≡ b ^ j = h.exact (omega arith) in
-          let small : p ≤ 1048576 = omega arith in
-          rw (le-ltb 1048576 p small)
-          (record { exact = λ m. ap (λ q. q * b) e; above = λ m. rw e m; bound = mul-le-mul small few })
+          record { exact = λ m. ap (λ q. q * b) e; above = λ m. rw e m; bound = mul-le-mul k few }
 
 -- ---- the room for all states
 module _ (w : Walker) (L k : ℕ) (fit : Fit w L k) where

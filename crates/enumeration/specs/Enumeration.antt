@@ -2,13 +2,11 @@
 use Rattle.std.specs.Prelude.{ℕ, ◌+◌, ◌*◌, ◌^◌, ◌≤◌, ◌<◌, Bool, ◌≡◌, ltb, ℤ, pos, length}
 use mathlib.Core.List.{List, [], ◌∷◌, ◌++◌, flatten}
 use Rattle.mathematics.specs.Writing.{front}
-use Rattle.mathematics.specs.Refusals.{first, value}
+use Rattle.mathematics.specs.Refusals.{Outcome, first, value}
 use Rattle.mathematics.specs.Calls.{Call, NoneLent, none_lent}
 use Rattle.complex.specs.Complex.{Complex}
 use Rattle.complex.specs.Judge.{Accepted, truncated_tests}
 use Rattle.gauss_law.specs.Listing.{free_edges, Complete, states, limit}
-use Rattle.answers.specs.Answer.{number_answer}
-use Rattle.answers.specs.declared.Answer.{Answer}
 use Rattle.walker.specs.declared.tables.Walker.{Walker}
 use Rattle.enumeration.specs.declared.Prepared.{Prepared}
 use Rattle.walker.specs.Tables.{Walks, states_of, Fit}
@@ -70,10 +68,10 @@ pub record Answerable (c : Complex) (L : ℕ) : Type 0 where
 
 -- A run of enumerate_gauge_invariant there: no vertex carries a charge, so a state's Gauss sum is zero at each vertex; the list of states is complete. With a list that is long enough for them their number is told, and
 -- the list begins with them, state after state, and keeps what stood after them.
-pub record ListingDemand (c : Complex) (L : ℕ) (old new : List ℤ) (r : Answer) : Type 0 where
+pub record ListingDemand (c : Complex) (L : ℕ) (old new : List ℤ) (a : Outcome ℕ) : Type 0 where
   pub zero : (v : ℕ) → c.charges v ≡ pos 0
   pub complete : Answerable c L → Complete c c.charges L (states c L)
-  pub answer : Answerable c L → length (states c L) * length c.edges ≤ length old → number_answer r ≡ value (length (states c L))
+  pub answer : Answerable c L → length (states c L) * length c.edges ≤ length old → a ≡ value (length (states c L))
   pub list : Answerable c L → length (states c L) * length c.edges ≤ length old → new ≡ front (flatten (states c L)) old
 
 -- ---- as the code keeps it

@@ -4,32 +4,22 @@
 pub mod basis;
 pub mod count;
 
-ghost use Rattle.std.specs.Prelude.{◌≡◌, cond, ◌+◌, ◌*◌, ◌-◌, ◌^◌, ◌≤◌, ltb, length};
+ghost use Rattle.std.specs.Prelude.{◌≡◌, ◌+◌, ◌*◌, ◌-◌, ◌^◌, ◌≤◌, ltb, length};
 ghost use Rattle.complex.specs.Complex.{complex_of};
 ghost use Rattle.walker.specs.Tables.{states_of, Fit};
 ghost use Rattle.mathematics.specs.Calls.{Answered};
-ghost use Rattle.answers.specs.Answer.{number_answer};
+ghost use Rattle.answers.specs.Refusal.{answer_of};
 ghost use Rattle.enumeration.specs.Enumeration.{Limited, PreparedFor, enumerated_call, ListingDemand};
 
+use crate::basis::Basis;
 use acceptance::judge_truncated;
-use answers::Answer;
+use answers::refusal::Refusal;
 use complex::SimplicialComplex;
 use cycles::CYCLE_ENTRIES;
 use numbers::sizes::{MOST_CANDIDATES, MOST_EDGES};
-use runs::{count_states, write_states};
+use runs::count_states;
 use walker::blocks::width;
 use walker::tables::{Walker, prepare};
-
-// One factor more, as long as the product is within the limit.
-fn with_factor(product: usize, factor: usize) -> usize
-    requires { (product ≤ 1048576 * 2001) × (factor ≤ 2001) }
-    ensures { result ≡ cond (ltb 1048576 product) product (product * factor) }
-{
-    if MOST_CANDIDATES < product {
-        return product;
-    }
-    product * factor
-}
 
 // A power, or any number above the limit where the power is above it.
 fn power(base: usize, exponent: usize) -> usize
@@ -37,13 +27,16 @@ fn power(base: usize, exponent: usize) -> usize
     ensures { Limited (base ^ exponent) result }
 {
     let mut product = 1;
-    for j in 0..exponent {
-        product = with_factor(product, base);
+    for _ in 0..exponent {
+        if product <= MOST_CANDIDATES {
+            product *= base;
+        }
     }
     product
 }
 
 // Whether the candidates are over the limit.
+#[tactic(auto, using(crate::proofs::Limits::limited_test))]
 pub fn too_many(n_free: usize, lambda: usize) -> bool
     requires { lambda ≤ 1000 }
     ensures { result ≡ ltb 1048576 ((2 * lambda + 1) ^ n_free) }
@@ -121,19 +114,17 @@ pub fn prepare_basis(c: SimplicialComplex, lambda: usize) -> Prepared
 }
 
 // All states of a record within -lambda to lambda go to the beginning of the list. The record is judged first.
-pub fn enumerate_gauge_invariant(c: SimplicialComplex, lambda: usize, states: &mut [i32]) -> Answer
-    ensures answered { Answered (enumerated_call (complex_of c) lambda states.old) (number_answer result) states.new }
-    ensures listing_demand { ListingDemand (complex_of c) lambda states.old states.new result }
+pub fn enumerate_gauge_invariant(
+    c: SimplicialComplex,
+    lambda: usize,
+    states: &mut [i32],
+) -> Result<usize, Refusal>
+    ensures answered { Answered (enumerated_call (complex_of c) lambda states.old) (answer_of result) states.new }
+    ensures listing_demand { ListingDemand (complex_of c) lambda states.old states.new (answer_of result) }
 {
-    let basis = prepare_basis(c, lambda);
-    let number = basis.refusal;
-    if number != 0 {
-        return Answer::Refused(number);
+    let basis = Basis::prepare(c, lambda)?;
+    if basis.is_too_short(states.len()) {
+        return Err(Refusal::NoRoom);
     }
-    let w = basis.walker;
-    let blocks = basis.blocks;
-    if too_short(w, lambda, blocks, states.len()) {
-        return Answer::Refused(15);
-    }
-    Answer::Number(write_states(w, lambda, blocks, states))
+    Ok(basis.write(states))
 }

@@ -1,15 +1,13 @@
 -- Demand 3, both halves: the list of states is complete, and a triangle's shift is refused exactly when it leaves the band.
 use Rattle.std.specs.Prelude.{ℕ, ◌*◌, ◌≤◌, ◌<◌, List, [], ◌≡◌, ℤ, pos, nat_abs, Result, get_or, length}
-use Rattle.mathematics.specs.Refusals.{value, refused}
+use Rattle.mathematics.specs.Refusals.{Outcome, value, refused}
 use Rattle.mathematics.specs.Calls.{Answered}
 use Rattle.complex.specs.declared.SimplicialComplex.{SimplicialComplex}
 use Rattle.complex.specs.Complex.{Complex, complex_of}
 use Rattle.complex.specs.Sides.{TriangleSides, side}
 use Rattle.gauss_law.specs.Listing.{Complete, states}
 use Rattle.gauss_law.specs.Shifts.{TriangleShifted}
-use Rattle.answers.specs.declared.Answer.{Answer}
 use Rattle.enumeration.specs.Enumeration.{enumerated_call, Answerable, ListingDemand}
-use Rattle.answers.specs.Answer.{number_answer}
 use Rattle.answers.specs.Refusal.{answer_of}
 use Rattle.answers.specs.declared.refusal.Refusal.{Refusal}
 use Rattle.plaquettes.specs.Triangle.{triangle_call}
@@ -43,7 +41,7 @@ pub record ShiftDemand (c : Complex) (L t k : ℕ) (old : List ℤ) (r : Result 
 pub record Demand (c : Complex) (L : ℕ) : Type 0 where
   pub zero : (v : ℕ) → c.charges v ≡ pos 0
   pub complete : Complete c c.charges L (states c L)
-  pub lists : (old new : List ℤ) (r : Answer) → Answered (enumerated_call c L old) (number_answer r) new → ListingDemand c L old new r
+  pub lists : (old new : List ℤ) (a : Outcome ℕ) → Answered (enumerated_call c L old) a new → ListingDemand c L old new a
   pub shifts : (t k : ℕ) (old new : List ℤ) (r : Result ℕ Refusal) → Answered (triangle_call c L t k old) (answer_of r) new → ShiftDemand c L t k old r
 
 -- for every accepted complex and truncation with the candidates within the limit

@@ -58,7 +58,7 @@ fn plus_amount(x: i32, amount: i32) -> i32
     x + amount
 }
 
-// What stands some entries before a place goes to the place, an amount added to each entry.
+// What stands some entries before a place goes to the place, an amount added to each entry. By number: it reads and writes one list.
 fn raise(states: &mut [i32], at: usize, back: usize, amounts: &[i32])
     requires { Raisable states.old at back amounts.now }
     ensures { states.new ≡ put states.old at (raised states.old (at - back) amounts.now) }
@@ -69,7 +69,8 @@ fn raise(states: &mut [i32], at: usize, back: usize, amounts: &[i32])
     }
 }
 
-// The same for a number of rows, with a cycle added to each. Beside has the cycle for as many rows as are raised at once.
+// The same for a number of rows, with a cycle added to each. Beside has the cycle for as many rows as are raised at once. The last turn has
+// fewer, so the loop counts what is left.
 fn raise_rows(
     states: &mut [i32],
     at: usize,

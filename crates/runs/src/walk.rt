@@ -12,7 +12,7 @@ use numbers::sizes::MOST_EDGES;
 use walker::blocks::width;
 use walker::steps::step;
 
-// How many states some blocks have.
+// How many states some blocks have. The last run may have fewer blocks, so the loop counts what is left.
 pub fn count_blocks(
     config: &mut [i32],
     free: &[u8; MOST_EDGES],

@@ -85,7 +85,7 @@ pub fn export_enumerate_gauge_invariant(sheet: &[u8], states: &mut [i32]) -> i64
         return refused(number);
     }
     let s = opened.sheet;
-    signed(told_number(enumerate_gauge_invariant(s.complex, s.lambda, states)))
+    signed(told_result(enumerate_gauge_invariant(s.complex, s.lambda, states)))
 }
 
 // The place of a configuration among the states of a sheet.
@@ -226,7 +226,7 @@ pub fn export_count_states(sheet: &[u8]) -> i64
         return refused(number);
     }
     let s = opened.sheet;
-    signed(told_number(count_states(s.complex, s.lambda)))
+    signed(told_result(count_states(s.complex, s.lambda)))
 }
 
 // How many entries the row lists of a sheet have.

@@ -22,7 +22,7 @@ pub fn plus_times(x: i32, times: i32, sign: i8) -> i32
     x + times * i32::from(sign)
 }
 
-// A cycle added to an assignment a number of times.
+// A cycle added to an assignment a number of times. By number: a proof knows nothing of what a loop over a zip with iter_mut wrote.
 pub fn add(config: &mut [i32], cycle: &[i8], times: i32)
     requires { Addable config.old times cycle.now }
     ensures { config.new ≡ with_cycle config.old times cycle.now }
