@@ -10,7 +10,7 @@ ghost use Rattle.csr.specs.Fill.{walk_of, entries_from, Walking, RowFound, RowDo
 use crate::words::set_length;
 use moves::row::collect_row;
 use moves::seek::lower;
-use plaquettes::rows::row_energy;
+use plaquettes::rows::{row_at, row_energy};
 use plaquettes::target::Sizes;
 use rows::lists::copy_row;
 use rows::row::sort_row;
@@ -33,12 +33,11 @@ fn find_row(
     requires { Walking (walk_of all.now keys.now terms.now n_moves s.lambda words.now s.states list.now s.edges electric) × SmallRows list.now s.states s.edges × (i < s.states) × (s.states ≤ length words.now) × Pointers s.states pointers.old × (n_moves < length row_columns.old) × (length row_columns.old ≡ length row_values.old) × ColumnsDiffer (entries_from (walk_of all.now keys.now terms.now n_moves s.lambda words.now s.states list.now s.edges electric) pointers.old i) }
     ensures { RowFound (walk_of all.now keys.now terms.now n_moves s.lambda words.now s.states list.now s.edges electric) i pointers.old result pointers.new (pairs row_columns.new row_values.new) × (result ≤ n_moves + 1) }
 {
-    let m = s.edges;
-    let from = i * m;
-    let diagonal = row_energy(list, m, i, electric);
+    let diagonal = row_energy(list, s.edges, i, electric);
     let number = lower(words[i]);
+    let state = row_at(list, s.edges, i);
     let found = collect_row(
-        &list[from..from + m],
+        state,
         i,
         diagonal,
         s.lambda,

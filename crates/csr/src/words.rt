@@ -6,6 +6,7 @@ ghost use Rattle.moves.specs.Numbers.{number, Numbered};
 ghost use Rattle.csr.specs.Words.{upper, begins, FirstWords};
 
 use moves::number::number;
+use plaquettes::rows::row_at;
 use plaquettes::target::Sizes;
 
 // A length goes to the upper bits of a word.
@@ -21,10 +22,8 @@ pub fn write_numbers(list: &[i32], s: Sizes, free: &[u8; 63], words: &mut [u32])
     requires { SmallRows list.now s.states s.edges × ((i : ℕ) → i < s.states → Numbered s.lambda s.lambda free.now s.free (row s.edges list.now i)) × (s.states ≤ length words.old) }
     ensures { FirstWords (λ i. number s.lambda s.lambda free.now s.free (row s.edges list.now i)) s.states words.old words.new }
 {
-    let m = s.edges;
     for i in 0..s.states {
-        let at = i * m;
-        let x = number(&list[at..at + m], free, s.free, s.lambda, s.lambda);
+        let x = number(row_at(list, s.edges, i), free, s.free, s.lambda, s.lambda);
         words[i] = x as u32;
     }
 }

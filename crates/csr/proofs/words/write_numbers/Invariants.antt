@@ -1,0 +1,7 @@
+use Rattle.hilbert.specs.Search.{row}
+use Rattle.moves.specs.Numbers.{number}
+use Rattle.csr.specs.Words.{FirstWords}
+use Rattle.csr.proofs.words.write_numbers.Given as goal
+
+abbrev pub invariant-loop-i : goal.invariant-loop-i
+invariant-loop-i l = FirstWords (λ k. number l.s.lambda l.s.lambda l.free l.s.free (row l.s.edges l.list k)) l.i l.fn.words l.words
