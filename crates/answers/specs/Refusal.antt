@@ -1,5 +1,5 @@
 -- The reasons for which a call refuses, each with its number in the table of refusals.
-use Rattle.std.specs.Prelude.{ℕ, Result, Ok, Err}
+use Rattle.std.specs.Prelude.{ℕ, Result, Ok, Err, ◌≡◌, ◌≢◌}
 use Rattle.mathematics.specs.Refusals.{Outcome, value, refused}
 use Rattle.answers.specs.declared.refusal.Refusal.{Refusal}
 use Rattle.answers.specs.declared.refusal.Refusal.TheVariants.{ShortSheet, NoMark, OtherVersion, WrongCounts, LargeTruncation, WrongLength, WrongEdge, WrongTriangle, Disconnected, ManyCandidates, WrongPentachoron, WrongListLength, OutOfRange, WrongFloat, NoRoom, OutOfBand, NotInBasis}
@@ -32,3 +32,8 @@ answer_of (Err r) = refused (refusal_number r)
 abbrev pub judged : {A : Type 0} → Result A Refusal → ℕ
 judged (Ok _) = 0
 judged (Err r) = refusal_number r
+
+-- the reason that a number names, or 13 where it names none
+abbrev pub Named : ℕ → Result Refusal Refusal → Type 0
+Named n (Ok r) = refusal_number r ≡ n
+Named n (Err e) = (e ≡ OutOfRange) × ((r : Refusal) → refusal_number r ≢ n)

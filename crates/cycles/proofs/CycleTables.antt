@@ -7,7 +7,7 @@ use native.Mathlib.Omega.{arith}
 use native.Mathlib.Numerals.{add-one}
 use native.Mathlib.Decide.{ℕ_discrete, dec_lt}
 use lib.IntN.{ℤ, pos, negsuc, ◌-ℤ◌, nat_abs}
-use lib.ListN.{get_or, length, set, replicate, length-replicate, length-set, get_or-eq_default}
+use lib.ListN.{get_or, length, take, set, replicate, length-replicate, length-set, get_or-eq_default}
 use lib.Seq.{paste, paste-suc, get_or-take, length-paste}
 use Rattle.mathematics.proofs.Ordered.{place_member, each_at}
 use Rattle.complex.specs.declared.SimplicialComplex.{SimplicialComplex}
@@ -189,3 +189,11 @@ module _ (c : SimplicialComplex) (good : refusal (complex_of c) ≡ 0) (paths : 
         cycles = λ j h. absurd (omega arith);
         signs = λ i. rw (zeros_at 3969 i) (omega arith);
       }
+
+-- the free edges as the code walks them
+module _ {c : Complex} {free : EdgeList} (of : FreeOf c free) {walked : List ℕ} (is : walked ≡ take free.count free.list) where
+  pub free_long : length walked ≡ free.count
+  free_long = ap length (is ∙ of.stands) ∙ sym of.count
+
+  pub free_at : {j : ℕ} → j < free.count → get_or walked j 0 ≡ get_or free.list j 0
+  free_at {j} more = ap (λ (l : List ℕ). get_or l j 0) is ∙ get_or-take free.count free.list j 0 more

@@ -1,13 +1,13 @@
 -- The table of paths of an accepted record, as the code fills it.
-use Prim.Native.Nat.{ℕ, suc, ◌+◌, ◌*◌, ◌≤◌, ◌<◌}
+use Prim.Native.Nat.{ℕ, suc, ◌+◌, ◌-◌, ◌*◌, ◌≤◌, ◌<◌, min}
 use mathlib.Core.List.{List, []}
 use mathlib.Core.Path.{◌≡◌, sym, ◌∙◌, ap, subst}
 use mathlib.Core.Logic.{◌≢◌, inl, inr}
 use native.Mathlib.Omega.{arith}
 use native.Mathlib.Numerals.{add-one}
 use lib.IntN.{ℤ, pos}
-use lib.ListN.{get_or, length, set, replicate, length-replicate, length-set}
-use lib.Seq.{paste, get_or-take, length-paste}
+use lib.ListN.{get_or, length, take, drop, set, replicate, length-replicate, length-set, length-drop}
+use lib.Seq.{paste, get_or-take, get_or-drop, length-take-le, length-paste}
 use Rattle.complex.specs.declared.SimplicialComplex.{SimplicialComplex}
 use Rattle.complex.specs.declared.search.SpanningTree.{SpanningTree}
 use Rattle.complex.specs.Complex.{Simplex, Joins, entries, complex_of}
@@ -168,3 +168,27 @@ module _ (c : SimplicialComplex) (t : SpanningTree) (spanned : Spanned c t) wher
         long = length-replicate 4032 (pos 0);
         paths = path_none (complex_of c).edges (complex_of c).vertices found spans (row (length (complex_of c).edges) (replicate 4032 (pos 0))) (zero_row 4032 (length (complex_of c).edges) 0 few (omega (arith, few)));
       }
+
+-- the tree edges and the vertices found, as the code walks them
+abbrev pub walked_queue : SpanningTree → List ℕ
+walked_queue t = take (length t.queue - 1) (drop 1 t.queue)
+
+module _ (c : SimplicialComplex) (t : SpanningTree) (spanned : Spanned c t) where
+  tree_room : length (take t.found t.tree_edges) ≡ t.found
+  tree_room = let fits = spanned.searched.fits in length-take-le t.found t.tree_edges (omega (arith, fits.room, fits.tree_long))
+
+  pub step_read : (k : ℕ) → k < length (take t.found t.tree_edges)
+      → (k < t.found) × (get_or (take t.found t.tree_edges) k 0 ≡ get_or t.tree_edges k 0) × (get_or (walked_queue t) k 0 ≡ get_or t.queue (k + 1) 0)
+  step_read k h =
+      let fits = spanned.searched.fits in
+      let more : k < t.found = omega (arith, tree_room) in
+      let next : 1 + k ≡ k + 1 = omega arith in (
+        more,
+        get_or-take t.found t.tree_edges k 0 more,
+        get_or-take (length t.queue - 1) (drop 1 t.queue) k 0 (omega (arith, fits.room, fits.queue_long)) ∙ get_or-drop 1 t.queue k 0 ∙ ap (λ (n : ℕ). get_or t.queue n 0) next,
+      )
+
+  pub steps_all : min (length (take t.found t.tree_edges)) (length (walked_queue t)) ≡ t.found
+  steps_all =
+      let fits = spanned.searched.fits in
+      omega (arith, tree_room, length-take-le (length t.queue - 1) (drop 1 t.queue) (omega (arith, length-drop 1 t.queue)), fits.room, fits.queue_long)

@@ -1,5 +1,5 @@
 -- Tables of rows of 63: what a row holds after another row, or one entry, was written.
-use Prim.Native.Nat.{ℕ, ◌+◌, ◌*◌, ◌≤◌, ◌<◌}
+use Prim.Native.Nat.{ℕ, ◌+◌, ◌*◌, ◌-◌, ◌≤◌, ◌<◌}
 use mathlib.Core.List.{List}
 use mathlib.Core.Path.{◌≡◌, sym, ◌∙◌, ap}
 use mathlib.Core.Logic.{◌≢◌, ◌⊎◌, inl, inr}
@@ -7,8 +7,8 @@ use native.Mathlib.Omega.{arith}
 use native.Mathlib.Numerals.{add-one}
 use native.Mathlib.Decide.{ℕ_discrete, dec_lt}
 use lib.IntN.{ℤ, pos}
-use lib.ListN.{get_or, length, drop, set, length-set, length-drop, replicate, length-replicate, get_or-replicate}
-use lib.Seq.{paste, paste-suc, length-take-le, length-paste, get_or-take, get_or-drop, get_or-set_same, get_or-set_other, ext_get_or}
+use lib.ListN.{get_or, length, take, drop, set, length-set, length-drop, replicate, length-replicate, get_or-replicate}
+use lib.Seq.{paste, paste-suc, take-take, length-take-le, length-paste, get_or-take, get_or-drop, get_or-set_same, get_or-set_other, ext_get_or}
 use Rattle.mathematics.proofs.Pasted.{paste_inside, paste_outside}
 use Rattle.cycles.specs.Cycles.{row}
 
@@ -97,3 +97,9 @@ copy_more m few table so_far from to e x a b n h q r =
     apart : Dec (from < to) → (63 * from + e < 63 * to) ⊎ (63 * to + e ≤ 63 * from + e)
     apart (yes k) = inl (omega arith)
     apart (no k) = inr (omega arith)
+
+-- a row that is copied at once
+pub row_copied : (table : List ℤ) (from to m : ℕ) → paste table to (drop from table) ((from + m) - from) ≡ paste table to (take m (drop from table)) m
+row_copied table from to m =
+    let n : (from + m) - from ≡ m = omega arith in
+    rw (n, take-take m m (drop from table) (omega arith))

@@ -14,7 +14,7 @@ use complex::SimplicialComplex;
 use complex::search::SpanningTree;
 use numbers::edge_list::EdgeList;
 use numbers::sizes::{EDGE_ENTRIES, MOST_EDGES, MOST_VERTICES};
-use numbers::{byte, edge_end, edge_start};
+use numbers::{edge_end, edge_start};
 
 // The table of paths has a row for each vertex.
 pub const PATH_ENTRIES: usize = MOST_VERTICES * MOST_EDGES;
@@ -27,9 +27,8 @@ fn copy_row(table: &mut [i8; PATH_ENTRIES], from: usize, to: usize, n_edges: usi
     requires { (from < 64) × (to < 64) × (from ≢ to) × (n_edges ≤ 63) × (length table.old ≡ 4032) }
     ensures { table.new ≡ paste table.old (63 * to) (row n_edges table.old from) n_edges }
 {
-    for e in 0..n_edges {
-        table[MOST_EDGES * to + e] = table[MOST_EDGES * from + e];
-    }
+    let first = MOST_EDGES * from;
+    table.copy_within(first..first + n_edges, MOST_EDGES * to);
 }
 
 // The end of the edge (a, b) across from w.
@@ -69,13 +68,14 @@ pub fn tree_paths(c: SimplicialComplex, tree: SpanningTree) -> [i8; PATH_ENTRIES
     ensures { PathTable (complex_of c) (length (tree_edges (complex_of c))) result }
 {
     let mut paths = [0i8; PATH_ENTRIES];
-    for i in 0..tree.found {
+    let steps = tree.tree_edges[..tree.found].iter().zip(&tree.queue[1..]);
+    for (e, w) in steps {
         extend(
             &mut paths,
             &c.edges,
             c.n_edges,
-            byte(tree.tree_edges[i]),
-            byte(tree.queue[i + 1]),
+            usize::from(*e),
+            usize::from(*w),
         );
     }
     paths
@@ -93,6 +93,7 @@ fn subtract_paths(
     requires { (j < 63) × Subtractable paths.now a b n_edges × (length cycles.old ≡ 3969) }
     ensures { cycles.new ≡ paste cycles.old (63 * j) (with_cycle (row n_edges paths.now a) (negsuc 0) (row n_edges paths.now b)) n_edges }
 {
+    // One row is written from two others, so each of the three is read or written at e.
     for e in 0..n_edges {
         cycles[MOST_EDGES * j + e] = paths[MOST_EDGES * a + e] - paths[MOST_EDGES * b + e];
     }
@@ -126,15 +127,8 @@ pub fn fundamental_cycles(
     ensures { CycleTable (complex_of c) (length (free_edges (complex_of c))) result }
 {
     let mut cycles = [0i8; CYCLE_ENTRIES];
-    for j in 0..free.count {
-        close_cycle(
-            &mut cycles,
-            j,
-            paths,
-            &c.edges,
-            c.n_edges,
-            byte(free.list[j]),
-        );
+    for (j, f) in free.as_slice().iter().enumerate() {
+        close_cycle(&mut cycles, j, paths, &c.edges, c.n_edges, usize::from(*f));
     }
     cycles
 }

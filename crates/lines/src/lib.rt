@@ -1,7 +1,7 @@
 // The lines that `basis list` prints, each written at a place of a lent list; a writer answers the place behind what it wrote.
 #![tactic(auto)]
 
-ghost use Rattle.std.specs.Prelude.{◌≡◌, ◌∷◌, [], ◌++◌, ◌+◌, ◌<◌, ◌≤◌, length, nat_abs};
+ghost use Rattle.std.specs.Prelude.{◌≡◌, ◌∷◌, [], ◌++◌, ◌+◌, ◌<◌, ◌≤◌, length};
 ghost use Rattle.lines.specs.Lines.{decimal, signed_text, value_text, state_line, counts_text, first_line, refused_line};
 ghost use Rattle.lines.specs.Put.{Put};
 
@@ -24,10 +24,9 @@ pub fn write_text(out: &mut [u8], at: usize, text: &[u8]) -> usize
     requires { at + length text.now ≤ length out.old }
     ensures { Put text.now out.old at out.new result }
 {
-    for k in 0..text.len() {
-        out[at + k] = text[k];
-    }
-    at + text.len()
+    let next = at + text.len();
+    out[at..next].copy_from_slice(text);
+    next
 }
 
 pub fn write_number(out: &mut [u8], at: usize, n: usize) -> usize
@@ -41,25 +40,16 @@ pub fn write_number(out: &mut [u8], at: usize, n: usize) -> usize
     write_byte(out, next, digit(n % 10))
 }
 
-// A value without its sign.
-fn absolute(n: i32) -> usize
-    ensures { result ≡ nat_abs n }
-{
-    if n < 0 {
-        return (-(n as i64)) as usize;
-    }
-    n as usize
-}
-
 pub fn write_signed(out: &mut [u8], at: usize, n: i32) -> usize
     requires { at + length (signed_text n) ≤ length out.old }
     ensures { Put (signed_text n) out.old at out.new result }
 {
+    let size = n.unsigned_abs() as usize;
     if n < 0 {
         let next = write_byte(out, at, b'-');
-        return write_number(out, next, absolute(n));
+        return write_number(out, next, size);
     }
-    write_number(out, at, absolute(n))
+    write_number(out, at, size)
 }
 
 fn write_value(out: &mut [u8], at: usize, n: i32) -> usize
@@ -75,8 +65,8 @@ pub fn write_state_line(out: &mut [u8], at: usize, place: usize, values: &[i32])
     ensures { Put (state_line place values.now) out.old at out.new result }
 {
     let mut next = write_number(out, at, place);
-    for k in 0..values.len() {
-        next = write_value(out, next, values[k]);
+    for value in values {
+        next = write_value(out, next, *value);
     }
     write_byte(out, next, b'\n')
 }

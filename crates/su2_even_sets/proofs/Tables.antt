@@ -16,7 +16,7 @@ use Rattle.complex.specs.Complex.{Simplex, start, end}
 use Rattle.complex.specs.Search.{Ends}
 use Rattle.su2_even_sets.specs.declared.Forest.{Forest}
 use Rattle.su2_even_sets.specs.Loops.{Growth, separate, loop, loop_closed, join_parts, grow, grown}
-use Rattle.su2_even_sets.specs.Forest.{Mapped, Front, Keeps, forest_of, Sized, Changed, Joined, Within}
+use Rattle.su2_even_sets.specs.Forest.{Mapped, Front, Keeps, forest_of, Sized, Joined, Within}
 use Rattle.su2_even_sets.proofs.Forests.{joined_cases}
 
 pub mapped_none : (f : ℕ → ℕ) (table : List ℕ) → length table ≡ 64 → Mapped f 0 table
@@ -33,31 +33,6 @@ mapped_more f v table a m h e =
     go u k (yes p) = rw p (get_or-set_same table v a 0 (omega (arith, m.long)) ∙ e)
     go u k (no p) = get_or-set_other table v u a 0 p ∙ m.entries u (omega arith)
 
--- ---- tables that are changed in place
-pub changed_none : (f : ℕ → ℕ) (table : List ℕ) → length table ≡ 64 → Changed f 0 table table
-changed_none f table h = record { front = mapped_none f table h; rest = λ v k. refl }
-
-pub changed_more : (f : ℕ → ℕ) (v : ℕ) (old table : List ℕ) (a : ℕ) → Changed f v old table → v < 64 → a ≡ f v → Changed f (v + 1) old (set table v a)
-changed_more f v old table a h k e =
-    record {
-      front = mapped_more f v table a h.front k e;
-      rest = λ u l. let other : u ≢ v = λ q. omega arith in get_or-set_other table v u a 0 other ∙ h.rest u (omega arith);
-    }
-
--- as much of a join as the first v vertices
-pub joined_none : (part path : List ℕ) (from to cycle : ℕ) → length part ≡ 64 → length path ≡ 64 → Joined part path from to cycle 0 part path
-joined_none part path from to cycle h k = record { parts = changed_none _ part h; paths = changed_none _ path k }
-
-pub joined_more : (part path : List ℕ) (from to cycle v : ℕ) (new_part new_path : List ℕ) (p x : ℕ) → Joined part path from to cycle v new_part new_path → v < 64
-    → p ≡ cond (eqb (get_or new_part v 0) from) to (get_or new_part v 0) → x ≡ cond (eqb (get_or new_part v 0) from) (bit_xor (get_or new_path v 0) cycle) (get_or new_path v 0)
-    → Joined part path from to cycle (v + 1) (set new_part v p) (set new_path v x)
-joined_more part path from to cycle v new_part new_path p x h k hp hx =
-    let old = h.parts.rest v (omega arith) in
-    record {
-      parts = changed_more _ v part new_part p h.parts k (hp ∙ rw old);
-      paths = changed_more _ v path new_path x h.paths k (hx ∙ rw (old, h.paths.rest v (omega arith)));
-    }
-
 -- ---- the tables of a growth
 -- each vertex a part of its own
 pub separate_kept : (part : List ℕ) → Mapped (λ v. v) 64 part
@@ -73,6 +48,10 @@ separate_kept part h =
 
 pub keeps_sized : (g : Growth) (f : Forest) → Keeps g f → Sized f
 keeps_sized g f k = record { part = k.part.long; path = k.path.long; closing = k.closing.long; loops = k.loops.long }
+
+-- whose closing edges and loops are those of another
+pub kept_by : (g : Growth) (f r : Forest) → Keeps g (forest_of r.part r.path f.closing f.loops f.count) → r.closing ≡ f.closing → r.loops ≡ f.loops → r.count ≡ f.count → Keeps g r
+kept_by g f r k closing loops count = record { part = k.part; path = k.path; closing = rw (closing, count) k.closing; loops = rw (loops, count) k.loops }
 
 -- one entry more at the front of a list
 pub front_more : (l list : List ℕ) (n a : ℕ) → Front l list n → n < 63 → Front (l ++ (a ∷ [])) (set list n a) (n + 1)

@@ -1,12 +1,11 @@
 // The closing edges of a complex and the loop of each.
 #![tactic(auto)]
 
-ghost use Rattle.std.specs.Prelude.{◌≡◌, [], ◌∷◌, cond, ◌<◌, ◌≤◌, eqb, length};
-ghost use Rattle.std.specs.Int.Bits.{bit_xor};
+ghost use Rattle.std.specs.Prelude.{◌≡◌, [], ◌∷◌, ◌<◌, ◌≤◌};
 ghost use Rattle.complex.specs.Complex.{complex_of};
 ghost use Rattle.complex.specs.Judge.{refusal};
-ghost use Rattle.su2_even_sets.specs.Loops.{grown};
-ghost use Rattle.su2_even_sets.specs.Forest.{Mapped, Keeps, forest_of, Sized, Joined, Grows};
+ghost use Rattle.su2_even_sets.specs.Loops.{separate, grown};
+ghost use Rattle.su2_even_sets.specs.Forest.{Keeps, Sized, Joined, Grows};
 
 use complex::SimplicialComplex;
 use numbers::sizes::{MOST_EDGES, MOST_VERTICES};
@@ -22,75 +21,55 @@ pub struct Forest {
     pub loops: [u64; MOST_EDGES],
 }
 
-// The part of one vertex where one part goes over into another.
-fn moved(part: u8, from: u8, to: u8) -> u8
-    ensures { result ≡ cond (eqb part from) to part }
-{
-    if part == from { to } else { part }
-}
-
-// A path with a loop added, where its vertex is of the part that goes over.
-fn lengthened(path: u64, part: u8, from: u8, cycle: u64) -> u64
-    ensures { result ≡ cond (eqb part from) (bit_xor path cycle) path }
-{
-    if part == from { path ^ cycle } else { path }
-}
-
-// One part goes over into another: the part and the path of each vertex.
-fn join(
-    part: &mut [u8; MOST_VERTICES],
-    path: &mut [u64; MOST_VERTICES],
-    n_vertices: usize,
-    from: u8,
-    to: u8,
-    cycle: u64,
-)
-    requires { (length part.old ≡ 64) × (length path.old ≡ 64) × (n_vertices ≤ 64) }
-    ensures { Joined part.old path.old from to cycle n_vertices part.new path.new }
-{
-    for v in 0..n_vertices {
-        let p = part[v];
-        path[v] = lengthened(path[v], p, from, cycle);
-        part[v] = moved(p, from, to);
+impl Forest {
+    // Each vertex is a part of its own.
+    fn separate() -> Forest
+        ensures { Keeps separate result }
+    {
+        let mut part = [0u8; MOST_VERTICES];
+        for (v, p) in part.iter_mut().enumerate() {
+            *p = v as u8;
+        }
+        Forest {
+            part,
+            path: [0; MOST_VERTICES],
+            count: 0,
+            closing: [0; MOST_EDGES],
+            loops: [0; MOST_EDGES],
+        }
     }
-}
 
-// Edge e from a to b closes a loop, or joins two parts: the number of closing edges.
-fn grow(
-    part: &mut [u8; MOST_VERTICES],
-    path: &mut [u64; MOST_VERTICES],
-    closing: &mut [u8; MOST_EDGES],
-    loops: &mut [u64; MOST_EDGES],
-    count: usize,
-    n_vertices: usize,
-    a: usize,
-    b: usize,
-    e: usize,
-) -> usize
-    requires { Sized (forest_of part.old path.old closing.old loops.old count) × (count ≤ e) × (e < 63) × (a < n_vertices) × (b < n_vertices) × (n_vertices ≤ 64) }
-    ensures { Grows n_vertices (forest_of part.old path.old closing.old loops.old count) (a ∷ b ∷ []) e (forest_of part.new path.new closing.new loops.new result) }
-{
-    let from = part[b];
-    let to = part[a];
-    let cycle = path[a] ^ path[b] ^ (1 << e);
-    if from == to {
-        closing[count] = e as u8;
-        loops[count] = cycle;
-        return count + 1;
+    // One part goes over into another, and the paths of its vertices with a loop added.
+    fn join(&mut self, n_vertices: usize, from: u8, to: u8, cycle: u64)
+        requires { Sized self.old × (n_vertices ≤ 64) }
+        ensures tables { Joined self.old.part self.old.path from to cycle n_vertices self.new.part self.new.path }
+        ensures loops { (self.new.closing ≡ self.old.closing) × (self.new.loops ≡ self.old.loops) × (self.new.count ≡ self.old.count) }
+    {
+        // Two tables are written at once: a zip of both would say nothing of what they then hold.
+        for v in 0..n_vertices {
+            if self.part[v] == from {
+                self.part[v] = to;
+                self.path[v] ^= cycle;
+            }
+        }
     }
-    join(part, path, n_vertices, from, to, cycle);
-    count
-}
 
-// Each vertex is a part of its own.
-fn separate() -> [u8; MOST_VERTICES]
-    ensures { Mapped (λ v. v) 64 result }
-{
-    let mut part = [0u8; MOST_VERTICES];
-    for v in 0..MOST_VERTICES {
-        part[v] = v as u8;
+    // Edge e from a to b closes a loop, or joins two parts.
+    fn grow(&mut self, n_vertices: usize, a: usize, b: usize, e: usize)
+        requires { Sized self.old × (self.old.count ≤ e) × (e < 63) × (a < n_vertices) × (b < n_vertices) × (n_vertices ≤ 64) }
+        ensures { Grows n_vertices self.old (a ∷ b ∷ []) e self.new }
+    {
+        let from = self.part[b];
+        let to = self.part[a];
+        let cycle = self.path[a] ^ self.path[b] ^ (1 << e);
+        if from == to {
+            self.closing[self.count] = e as u8;
+            self.loops[self.count] = cycle;
+            self.count += 1;
+        } else {
+            self.join(n_vertices, from, to, cycle);
+        }
     }
-    part
 }
 
 // The closing edges of an accepted record and their loops.
@@ -98,32 +77,11 @@ pub fn closing_loops(c: SimplicialComplex) -> Forest
     requires { refusal (complex_of c) ≡ 0 }
     ensures { Keeps (grown (complex_of c).edges c.n_edges) result }
 {
-    let edges = c.edges;
-    let mut part = separate();
-    let mut path = [0; MOST_VERTICES];
-    let mut closing = [0; MOST_EDGES];
-    let mut loops = [0; MOST_EDGES];
-    let mut count = 0;
+    let mut forest = Forest::separate();
     for e in 0..c.n_edges {
-        let a = edge_start(&edges, e);
-        let b = edge_end(&edges, e);
-        count = grow(
-            &mut part,
-            &mut path,
-            &mut closing,
-            &mut loops,
-            count,
-            c.n_vertices,
-            a,
-            b,
-            e,
-        );
+        let a = edge_start(&c.edges, e);
+        let b = edge_end(&c.edges, e);
+        forest.grow(c.n_vertices, a, b, e);
     }
-    Forest {
-        part: part,
-        path: path,
-        count: count,
-        closing: closing,
-        loops: loops,
-    }
+    forest
 }

@@ -11,7 +11,7 @@ ghost use Rattle.su2_products.specs.Product.{su2_product_call};
 ghost use Rattle.su2_loops.specs.Loop.{su2_loop_call, su2_passes_call};
 ghost use Rattle.exports.specs.Exports.{on_sheet, stored, value_lent, three_floats, Exported};
 
-use exports::{open, refused, signed, store, store_expectation, told_number};
+use exports::{open, refused, signed, store, store_value, told_number, told_result};
 use matrices::coupling::KSParams;
 use su2_entries::su2_count_entries;
 use su2_loops::{su2_wilson_loop, su2_wilson_passes};
@@ -31,7 +31,7 @@ pub fn export_su2_basis(sheet: &[u8], states: &mut [u64]) -> i64
         return refused(number);
     }
     let s = opened.sheet;
-    signed(told_number(su2_basis(s.complex, states)))
+    signed(told_result(su2_basis(s.complex, states)))
 }
 
 // g² and the factors of the two-valued mode: 0.
@@ -111,7 +111,7 @@ pub fn export_su2_count_states(sheet: &[u8]) -> i64
         return refused(number);
     }
     let s = opened.sheet;
-    signed(told_number(su2_count_states(s.complex)))
+    signed(told_result(su2_count_states(s.complex)))
 }
 
 // How many entries the row lists of a sheet have in the two-valued mode.
@@ -173,7 +173,7 @@ pub fn export_su2_wilson_loop(
     }
     let s = opened.sheet;
     let answer = su2_wilson_loop(s.complex, vector, path, states);
-    store_expectation(answer, expectation)
+    store_value(answer, expectation)
 }
 
 // The same by the path's passes modulo two: 0.
@@ -193,5 +193,5 @@ pub fn export_su2_wilson_passes(
     }
     let s = opened.sheet;
     let answer = su2_wilson_passes(s.complex, vector, path, states);
-    store_expectation(answer, expectation)
+    store_value(answer, expectation)
 }

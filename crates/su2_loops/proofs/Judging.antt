@@ -4,7 +4,7 @@ use mathlib.Core.List.{List, ◌++◌}
 use mathlib.Core.Bool.{Bool, true, false, not, cond}
 use mathlib.Core.Path.{◌≡◌, refl}
 use native.Mathlib.Omega.{arith}
-use borrow.Author.Tests.{eqb-true, ltb-true}
+use borrow.Author.Tests.{eqb-true, eq-eqb, ne_eqb, ltb-true}
 use lib.Dec.{eqb, ltb}
 use lib.Ieee.{Float}
 use lib.ListN.{get_or, length}
@@ -26,23 +26,23 @@ module _ (m n : ℕ) (vector : List Float) (path : List ℕ) where
   abbrev told : ℕ
   told = first (loop_tests m n vector path)
 
-  pub number_told : eqb (length vector) m ≡ false → 12 ≡ told
+  pub number_told : (length vector ≡ m → ⊥) → 12 ≡ told
   unfolding loop_tests first
-  number_told h = rw h
+  number_told h = rw (ne_eqb (length vector) m h)
 
-  module _ (fits : eqb (length vector) m ≡ true) where
+  module _ (fits : length vector ≡ m) where
     pub path_told : path_right n path ≡ false → 13 ≡ told
     unfolding loop_tests first
-    path_told h = rw (fits, h)
+    path_told h = rw (eq-eqb (length vector) m fits, h)
 
     module _ (right : path_right n path ≡ true) where
       pub range_told : every_entry bounded vector ≡ false → 14 ≡ told
       unfolding loop_tests first
-      range_told h = rw (fits, right, h)
+      range_told h = rw (eq-eqb (length vector) m fits, right, h)
 
       pub none_told : every_entry bounded vector ≡ true → 0 ≡ told
       unfolding loop_tests first
-      none_told h = rw (fits, right, h)
+      none_told h = rw (eq-eqb (length vector) m fits, right, h)
 
   -- what passes: one amplitude for each state, and every edge of the path is there
   pub loop_fits : told ≡ 0 → (length vector ≡ m) × ((k : ℕ) → k < length path → get_or path k 0 < n)
@@ -58,3 +58,7 @@ module _ (m n : ℕ) (vector : List Float) (path : List ℕ) where
   pub past_loop : told ≡ 0 → {rest : List (ℕ × Bool)} {k : ℕ} → Tells rest k → Tells (loop_tests m n vector path ++ rest) k
   unfolding loop_tests numbered every_entry
   past_loop h t = past_all (loop_tests m n vector path) refl h t
+
+-- the same with other names for both numbers
+pub told_as : (k m n m' n' : ℕ) (vector : List Float) (path : List ℕ) → k ≡ first (loop_tests m n vector path) → m ≡ m' → n' ≡ n → k ≡ first (loop_tests m' n' vector path)
+told_as k m n m' n' vector path told states edges = rw (← states, edges) told

@@ -1,5 +1,5 @@
 -- Which edges of a path are in its mask: those that it names or, by passes, those that it passes an odd number of times.
-use Prim.Native.Nat.{ℕ, zero, suc, ◌+◌, ◌/◌, ◌%◌, ◌^◌, ◌≤◌, max}
+use Prim.Native.Nat.{ℕ, zero, suc, ◌+◌, ◌*◌, ◌<◌, ◌/◌, ◌%◌, ◌^◌, ◌≤◌, max}
 use mathlib.Core.List.{List, [], ◌∷◌, ◌++◌}
 use mathlib.Core.Bool.{Bool, true, false, ◌||◌, cond}
 use mathlib.Core.Path.{◌≡◌, refl, sym, ap, ap₂, ◌∙◌}
@@ -16,7 +16,7 @@ use Rattle.mathematics.specs.Counting.{keep}
 use Rattle.mathematics.specs.Lists.{listed}
 use Rattle.mathematics.proofs.Lists.{listed_last}
 use Rattle.mathematics.proofs.Below.{keep_append}
-use Rattle.mathematics.proofs.Bits.{bit_of_zero, bit_power, bit_power_other, bit_xor_lem}
+use Rattle.mathematics.proofs.Bits.{power_shifted, bit_of_zero, bit_power, bit_power_other, bit_xor_lem}
 use Rattle.su2_even_sets.specs.EvenSets.{chosen}
 use Rattle.su2_loops.specs.Loop.{names, passes, passes_oddly, counting, path_mask, passes_mask, mask_by}
 
@@ -103,3 +103,16 @@ module _ (path : List ℕ) (e : ℕ) where
 -- the mask has the edges that count
 pub counted_mask : (by_passes : Bool) (path : List ℕ) {mask : ℕ} → mask ≡ mask_by by_passes path → chosen mask ≡ counting by_passes path
 counted_mask by_passes path is = ap chosen is ∙ (λ i e. counted_edge path e by_passes i)
+
+-- ---- one step more, and no step
+pub mask_none : (by_passes : Bool) (path : List ℕ) → 0 ≡ cond by_passes (passes_mask path 0) (path_mask path 0)
+unfolding path_mask passes_mask
+mask_none true path = refl
+mask_none false path = refl
+
+module _ (path : List ℕ) (k mask : ℕ) (low : get_or path k 0 < 64) where
+  pub step_named : mask ≡ path_mask path k → bit_or mask (1 * 2 ^ get_or path k 0 % 2 ^ 64) ≡ path_mask path (k + 1)
+  step_named is = ap₂ bit_or is (power_shifted (get_or path k 0) low) ∙ sym (mask_more path k)
+
+  pub step_passed : mask ≡ passes_mask path k → bit_xor mask (1 * 2 ^ get_or path k 0 % 2 ^ 64) ≡ passes_mask path (k + 1)
+  step_passed is = ap₂ bit_xor is (power_shifted (get_or path k 0) low) ∙ sym (passes_more path k)

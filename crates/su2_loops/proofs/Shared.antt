@@ -69,6 +69,11 @@ pub sum_more : (vector : List Float) (states : List ℕ) (mask i : ℕ)
 unfolding mask_sum
 sum_more vector states mask i = ap (mask_sum vector states mask) (add-one i)
 
+pub sum_step : (vector : List Float) (states : List ℕ) (mask i : ℕ) (sum amplitude sign : Float) (state : ℕ)
+    → sum ≡ mask_sum vector states mask i → amplitude ≡ get_or vector i nan → state ≡ get_or states i 0 → sign ≡ sign_of (ones (bit_and state mask))
+    → add binary64 sum (mul binary64 (mul binary64 amplitude amplitude) sign) ≡ mask_sum vector states mask (i + 1)
+sum_step vector states mask i sum amplitude sign state so_far a s turned = rw (sum_more vector states mask i, so_far, turned, a, s)
+
 -- ---- the sum over the states
 module _ (c : Complex) (accepted : Accepted c) (vector : List Float) (mask : ℕ) (states rest : List ℕ) (begins : states ≡ su2_states c ++ rest) where
   sum_is : (n : ℕ) → n ≤ length (su2_states c) → mask_sum vector states mask n ≡ counted_sum c vector (chosen mask) n

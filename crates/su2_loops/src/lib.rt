@@ -6,18 +6,16 @@ ghost use Rattle.std.specs.Float.{binary64};
 ghost use Rattle.std.specs.Float.Ieee.{neg, of_int};
 ghost use Rattle.mathematics.specs.Refusals.{first};
 ghost use Rattle.mathematics.specs.Calls.{Answered};
-ghost use Rattle.answers.specs.Expectation.{expectation_answer};
+ghost use Rattle.answers.specs.Refusal.{answer_of, judged};
 ghost use Rattle.complex.specs.Complex.{complex_of};
 ghost use Rattle.matrices.specs.Coupling.{float_of};
-ghost use Rattle.su2_loops.specs.Loop.{path_right, loop_tests, expectation_call, su2_loop_call, su2_passes_call, counting, path_mask, passes_mask, mask_by, mask_sum};
+ghost use Rattle.su2_loops.specs.Loop.{path_right, loop_tests, expectation_call, su2_loop_call, su2_passes_call, counting, mask_by, mask_sum};
 ghost use Rattle.su2_loops.specs.Parity.{parity_sign, ExactlyWhereOdd};
 
-use acceptance::judge;
-use answers::expectation::Expectation;
+use answers::refusal::Refusal;
 use complex::SimplicialComplex;
 use matrices::weights::all_bounded;
-use numbers::byte;
-use su2_even_sets::closing_loops;
+use su2_masks::accepted::accepted_loops;
 use su2_masks::write_masks;
 
 // Whether every edge that the path names is below n.
@@ -25,50 +23,27 @@ fn path_right(path: &[u8], n: usize) -> bool
     ensures { result ≡ path_right n path.now }
 {
     let mut so_far = true;
-    for k in 0..path.len() {
-        so_far = so_far & (byte(path[k]) < n);
+    for edge in path {
+        so_far &= usize::from(*edge) < n;
     }
     so_far
 }
 
-// 12 for the number of the amplitudes, 13 for an edge of the path that is not there, 14 for an amplitude out of its range, 0 for none of them.
-fn judge_loop(n_states: usize, n_edges: usize, vector: &[f64], path: &[u8]) -> u8
-    ensures { result ≡ first (loop_tests n_states n_edges vector.now path.now) }
+// 12 for the number of the amplitudes, 13 for an edge of the path that is not there, 14 for an amplitude out of its range.
+#[tactic(auto, using(crate::proofs::Judging::number_told, crate::proofs::Judging::path_told, crate::proofs::Judging::range_told, crate::proofs::Judging::none_told))]
+fn accept_loop(n_states: usize, n_edges: usize, vector: &[f64], path: &[u8]) -> Result<(), Refusal>
+    ensures { judged result ≡ first (loop_tests n_states n_edges vector.now path.now) }
 {
     if vector.len() != n_states {
-        return 12;
+        return Err(Refusal::WrongListLength);
     }
     if !path_right(path, n_edges) {
-        return 13;
+        return Err(Refusal::OutOfRange);
     }
     if !all_bounded(vector) {
-        return 14;
+        return Err(Refusal::WrongFloat);
     }
-    0
-}
-
-// The edges of a path as a mask; one that is named twice is in it once.
-fn path_mask(path: &[u8]) -> u64
-    requires { (k : ℕ) → k < length path.now → get_or path.now k 0 < 64 }
-    ensures { result ≡ path_mask path.now (length path.now) }
-{
-    let mut mask = 0;
-    for k in 0..path.len() {
-        mask = mask | (1 << path[k]);
-    }
-    mask
-}
-
-// The edges that a path passes an odd number of times, as a mask.
-fn passes_mask(path: &[u8]) -> u64
-    requires { (k : ℕ) → k < length path.now → get_or path.now k 0 < 64 }
-    ensures { result ≡ passes_mask path.now (length path.now) }
-{
-    let mut mask = 0;
-    for step in 0..path.len() {
-        mask = mask ^ (1 << path[step]);
-    }
-    mask
+    Ok(())
 }
 
 // The edges of a path that count, as a mask: each that it names or, by passes, each that it passes an odd number of times.
@@ -76,10 +51,12 @@ fn counted_mask(path: &[u8], by_passes: bool) -> u64
     requires { (k : ℕ) → k < length path.now → get_or path.now k 0 < 64 }
     ensures { result ≡ mask_by by_passes path.now }
 {
-    if by_passes {
-        return passes_mask(path);
+    let mut mask = 0;
+    for step in path {
+        let bit = 1 << *step;
+        mask = if by_passes { mask ^ bit } else { mask | bit };
     }
-    path_mask(path)
+    mask
 }
 
 // -1.0 for an odd count, else 1.0. As on the lecture slide it is 1 minus twice the remainder by two, on whole numbers and without a branch.
@@ -92,16 +69,15 @@ fn sign_of(count: u32) -> f64
     (1 - 2 * remainder) as f64
 }
 
-// The squares of the first n amplitudes, each with the sign of how many edges its state shares with a mask.
-fn mask_sum(n: usize, vector: &[f64], states: &[u64], mask: u64) -> f64
-    requires { (n ≤ length vector.now) × (n ≤ length states.now) }
-    ensures { result ≡ mask_sum vector.now states.now mask n }
+// The squares of the amplitudes, each with the sign of how many edges its state shares with a mask.
+fn mask_sum(vector: &[f64], states: &[u64], mask: u64) -> f64
+    requires { length vector.now ≤ length states.now }
+    ensures { result ≡ mask_sum vector.now states.now mask (length vector.now) }
 {
     let mut sum = 0.0;
-    for i in 0..n {
-        let amplitude = vector[i];
-        let sign = sign_of(u64::count_ones(states[i] & mask));
-        sum = sum + amplitude * amplitude * sign;
+    for (amplitude, state) in vector.iter().zip(states) {
+        let sign = sign_of(u64::count_ones(*state & mask));
+        sum += *amplitude * *amplitude * sign;
     }
     sum
 }
@@ -114,30 +90,17 @@ fn loop_expectation(
     path: &[u8],
     by_passes: bool,
     states: &mut [u64],
-) -> Expectation
-    ensures { Answered (expectation_call (complex_of c) vector.now path.now (counting by_passes path.now) states.old) (expectation_answer result) states.new }
+) -> Result<f64, Refusal>
+    ensures { Answered (expectation_call (complex_of c) vector.now path.now (counting by_passes path.now) states.old) (answer_of result) states.new }
 {
-    let number = judge(c);
-    if number != 0 {
-        return Expectation::Refused(number);
-    }
-    let f = closing_loops(c);
-    let count = f.count;
-    if 20 < count {
-        return Expectation::Refused(10);
-    }
-    let n = 1 << count;
-    let other = judge_loop(n, c.n_edges, vector, path);
-    if other != 0 {
-        return Expectation::Refused(other);
-    }
+    let f = accepted_loops(c)?;
+    let n = 1 << f.count;
+    accept_loop(n, c.n_edges, vector, path)?;
     if states.len() < n {
-        return Expectation::Refused(15);
+        return Err(Refusal::NoRoom);
     }
-    let loops = f.loops;
-    write_masks(states, &loops, count);
-    let mask = counted_mask(path, by_passes);
-    Expectation::Value(mask_sum(n, vector, states, mask))
+    write_masks(states, &f.loops, f.count);
+    Ok(mask_sum(vector, states, counted_mask(path, by_passes)))
 }
 
 // The expectation of the loop of a path's edge set: an edge that is named twice counts once. The list then begins with all even edge sets. All
@@ -147,8 +110,8 @@ pub fn su2_wilson_loop(
     vector: &[f64],
     path: &[u8],
     states: &mut [u64],
-) -> Expectation
-    ensures { Answered (su2_loop_call (complex_of c) vector.now path.now states.old) (expectation_answer result) states.new }
+) -> Result<f64, Refusal>
+    ensures { Answered (su2_loop_call (complex_of c) vector.now path.now states.old) (answer_of result) states.new }
 {
     loop_expectation(c, vector, path, false, states)
 }
@@ -159,8 +122,8 @@ pub fn su2_wilson_passes(
     vector: &[f64],
     path: &[u8],
     states: &mut [u64],
-) -> Expectation
-    ensures { Answered (su2_passes_call (complex_of c) vector.now path.now states.old) (expectation_answer result) states.new }
+) -> Result<f64, Refusal>
+    ensures { Answered (su2_passes_call (complex_of c) vector.now path.now states.old) (answer_of result) states.new }
 {
     loop_expectation(c, vector, path, true, states)
 }

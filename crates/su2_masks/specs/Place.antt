@@ -17,3 +17,8 @@ pub record Readable (f : Forest) : Type 0 where
   pub loops_long : length f.loops ≡ 63
   pub few : f.count ≤ 20
   pub below : (j : ℕ) → j < f.count → get_or f.closing j 0 < 64
+
+-- the closing edges and loops of an accepted complex with at most 20 of them
+pub record FewLoops (c : Complex) (f : Forest) : Type 0 where
+  pub of : LoopsOf c f
+  pub few : f.count ≤ 20

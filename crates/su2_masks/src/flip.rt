@@ -15,11 +15,9 @@ pub fn triangle_place(f: Forest, sides: Sides) -> usize
     requires { Readable f × (sides.first < 64) × (sides.second < 64) × (sides.third < 64) }
     ensures { (c : Complex) (t : ℕ) → LoopsOf c f → SidesOf c t sides → result ≡ mask_place c (triangle_mask c t) }
 {
-    let closing = f.closing;
-    let n = f.count;
     closing_bits(
-        &closing,
-        n,
+        &f.closing,
+        f.count,
         (1 << sides.first) ^ (1 << sides.second) ^ (1 << sides.third),
     )
 }

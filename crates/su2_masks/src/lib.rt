@@ -1,6 +1,7 @@
 // The even edge sets as masks: the list of all of them, and the place of one in it.
 #![tactic(auto)]
 
+pub mod accepted;
 pub mod count;
 pub mod flip;
 pub mod place;
@@ -10,21 +11,21 @@ ghost use Rattle.std.specs.Int.Bits.{bit_xor};
 ghost use Rattle.complex.specs.Complex.{complex_of};
 ghost use Rattle.su2_even_sets.specs.Loops.{loop_sums};
 ghost use Rattle.mathematics.specs.Calls.{Answered};
-ghost use Rattle.answers.specs.Answer.{number_answer};
+ghost use Rattle.answers.specs.Refusal.{answer_of};
 ghost use Rattle.su2_masks.specs.Basis.{su2_basis_call};
 
-use acceptance::judge;
-use answers::Answer;
+use crate::accepted::accepted_loops;
+use answers::refusal::Refusal;
 use complex::SimplicialComplex;
-use su2_even_sets::closing_loops;
 
 // The first masks, each with a loop added, go behind them.
 fn double(states: &mut [u64], count: usize, cycle: u64)
     requires { (count ≤ 2 ^ 20) × (count + count ≤ length states.old) }
     ensures { states.new ≡ take count states.old ++ map (λ x. bit_xor x cycle) (take count states.old) ++ drop (count + count) states.old }
 {
-    for i in 0..count {
-        states[count + i] = states[i] ^ cycle;
+    let (first, rest) = states.split_at_mut(count);
+    for (i, mask) in first.iter().enumerate() {
+        rest[i] = *mask ^ cycle;
     }
 }
 
@@ -35,30 +36,21 @@ pub fn write_masks(states: &mut [u64], loops: &[u64; 63], n: usize)
 {
     states[0] = 0;
     let mut count = 1;
-    for j in 0..n {
-        double(states, count, loops[j]);
+    for cycle in &loops[..n] {
+        double(states, count, *cycle);
         count += count;
     }
 }
 
 // All even edge sets of a record, ascending, go to the beginning of the list. The record is judged first.
-pub fn su2_basis(c: SimplicialComplex, states: &mut [u64]) -> Answer
-    ensures { Answered (su2_basis_call (complex_of c) states.old) (number_answer result) states.new }
+pub fn su2_basis(c: SimplicialComplex, states: &mut [u64]) -> Result<usize, Refusal>
+    ensures { Answered (su2_basis_call (complex_of c) states.old) (answer_of result) states.new }
 {
-    let number = judge(c);
-    if number != 0 {
-        return Answer::Refused(number);
-    }
-    let f = closing_loops(c);
-    let n = f.count;
-    if 20 < n {
-        return Answer::Refused(10);
-    }
-    let count = 1 << n;
+    let f = accepted_loops(c)?;
+    let count = 1 << f.count;
     if states.len() < count {
-        return Answer::Refused(15);
+        return Err(Refusal::NoRoom);
     }
-    let loops = f.loops;
-    write_masks(states, &loops, n);
-    Answer::Number(count)
+    write_masks(states, &f.loops, f.count);
+    Ok(count)
 }

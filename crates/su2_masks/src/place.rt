@@ -3,8 +3,6 @@ ghost use Rattle.std.specs.Prelude.{◌≡◌, ℕ, ◌<◌, ◌≤◌, get_or, 
 ghost use Rattle.mathematics.specs.Bits.{bit};
 ghost use Rattle.su2_even_sets.specs.Loops.{closing_bits};
 
-use numbers::byte;
-
 // Bit i of a mask.
 fn bit_of(x: u64, i: usize) -> usize
     requires { i < 64 }
@@ -20,8 +18,8 @@ pub fn closing_bits(closing: &[u8; 63], n: usize, x: u64) -> usize
 {
     let mut place = 0;
     let mut unit = 1;
-    for j in 0..n {
-        place += bit_of(x, byte(closing[j])) * unit;
+    for edge in &closing[..n] {
+        place += bit_of(x, usize::from(*edge)) * unit;
         unit += unit;
     }
     place

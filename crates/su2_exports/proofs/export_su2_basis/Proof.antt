@@ -20,12 +20,12 @@ returns-then-number-ne0 c = sheet_refuses c.before.before.open-opened.ensures _ 
 su2_basis-requires : tie.Need-su2_basis-requires
 su2_basis-requires c κs = search rules
 
-told_number-requires : tie.Need-told_number-requires
-told_number-requires c κs = search rules
+told_result-requires : tie.Need-told_result-requires
+told_result-requires c κs = search rules
 
 signed-requires : tie.Need-signed-requires
 unfolding su2_basis_call
-signed-requires c κs = small_answer c.before.before.before.su2_basis.ensures (λ k. few_small k.few refl) c.told_number.ensures
+signed-requires c κs = small_answer c.before.before.before.su2_basis.ensures (λ k. few_small k.few refl) c.told_result.ensures
 
 shape_of-states : tie.Need-shape_of-states
 shape_of-states c = search rules
@@ -34,9 +34,9 @@ returns : tie.Need-returns
 returns c =
     let t = c.before.before.before.before in
     let e = t.before.before.before in
-    sheet_answers e.before.open-opened.ensures _ e.if-number-ne0.false t.su2_basis.ensures (back64 _ c.signed.type_inv ∙ c.signed.ensures ∙ signed_told _ c.before.told_number.ensures)
+    sheet_answers e.before.open-opened.ensures _ e.if-number-ne0.false t.su2_basis.ensures (back64 _ c.signed.type_inv ∙ c.signed.ensures ∙ signed_told _ c.before.told_result.ensures)
 
 pub export_su2_basis_spec : {M : Type 1} → statement M
 export_su2_basis_spec =
     tie.close
-    (tie.spec open-opened-requires refused-requires returns-then-number-ne0 su2_basis-requires told_number-requires signed-requires shape_of-states returns)
+    (tie.spec open-opened-requires refused-requires returns-then-number-ne0 su2_basis-requires told_result-requires signed-requires shape_of-states returns)

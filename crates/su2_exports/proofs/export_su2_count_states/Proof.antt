@@ -20,20 +20,20 @@ returns-then-number-ne0 c = sheet_refuses c.before.before.open-opened.ensures _ 
 su2_count_states-requires : tie.Need-su2_count_states-requires
 su2_count_states-requires c κs = search rules
 
-told_number-requires : tie.Need-told_number-requires
-told_number-requires c κs = search rules
+told_result-requires : tie.Need-told_result-requires
+told_result-requires c κs = search rules
 
 signed-requires : tie.Need-signed-requires
 unfolding su2_counted_call
-signed-requires c κs = small_answer c.before.su2_count_states.ensures (λ k. few_small k.few refl) c.told_number.ensures
+signed-requires c κs = small_answer c.before.su2_count_states.ensures (λ k. few_small k.few refl) c.told_result.ensures
 
 returns : tie.Need-returns
 returns c =
     let t = c.before.before in
     let e = t.before.before in
-    sheet_answers e.before.open-opened.ensures _ e.if-number-ne0.false t.su2_count_states.ensures (back64 _ c.signed.type_inv ∙ c.signed.ensures ∙ signed_told _ c.before.told_number.ensures)
+    sheet_answers e.before.open-opened.ensures _ e.if-number-ne0.false t.su2_count_states.ensures (back64 _ c.signed.type_inv ∙ c.signed.ensures ∙ signed_told _ c.before.told_result.ensures)
 
 pub export_su2_count_states_spec : {M : Type 1} → statement M
 export_su2_count_states_spec =
     tie.close
-    (tie.spec open-opened-requires refused-requires returns-then-number-ne0 su2_count_states-requires told_number-requires signed-requires returns)
+    (tie.spec open-opened-requires refused-requires returns-then-number-ne0 su2_count_states-requires told_result-requires signed-requires returns)

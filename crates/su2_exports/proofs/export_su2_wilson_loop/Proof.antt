@@ -21,8 +21,8 @@ returns-then-number-ne0 c = sheet_refuses c.before.before.open-opened.ensures _ 
 su2_wilson_loop-answer-requires : tie.Need-su2_wilson_loop-answer-requires
 su2_wilson_loop-answer-requires c κs = search rules
 
-store_expectation-requires : tie.Need-store_expectation-requires
-store_expectation-requires c κs = search rules
+store_value-requires : tie.Need-store_value-requires
+store_value-requires c κs = search rules
 
 shape_of-states : tie.Need-shape_of-states
 shape_of-states c = search rules
@@ -31,9 +31,9 @@ returns : tie.Need-returns
 returns c =
     let t = c.before.before.before.before in
     let e = t.before.before.before in
-    sheet_answers e.before.open-opened.ensures _ e.if-number-ne0.false (lent_answers t.su2_wilson_loop-answer.ensures _ c.store_expectation.ensures.1) (back64 _ c.store_expectation.type_inv ∙ c.store_expectation.ensures.0)
+    sheet_answers e.before.open-opened.ensures _ e.if-number-ne0.false (lent_answers t.su2_wilson_loop-answer.ensures _ c.store_value.ensures.1) (back64 _ c.store_value.type_inv ∙ c.store_value.ensures.0)
 
 pub export_su2_wilson_loop_spec : {M : Type 1} → statement M
 export_su2_wilson_loop_spec =
     tie.close
-    (tie.spec open-opened-requires refused-requires returns-then-number-ne0 su2_wilson_loop-answer-requires store_expectation-requires shape_of-states returns)
+    (tie.spec open-opened-requires refused-requires returns-then-number-ne0 su2_wilson_loop-answer-requires store_value-requires shape_of-states returns)
