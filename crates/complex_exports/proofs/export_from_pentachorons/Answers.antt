@@ -1,8 +1,6 @@
-use Rattle.std.proofs.Common.{◌∙◌}
-use Rattle.mathematics.proofs.Signed.{back64}
 use Rattle.pentachora.specs.Pentachora.{pentachora_call}
 use Rattle.exports.specs.Exports.{signed}
-use Rattle.exports.proofs.Signs.{exports, told}
+use Rattle.exports.proofs.Signs.{told}
 use Rattle.exports.proofs.Answers.{second_refuses, second_ends}
 use Rattle.complex_exports.proofs.Parts.{few_edges}
 use Rattle.complex_exports.proofs.export_from_pentachorons.Goals as goal
