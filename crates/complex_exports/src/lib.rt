@@ -16,7 +16,7 @@ use exports::{open, refused, signed, signed_refusal, signed_result, told_number,
 use gauss_law::spanning::spanning_tree;
 use loops::fundamental::{fundamental_loops, su2_fundamental_loops};
 use making::make_sheet;
-use pentachora::{FromPentachorons, from_pentachorons};
+use pentachora::from_pentachorons;
 use refusals::refusal_text;
 use sheet::read_sheet;
 use triangles::triangle_sides;
@@ -97,16 +97,12 @@ pub fn export_from_pentachorons(
 ) -> i64
     ensures { Exported (second_lent (pentachora_call n_vertices pentachora.now edges.old triangles.old) n_triangles.old) result (edges.new, triangles.new, n_triangles.new) }
 {
-    let answer = from_pentachorons(n_vertices as usize, pentachora, edges, triangles);
-    match answer {
-        FromPentachorons::Counts {
-            n_edges: e,
-            n_triangles: t,
-        } => {
-            *n_triangles = t as u64;
-            value(e)
+    match from_pentachorons(n_vertices as usize, pentachora, edges, triangles) {
+        Ok((n_edges, count)) => {
+            *n_triangles = count as u64;
+            value(n_edges)
         }
-        FromPentachorons::Refused(number) => refused(number),
+        Err(refusal) => signed_refusal(refusal),
     }
 }
 

@@ -1,7 +1,7 @@
 -- The refusals of pentachora, test by test.
-use Prim.Native.Nat.{ℕ, suc, ◌*◌, ◌/◌, ◌<◌, ◌≤◌}
+use Prim.Native.Nat.{ℕ, ◌*◌, ◌/◌, ◌<◌, ◌≤◌}
 use mathlib.Core.List.{List, [], map}
-use mathlib.Core.Path.{◌≡◌, sym, ◌∙◌}
+use mathlib.Core.Path.{◌≡◌, sym}
 use mathlib.Core.Bool.{true, false, ◌&&◌, ◌||◌}
 use native.Mathlib.Omega.{arith}
 use borrow.Author.Tests.{eqb-true, le-leb, lt-leb, leb-true, ltb-false}
@@ -17,7 +17,12 @@ use Rattle.complex.specs.Judge.{counts_right, rising}
 use Rattle.complex.specs.Numbering.{Numbered, key, EdgeTable, triangle_key, Keyed}
 use Rattle.pentachora.specs.Pentachora.{pentachora, pentachora_right, sorted, faces, pentachora_refusal}
 use Rattle.pentachora.specs.Faces.{all_faces, edge_of, JudgedFaces}
-use Rattle.pentachora.specs.declared.Faces.{Faces}
+use Prim.{tt}
+use Rattle.std.proofs.Common.{Ok, Err}
+use Rattle.answers.specs.Refusal.{refusal_number}
+use Rattle.answers.specs.declared.refusal.Refusal.{Refusal}
+use Rattle.answers.specs.declared.refusal.Refusal.TheVariants.{WrongCounts, Disconnected, NoRoom}
+use Rattle.complex.specs.declared.numbering.Numbering.{Numbering}
 use Rattle.complex.proofs.Accepting.{rising_ends}
 use Rattle.pentachora.proofs.Appearing.{pair, Rises, rises_weaker, right_rises, faces_pairs, edges_counted, edges_many, edges_kept, edges_back, edges_table, triangles_keyed, triangles_counted, triangles_many, triangles_back}
 
@@ -74,8 +79,8 @@ module _ (n : ℕ) (l : List ℕ) (h : Rises n l) where
   edges_ends = rising_ends n (faces 2 l) edges_sized edges_rising
 
 -- what is refused is judged by its number alone
-pub judged_refused : (n : ℕ) (l : List ℕ) (edge_room triangle_room : ℕ) (f : Faces) (number : ℕ) → f.refusal ≡ suc number → pentachora_refusal n l edge_room triangle_room ≡ suc number → JudgedFaces n l edge_room triangle_room f
-judged_refused n l edge_room triangle_room f number p q = record { refusal = p ∙ sym q; found = λ (z : f.refusal ≡ 0). absurd (omega arith) }
+pub judged_refused : (n : ℕ) (l : List ℕ) (edge_room triangle_room : ℕ) (r : Refusal) → pentachora_refusal n l edge_room triangle_room ≡ refusal_number r → JudgedFaces n l edge_room triangle_room (Err r)
+judged_refused n l edge_room triangle_room r q = record { refusal = sym q; found = tt }
 
 -- the tests that follow one another as the faces are numbered
 module _ (n : ℕ) (l : List ℕ) (edge_room triangle_room : ℕ) (some : 1 ≤ n) (few : n ≤ 64) (right : pentachora_right n l ≡ true) where
@@ -85,62 +90,61 @@ module _ (n : ℕ) (l : List ℕ) (edge_room triangle_room : ℕ) (some : 1 ≤ 
   pub rise_small : Rises 64 l
   rise_small = rises_weaker n 64 few l rise
 
-  module _ (table keys : List ℕ) (count : ℕ) (m : Numbered 63 table keys count (firsts eqb (map key (all_faces 2 (pentachora l))))) where
-    pub judged_edges : (f : Faces) → f.refusal ≡ 4 → 63 < count → JudgedFaces n l edge_room triangle_room f
-    judged_edges f p over =
-        judged_refused n l edge_room triangle_room f 3 p
-        (edges_over n l edge_room triangle_room some few right (omega (arith, edges_counted n l rise few table keys count m)))
+  module _ (e : Numbering) (m : Numbered 63 e.table e.keys e.count (firsts eqb (map key (all_faces 2 (pentachora l))))) where
+    pub judged_edges : 63 < e.count → JudgedFaces n l edge_room triangle_room (Err WrongCounts)
+    judged_edges over =
+        judged_refused n l edge_room triangle_room WrongCounts
+        (edges_over n l edge_room triangle_room some few right (omega (arith, edges_counted n l rise few e.table e.keys e.count m)))
 
-    module _ (within : count ≤ 63) where
-      edges : count ≡ length (faces 2 l)
-      edges = edges_many n l rise few table keys count m within
+    module _ (within : e.count ≤ 63) where
+      edges : e.count ≡ length (faces 2 l)
+      edges = edges_many n l rise few e.table e.keys e.count m within
 
       short : length (faces 2 l) ≤ 63
       short = omega (arith, edges)
 
-      indexed : EdgeTable table (faces 2 l)
-      indexed = edges_table n l rise few table keys count m within
+      indexed : EdgeTable e.table (faces 2 l)
+      indexed = edges_table n l rise few e.table e.keys e.count m within
 
-      back : map edge_of (take count keys) ≡ faces 2 l
-      back = edges_back n l rise few table keys count m within
+      back : map edge_of (take e.count e.keys) ≡ faces 2 l
+      back = edges_back n l rise few e.table e.keys e.count m within
 
-      pub keyed : (p : ℕ) → p < length l / 5 → (j : ℕ) → j < length (choose 3 (sorted (entries l (5 * p) 5))) → Keyed table (get_or (choose 3 (sorted (entries l (5 * p) 5))) j [])
-      keyed = triangles_keyed n l rise few short table indexed
+      pub keyed : (p : ℕ) → p < length l / 5 → (j : ℕ) → j < length (choose 3 (sorted (entries l (5 * p) 5))) → Keyed e.table (get_or (choose 3 (sorted (entries l (5 * p) 5))) j [])
+      keyed = triangles_keyed n l rise few short e.table indexed
 
-      pub ends : Ends n (map edge_of (take count keys))
+      pub ends : Ends n (map edge_of (take e.count e.keys))
       ends = rw back (edges_ends n l rise)
 
-      module _ (noted keys' : List ℕ) (count' : ℕ) (m' : Numbered 256 noted keys' count' (firsts eqb (map (triangle_key table) (all_faces 3 (pentachora l))))) where
-        pub judged_triangles : (f : Faces) → f.refusal ≡ 4 → 256 < count' → JudgedFaces n l edge_room triangle_room f
-        judged_triangles f p over =
-            judged_refused n l edge_room triangle_room f 3 p
-            (triangles_over n l edge_room triangle_room some few right short (omega (arith, triangles_counted n l rise few short table indexed noted keys' count' m')))
+      module _ (t : Numbering) (m' : Numbered 256 t.table t.keys t.count (firsts eqb (map (triangle_key e.table) (all_faces 3 (pentachora l))))) where
+        pub judged_triangles : 256 < t.count → JudgedFaces n l edge_room triangle_room (Err WrongCounts)
+        judged_triangles over =
+            judged_refused n l edge_room triangle_room WrongCounts
+            (triangles_over n l edge_room triangle_room some few right short (omega (arith, triangles_counted n l rise few short e.table indexed t.table t.keys t.count m')))
 
-        module _ (within' : count' ≤ 256) where
-          triangles : count' ≡ length (faces 3 l)
-          triangles = triangles_many n l rise few short table indexed noted keys' count' m' within'
+        module _ (within' : t.count ≤ 256) where
+          triangles : t.count ≡ length (faces 3 l)
+          triangles = triangles_many n l rise few short e.table indexed t.table t.keys t.count m' within'
 
           short' : length (faces 3 l) ≤ 256
           short' = omega (arith, triangles)
 
-          pub judged_apart : (f : Faces) → f.refusal ≡ 9 → connected (map edge_of (take count keys)) n ≡ false → JudgedFaces n l edge_room triangle_room f
-          judged_apart f p apart =
-              judged_refused n l edge_room triangle_room f 8 p
+          pub judged_apart : connected (map edge_of (take e.count e.keys)) n ≡ false → JudgedFaces n l edge_room triangle_room (Err Disconnected)
+          judged_apart apart =
+              judged_refused n l edge_room triangle_room Disconnected
               (not_connected n l edge_room triangle_room some few right short short' (rw back at apart))
 
-          module _ (joined : connected (map edge_of (take count keys)) n ≡ true) where
-            pub judged_room : (f : Faces) → f.refusal ≡ 15 → (ltb edge_room (2 * count) || ltb triangle_room (3 * count')) ≡ true → JudgedFaces n l edge_room triangle_room f
-            judged_room f p none =
-                judged_refused n l edge_room triangle_room f 14 p
+          module _ (joined : connected (map edge_of (take e.count e.keys)) n ≡ true) where
+            pub judged_room : (ltb edge_room (2 * e.count) || ltb triangle_room (3 * t.count)) ≡ true → JudgedFaces n l edge_room triangle_room (Err NoRoom)
+            judged_room none =
+                judged_refused n l edge_room triangle_room NoRoom
                 (no_room n l edge_room triangle_room some few right short short' (rw back at joined) (rw (edges, triangles) at none))
 
-            pub judged_faces : (ltb edge_room (2 * count) || ltb triangle_room (3 * count')) ≡ false → JudgedFaces n l edge_room triangle_room (record { refusal = 0; n_edges = count; edge_keys = keys; n_triangles = count'; triangle_keys = keys' })
+            pub judged_faces : (ltb edge_room (2 * e.count) || ltb triangle_room (3 * t.count)) ≡ false → JudgedFaces n l edge_room triangle_room (Ok (record { edges = e; triangles = t }))
             judged_faces room =
-                let fell = or_fell (ltb edge_room (2 * count)) (ltb triangle_room (3 * count')) room in
+                let fell = or_fell (ltb edge_room (2 * e.count)) (ltb triangle_room (3 * t.count)) room in
                 record {
                   refusal = sym (not_refused n l edge_room triangle_room some few right short short' (rw back at joined) (rw (edges, triangles) at room));
                   found =
-                      λ z.
                       record {
                         edge_count = edges;
                         triangle_count = triangles;
@@ -150,9 +154,9 @@ module _ (n : ℕ) (l : List ℕ) (edge_room triangle_room : ℕ) (some : 1 ≤ 
                         triangle_keys_long = m'.keys_long;
                         edges = back;
                         triangles =
-                            triangles_back n l rise few short table indexed noted keys' count' m' within' keys
-                            (rw edges at (edges_kept n l rise few table keys count m within));
-                        edges_fit = ltb-false edge_room (2 * count) fell.0;
-                        triangles_fit = ltb-false triangle_room (3 * count') fell.1;
+                            triangles_back n l rise few short e.table indexed t.table t.keys t.count m' within' e.keys
+                            (rw edges at (edges_kept n l rise few e.table e.keys e.count m within));
+                        edges_fit = ltb-false edge_room (2 * e.count) fell.0;
+                        triangles_fit = ltb-false triangle_room (3 * t.count) fell.1;
                       };
                 }

@@ -1,5 +1,5 @@
 -- The edges of a triangle of an accepted record, read off the index.
-use Prim.Native.Nat.{ℕ, ◌-◌, ◌*◌, ◌<◌, ◌≤◌}
+use Prim.Native.Nat.{ℕ, ◌+◌, ◌-◌, ◌*◌, ◌<◌, ◌≤◌}
 use mathlib.Core.List.{List, [], ◌∷◌}
 use mathlib.Core.Path.{◌≡◌, ap, sym, ◌∙◌}
 use mathlib.Core.Bool.{true}
@@ -15,7 +15,7 @@ use Rattle.complex.specs.Sides.{sides}
 use Rattle.triangles.specs.declared.Sides.{Sides}
 use Rattle.triangles.specs.Indices.{Sided, sides_in}
 use Rattle.complex.proofs.Simplices.{simplices_length, simplex_at}
-use Rattle.complex.proofs.Triangles.{Fitting, fits}
+use Rattle.complex.proofs.Triangles.{three, Fitting, fits}
 use Rattle.complex.proofs.Accepting.{Counts, counts_own, passed, simplices_sized, triangle_fits}
 use Rattle.complex.proofs.TriangleEdges.{three_sides, triangle_sides}
 
@@ -79,6 +79,18 @@ module _ (c : SimplicialComplex) (t : ℕ) where
         let es = (complex_of c).edges in
         rw
         (sides_own c t tl, index.numbers (start s) (end s) w.a_small w.b_small, index.numbers (start s) (get_or s 2 0) w.a_small w.c_small, index.numbers (end s) (get_or s 2 0) w.b_small w.c_small, (number_is (start s ∷ end s ∷ []) es fit.first_side).1, (number_is (start s ∷ get_or s 2 0 ∷ []) es fit.second_side).1, (number_is (end s ∷ get_or s 2 0 ∷ []) es fit.third_side).1)
+
+-- a triangle that was read off the record, and the numbers of its edges
+module _ (triangles table : List ℕ) (t i j k : ℕ) (first : i ≡ get_or triangles (3 * t) 0) (second : j ≡ get_or triangles (3 * t + 1) 0) (third : k ≡ get_or triangles (3 * t + 2) 0) where
+  read : entries triangles (3 * t) 3 ≡ i ∷ j ∷ k ∷ []
+  read = three triangles t i j k first second third
+
+  pub sided_read : Sided table (entries triangles (3 * t) 3) → Sided table (i ∷ j ∷ k ∷ [])
+  sided_read s = rw read at s
+
+  pub sides_are : {x y z : ℕ} → x ≡ get_or table (64 * i + j) 0 → y ≡ get_or table (64 * i + k) 0 → z ≡ get_or table (64 * j + k) 0 → record { first = x - 1; second = y - 1; third = z - 1 } ≡ sides_in table (entries triangles (3 * t) 3)
+  unfolding sides_in
+  sides_are a b c = rw (read, a, b, c)
 
 -- the edges of a triangle of an accepted complex are numbers of edges
 pub sides_below : (c : Complex) (t : ℕ) (s : Sides) → sides c t ≡ s.first ∷ s.second ∷ s.third ∷ [] → Accepted c → t < length c.triangles

@@ -1,19 +1,19 @@
 -- What tri_edge_indices tells, and how the code finds it.
 use Prim.{Unit}
-use Rattle.std.specs.Prelude.{ℕ, ◌+◌, ◌-◌, ◌*◌, ◌≤◌, ◌<◌, List, [], ◌∷◌, ◌++◌, Bool, ◌≡◌, get_or, length, set, leb}
+use Rattle.std.specs.Prelude.{ℕ, ◌+◌, ◌-◌, ◌*◌, ◌≤◌, ◌<◌, List, [], ◌∷◌, ◌++◌, Bool, ◌≡◌, get_or, length, set, leb, Result, Ok, Err}
 use Rattle.mathematics.specs.Refusals.{Outcome, value, refused}
+use Rattle.answers.specs.Refusal.{refusal_number}
+use Rattle.answers.specs.declared.refusal.Refusal.{Refusal}
 use Rattle.mathematics.specs.Calls.{Call, NoneLent, none_lent}
-use Rattle.triangles.specs.declared.TriEdgeIndices.{TriEdgeIndices}
-use Rattle.triangles.specs.declared.TriEdgeIndices.TheVariants.{Indices, Refused}
 use Rattle.triangles.specs.declared.Sides.{Sides}
 use Rattle.complex.specs.Complex.{Simplex, Complex, start, end, entries}
 use Rattle.complex.specs.Judge.{complex_tests}
 use Rattle.complex.specs.Sides.{sides}
 
 -- what an answer says
-unfoldable pub indices_answer : TriEdgeIndices → Outcome (List ℕ)
-indices_answer (Indices i j k) = value (i ∷ j ∷ k ∷ [])
-indices_answer (Refused n) = refused n
+abbrev pub indices_answer : Result Sides Refusal → Outcome (List ℕ)
+indices_answer (Ok s) = value (s.first ∷ s.second ∷ s.third ∷ [])
+indices_answer (Err r) = refused (refusal_number r)
 
 -- 4, 7 to 9, then 13 for a number that is no triangle's
 abbrev pub indices_tests : Complex → ℕ → List (ℕ × Bool)

@@ -9,9 +9,9 @@ ghost use Rattle.complex.specs.Sides.{sides};
 ghost use Rattle.mathematics.specs.Calls.{Answered, none_lent};
 ghost use Rattle.triangles.specs.Indices.{indices_answer, indices_call, AllSides, Sided, sides_in, with_sides};
 
-use acceptance::{edge_number, index_edges, judge_indexed};
+use acceptance::{accept_indexed, edge_number, index_edges};
+use answers::refusal::Refusal;
 use complex::SimplicialComplex;
-use numbers::byte;
 
 // The numbers of the edges (a, b), (a, c) and (b, c) of a triangle (a, b, c).
 #[derive(Clone, Copy)]
@@ -22,17 +22,15 @@ pub struct Sides {
 }
 
 // The edges of triangle t by the index of the edges.
-pub fn sides_of(triangles: &[u8; 768], table: &[u8; 4096], t: usize) -> Sides
-    requires { (t < 256) × Sided table.now (entries triangles.now (3 * t) 3) }
-    ensures { result ≡ sides_in table.now (entries triangles.now (3 * t) 3) }
+pub fn sides_of(c: &SimplicialComplex, table: &[u8; 4096], t: usize) -> Sides
+    requires { (t < 256) × Sided table.now (entries c.now.triangles (3 * t) 3) }
+    ensures { result ≡ sides_in table.now (entries c.now.triangles (3 * t) 3) }
 {
-    let a = byte(triangles[3 * t]);
-    let b = byte(triangles[3 * t + 1]);
-    let c = byte(triangles[3 * t + 2]);
+    let (i, j, k) = c.triangle(t);
     Sides {
-        first: edge_number(table, a, b) - 1,
-        second: edge_number(table, a, c) - 1,
-        third: edge_number(table, b, c) - 1,
+        first: edge_number(table, i, j) - 1,
+        second: edge_number(table, i, k) - 1,
+        third: edge_number(table, j, k) - 1,
     }
 }
 
@@ -52,7 +50,7 @@ pub fn triangle_sides(c: SimplicialComplex, triangle: usize) -> Sides
     ensures { sides (complex_of c) triangle ≡ result.first ∷ result.second ∷ result.third ∷ [] }
 {
     let table = edge_table(c);
-    sides_of(&c.triangles, &table, triangle)
+    sides_of(&c, &table, triangle)
 }
 
 // The edges of triangle t go to its places in a list.
@@ -73,7 +71,7 @@ pub fn all_sides(c: SimplicialComplex) -> [u8; 768]
     let table = edge_table(c);
     let mut all = [0u8; 768];
     for t in 0..c.n_triangles {
-        write_sides(&mut all, t, sides_of(&c.triangles, &table, t));
+        write_sides(&mut all, t, sides_of(&c, &table, t));
     }
     all
 }
@@ -84,30 +82,20 @@ pub fn sides_at(all: &[u8; 768], t: usize) -> Sides
     ensures { entries all.now (3 * t) 3 ≡ result.first ∷ result.second ∷ result.third ∷ [] }
 {
     Sides {
-        first: byte(all[3 * t]),
-        second: byte(all[3 * t + 1]),
-        third: byte(all[3 * t + 2]),
+        first: usize::from(all[3 * t]),
+        second: usize::from(all[3 * t + 1]),
+        third: usize::from(all[3 * t + 2]),
     }
-}
-
-#[derive(Clone, Copy)]
-pub enum TriEdgeIndices {
-    Indices(usize, usize, usize),
-    Refused(u8),
 }
 
 // The edges of a triangle of a record, which is judged first.
-pub fn tri_edge_indices(c: SimplicialComplex, triangle: usize) -> TriEdgeIndices
+pub fn tri_edge_indices(c: SimplicialComplex, triangle: usize) -> Result<Sides, Refusal>
     ensures { Answered (indices_call (complex_of c) triangle) (indices_answer result) none_lent }
 {
     let mut table = [0u8; 4096];
-    let number = judge_indexed(c, &mut table);
-    if number != 0 {
-        return TriEdgeIndices::Refused(number);
-    }
+    accept_indexed(c, &mut table)?;
     if c.n_triangles <= triangle {
-        return TriEdgeIndices::Refused(13);
+        return Err(Refusal::OutOfRange);
     }
-    let s = sides_of(&c.triangles, &table, triangle);
-    TriEdgeIndices::Indices(s.first, s.second, s.third)
+    Ok(sides_of(&c, &table, triangle))
 }
