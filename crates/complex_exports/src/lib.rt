@@ -12,7 +12,7 @@ ghost use Rattle.exports.specs.Exports.{on_sheet, stored, second_lent, in_place,
 ghost use Rattle.complex_exports.specs.Parts.{sheet_parts};
 
 use answers::refusal::Refusal;
-use exports::{open, refused, signed, signed_refusal, signed_result, told_number, value};
+use exports::{signed_refusal, signed_result, value};
 use gauss_law::spanning::spanning_tree;
 use loops::fundamental::{fundamental_loops, su2_fundamental_loops};
 use making::make_sheet;
@@ -118,6 +118,7 @@ pub fn export_spanning_tree(sheet: &[u8], tree: &mut [u32], free: &mut [u32]) ->
 }
 
 // The fundamental loops of a sheet's complex: how many there are.
+#[tactic(auto, using(crate::proofs::Small::loops_small))]
 pub fn export_fundamental_loops(
     sheet: &[u8],
     starts: &mut [u32],
@@ -126,31 +127,27 @@ pub fn export_fundamental_loops(
 ) -> i64
     ensures { Exported (on_sheet sheet.now (λ c L. loops_call c starts.old edges.old directions.old)) result (starts.new, edges.new, directions.new) }
 {
-    let opened = open(sheet);
-    let number = opened.refusal;
-    if number != 0 {
-        return refused(number);
+    match read_sheet(sheet) {
+        Ok(s) => signed_result(fundamental_loops(s.complex, starts, edges, directions)),
+        Err(refusal) => signed_refusal(refusal),
     }
-    let s = opened.sheet;
-    signed(told_result(fundamental_loops(s.complex, starts, edges, directions)))
 }
 
 // The same without directions.
+#[tactic(auto, using(crate::proofs::Small::su2_loops_small))]
 pub fn export_su2_fundamental_loops(sheet: &[u8], starts: &mut [u32], edges: &mut [u8]) -> i64
     ensures { Exported (on_sheet sheet.now (λ c L. su2_loops_call c starts.old edges.old)) result (starts.new, edges.new) }
 {
-    let opened = open(sheet);
-    let number = opened.refusal;
-    if number != 0 {
-        return refused(number);
+    match read_sheet(sheet) {
+        Ok(s) => signed_result(su2_fundamental_loops(s.complex, starts, edges)),
+        Err(refusal) => signed_refusal(refusal),
     }
-    let s = opened.sheet;
-    signed(told_result(su2_fundamental_loops(s.complex, starts, edges)))
 }
 
 // The sentence of a refusal: the number of its bytes.
+#[tactic(auto, using(exports::proofs::Signs::told, crate::proofs::Small::text_small))]
 pub fn export_refusal_text(number: u64, text: &mut [u8]) -> i64
     ensures { Exported (text_call number text.old) result text.new }
 {
-    signed(told_result(refusal_text(number as usize, text)))
+    signed_result(refusal_text(number as usize, text))
 }
