@@ -1,8 +1,21 @@
 -- What the calls tell is small.
-use Rattle.std.proofs.Common.{ℕ, ◌<◌, ◌^◌, List, ℤ, Result, IfOk, refl}
+use Rattle.std.proofs.Common.{◌≡◌, ℕ, ◌<◌, ◌^◌, Bool, List, ℤ, Result, IfOk, refl, sym, ◌∙◌}
 use lib.Ieee.{Float}
-use Rattle.mathematics.specs.Calls.{Answered}
-use Rattle.complex.specs.Complex.{Complex}
+use Rattle.mathematics.specs.Refusals.{value}
+use Rattle.mathematics.specs.Calls.{Answered, none_lent}
+use Rattle.complex.specs.Complex.{Complex, complex_of}
+use Rattle.complex.specs.Judge.{refusal}
+use Rattle.sheet.specs.declared.Sheet.{Sheet}
+use Rattle.sheet.specs.Sheet.{sheet_in, reading_refusal, reading_call}
+use Rattle.sheet.proofs.Sheets.{shape_decides}
+use Rattle.sheet.proofs.RoundTrips.{header_none}
+use Rattle.answers.proofs.Outcomes.{value_none}
+use Rattle.matrices.specs.declared.coupling.KSParams.{KSParams}
+use Rattle.plaquettes.specs.Triangle.{triangle_call}
+use Rattle.entries.specs.Entries.{entries_call}
+use Rattle.hamiltonian.specs.Dense.{u1_dense_call}
+use Rattle.lanczos.specs.Matvec.{u1_product_call}
+use Rattle.csr.specs.Csr.{csr_call}
 use Rattle.answers.specs.Refusal.{answer_of}
 use Rattle.answers.specs.declared.refusal.Refusal.{Refusal}
 use Rattle.hilbert.specs.Index.{index_call}
@@ -10,6 +23,7 @@ use Rattle.shifts.specs.Shift.{shift_call}
 use Rattle.electric.specs.Electric.{electric_call}
 use Rattle.exports.proofs.OnSheets.{small_result, few_small}
 use Rattle.u1_exports.proofs.Places.{place_small}
+use Rattle.u1_exports.proofs.Entries.{entries_small, rows_small}
 
 pub index_small : (c : Complex) (L : ℕ) (s old : List ℤ) (l : List ℤ) (r : Result ℕ Refusal) → Answered (index_call c L s old) (answer_of r) l → IfOk r (λ n. n < 2 ^ 31)
 unfolding index_call
@@ -22,3 +36,31 @@ shift_small c L s e d old old' l r h = small_result r h place_small
 pub electric_small : (c : Complex) (L : ℕ) (a : List Float) (old : List ℤ) (old' : List Float) (l : List ℤ × List Float) (r : Result ℕ Refusal) → Answered (electric_call c L a old old') (answer_of r) l → IfOk r (λ n. n < 2 ^ 31)
 unfolding electric_call
 electric_small c L a old old' l r h = small_result r h (λ k. few_small k refl)
+
+pub triangle_small : (c : Complex) (L t i : ℕ) (old : List ℤ) (l : List ℤ) (r : Result ℕ Refusal) → Answered (triangle_call c L t i old) (answer_of r) l → IfOk r (λ n. n < 2 ^ 31)
+unfolding triangle_call
+triangle_small c L t i old l r h = small_result r h place_small
+
+pub count_small : (c : Complex) (L : ℕ) (r : Result ℕ Refusal) → Answered (entries_call c L) (answer_of r) none_lent → IfOk r (λ n. n < 2 ^ 31)
+unfolding entries_call
+count_small c L r h = small_result r h entries_small
+
+pub dense_small : (c : Complex) (L : ℕ) (p : KSParams) (g : Bool) (w : List Float) (a : List ℤ) (b : List Float) (l : List ℤ × List Float) (r : Result ℕ Refusal) → Answered (u1_dense_call c L p g w a b) (answer_of r) l → IfOk r (λ n. n < 2 ^ 31)
+unfolding u1_dense_call
+dense_small c L p g w a b l r h = small_result r h (λ k. few_small k refl)
+
+pub product_small : (c : Complex) (L : ℕ) (p : KSParams) (g : Bool) (w x : List Float) (a : List ℤ) (b : List Float) (l : List ℤ × List Float) (r : Result ℕ Refusal) → Answered (u1_product_call c L p g w x a b) (answer_of r) l → IfOk r (λ n. n < 2 ^ 31)
+unfolding u1_product_call
+product_small c L p g w x a b l r h = small_result r h (λ k. few_small k refl)
+
+-- what was read is accepted
+sheet_accepted : (b : List ℕ) (s : Sheet) → Answered (reading_call b) (value s) none_lent → refusal (complex_of s.complex) ≡ 0
+unfolding reading_call reading_refusal
+sheet_accepted b s h =
+    let v = value_none s (reading_refusal b) (sheet_in b) h.answer in
+    rw v.1 (sym (shape_decides b (header_none b v.0)) ∙ v.0)
+
+pub rows_few : (b : List ℕ) (s : Sheet) → Answered (reading_call b) (value s) none_lent → (L : ℕ) (p : KSParams) (g : Bool) (w : List Float) (a : List ℤ) (d e : List ℕ) (v : List Float) (l : List ℤ × List ℕ × List ℕ × List Float) (r : Result ℕ Refusal)
+    → Answered (csr_call (complex_of s.complex) L p g w a d e v) (answer_of r) l → IfOk r (λ n. n < 2 ^ 31)
+unfolding csr_call
+rows_few b s read L p g w a d e v l r h = small_result r h (rows_small s.complex (sheet_accepted b s read) L p _)

@@ -62,6 +62,17 @@ fn lent(given: bool, weights: &[f64]) -> Option<&[f64]>
     if given { Some(weights) } else { None }
 }
 
+// The coupling by its three floats.
+fn coupling(g_squared: f64, electric: f64, magnetic: f64) -> KSParams
+    ensures { result ≡ record { g_squared = g_squared; electric = electric; magnetic = magnetic } }
+{
+    KSParams {
+        g_squared,
+        electric,
+        magnetic,
+    }
+}
+
 // Whether a configuration obeys Gauss's law on a sheet's complex: 1 or 0.
 pub fn export_check_gauss_law(sheet: &[u8], configuration: &[i32]) -> i64
     ensures { Exported (on_sheet sheet.now (λ c L. as_number (law_call c configuration.now))) result none_lent }
@@ -133,20 +144,16 @@ pub fn export_apply_triangle_shift(
 ) -> i64
     ensures { Exported (on_sheet sheet.now (λ c L. triangle_call c L triangle state states.old)) result states.new }
 {
-    let opened = open(sheet);
-    let number = opened.refusal;
-    if number != 0 {
-        return refused(number);
+    match read_sheet(sheet) {
+        Ok(s) => signed_result(apply_triangle_shift(
+            s.complex,
+            s.lambda,
+            triangle as usize,
+            state as usize,
+            states,
+        )),
+        Err(refusal) => signed_refusal(refusal),
     }
-    let s = opened.sheet;
-    let answer = apply_triangle_shift(
-        s.complex,
-        s.lambda,
-        triangle as usize,
-        state as usize,
-        states,
-    );
-    signed(told_result(answer))
 }
 
 // g² and the factors of U(1): 0.
@@ -169,20 +176,17 @@ pub fn export_build_hamiltonian(
 ) -> i64
     ensures { Exported (on_sheet sheet.now (λ c L. u1_dense_call c L (record { g_squared = g_squared; electric = electric; magnetic = magnetic }) given weights.now states.old res.old)) result (states.new, res.new) }
 {
-    let opened = open(sheet);
-    let number = opened.refusal;
-    if number != 0 {
-        return refused(number);
+    match read_sheet(sheet) {
+        Ok(s) => signed_result(build_hamiltonian(
+            s.complex,
+            s.lambda,
+            coupling(g_squared, electric, magnetic),
+            lent(given, weights),
+            states,
+            res,
+        )),
+        Err(refusal) => signed_refusal(refusal),
     }
-    let s = opened.sheet;
-    let own = lent(given, weights);
-    let p = KSParams {
-        g_squared: g_squared,
-        electric: electric,
-        magnetic: magnetic,
-    };
-    let answer = build_hamiltonian(s.complex, s.lambda, p, own, states, res);
-    signed(told_result(answer))
 }
 
 // The matrix of a sheet as row lists: the number of its entries.
@@ -200,20 +204,19 @@ pub fn export_build_csr(
 ) -> i64
     ensures { Exported (on_sheet sheet.now (λ c L. csr_call c L (record { g_squared = g_squared; electric = electric; magnetic = magnetic }) given weights.now states.old starts.old columns.old values.old)) result (states.new, starts.new, columns.new, values.new) }
 {
-    let opened = open(sheet);
-    let number = opened.refusal;
-    if number != 0 {
-        return refused(number);
+    match read_sheet(sheet) {
+        Ok(s) => signed_result(build_csr(
+            s.complex,
+            s.lambda,
+            coupling(g_squared, electric, magnetic),
+            lent(given, weights),
+            states,
+            starts,
+            columns,
+            values,
+        )),
+        Err(refusal) => signed_refusal(refusal),
     }
-    let s = opened.sheet;
-    let own = lent(given, weights);
-    let p = KSParams {
-        g_squared: g_squared,
-        electric: electric,
-        magnetic: magnetic,
-    };
-    let answer = build_csr(s.complex, s.lambda, p, own, states, starts, columns, values);
-    signed(told_result(answer))
 }
 
 // How many states a sheet has.
@@ -233,13 +236,10 @@ pub fn export_count_states(sheet: &[u8]) -> i64
 pub fn export_count_entries(sheet: &[u8]) -> i64
     ensures { Exported (on_sheet sheet.now (λ c L. entries_call c L)) result none_lent }
 {
-    let opened = open(sheet);
-    let number = opened.refusal;
-    if number != 0 {
-        return refused(number);
+    match read_sheet(sheet) {
+        Ok(s) => signed_result(count_entries(s.complex, s.lambda)),
+        Err(refusal) => signed_refusal(refusal),
     }
-    let s = opened.sheet;
-    signed(told_result(count_entries(s.complex, s.lambda)))
 }
 
 // The product of a sheet's Hamiltonian with a vector: the number of its states.
@@ -256,20 +256,18 @@ pub fn export_hamiltonian_matvec(
 ) -> i64
     ensures { Exported (on_sheet sheet.now (λ c L. u1_product_call c L (record { g_squared = g_squared; electric = electric; magnetic = magnetic }) given weights.now vector.now states.old res.old)) result (states.new, res.new) }
 {
-    let opened = open(sheet);
-    let number = opened.refusal;
-    if number != 0 {
-        return refused(number);
+    match read_sheet(sheet) {
+        Ok(s) => signed_result(hamiltonian_matvec(
+            s.complex,
+            s.lambda,
+            coupling(g_squared, electric, magnetic),
+            lent(given, weights),
+            vector,
+            states,
+            res,
+        )),
+        Err(refusal) => signed_refusal(refusal),
     }
-    let s = opened.sheet;
-    let own = lent(given, weights);
-    let p = KSParams {
-        g_squared: g_squared,
-        electric: electric,
-        magnetic: magnetic,
-    };
-    let answer = hamiltonian_matvec(s.complex, s.lambda, p, own, vector, states, res);
-    signed(told_result(answer))
 }
 
 // The square of the electric field on each edge of a sheet, expected in a state: the number of edges.

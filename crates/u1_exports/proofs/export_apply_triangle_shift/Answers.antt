@@ -1,18 +1,15 @@
-use Rattle.std.proofs.Common.{◌∙◌}
-use Rattle.mathematics.proofs.Signed.{back64}
+use Rattle.std.proofs.Common.{refl}
 use Rattle.plaquettes.specs.Triangle.{triangle_call}
-use Rattle.exports.proofs.Signs.{signed_told}
-use Rattle.exports.proofs.OnSheets.{sheet_refuses, sheet_answers, small_answer}
-use Rattle.u1_exports.proofs.Places.{place_small}
+use Rattle.exports.proofs.OnSheets.{unread, read_and_called}
+use Rattle.u1_exports.proofs.Small.{triangle_small}
 use Rattle.u1_exports.proofs.export_apply_triangle_shift.Goals as goal
 
-pub returns-then-number-ne0 : goal.returns-then-number-ne0
-unfolding triangle_call
-returns-then-number-ne0 c = sheet_refuses c.open-opened.ensures _ c.if-number-ne0.true _ (back64 _ c.refused.type_inv ∙ c.refused.ensures)
+pub signed_result-requires : goal.signed_result-requires
+signed_result-requires c = triangle_small _ _ _ _ _ _ _ c.apply_triangle_shift.ensures.answered
 
-pub signed-requires : goal.signed-requires
-unfolding triangle_call
-signed-requires c = small_answer c.apply_triangle_shift-answer.ensures.answered place_small c.told_result.ensures
+pub returns-in-Ok : goal.returns-in-Ok
+returns-in-Ok c = read_and_called _ _ c.signed_result.type_inv c.in-Ok.ensures (c.apply_triangle_shift.ensures.answered) c.signed_result.ensures
 
-pub returns : goal.returns
-returns c = sheet_answers c.open-opened.ensures _ c.if-number-ne0.false (c.apply_triangle_shift-answer.ensures.answered) (back64 _ c.signed.type_inv ∙ c.signed.ensures ∙ signed_told _ c.told_result.ensures)
+pub returns-in-Err : goal.returns-in-Err
+unfolding triangle_call
+returns-in-Err c = unread _ _ c.signed_refusal.type_inv c.in-Err.ensures c.signed_refusal.ensures refl

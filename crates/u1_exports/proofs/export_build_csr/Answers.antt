@@ -1,19 +1,16 @@
-use Rattle.std.proofs.Common.{◌∙◌}
-use Rattle.mathematics.proofs.Signed.{back64}
+use Rattle.std.proofs.Common.{refl}
 use Rattle.csr.specs.Csr.{csr_call}
-use Rattle.exports.proofs.Signs.{signed_told}
-use Rattle.exports.proofs.OnSheets.{sheet_refuses, sheet_answers, small_answer, read_accepted}
-use Rattle.u1_exports.proofs.Entries.{rows_small}
+use Rattle.exports.proofs.OnSheets.{unread, read_and_called}
+use Rattle.u1_exports.proofs.Small.{rows_few}
 use Rattle.u1_exports.proofs.LentWeights.{csr_answered}
 use Rattle.u1_exports.proofs.export_build_csr.Goals as goal
 
-pub returns-then-number-ne0 : goal.returns-then-number-ne0
-unfolding csr_call
-returns-then-number-ne0 c = sheet_refuses c.open-opened.ensures _ c.if-number-ne0.true _ (back64 _ c.refused.type_inv ∙ c.refused.ensures)
+pub signed_result-requires : goal.signed_result-requires
+signed_result-requires c = rows_few _ _ c.in-Ok.ensures _ _ _ _ _ _ _ _ _ _ c.build_csr.ensures
 
-pub signed-requires : goal.signed-requires
-unfolding csr_call
-signed-requires c = small_answer (csr_answered _ _ _ _ c.args.given c.args.weights.now c.lent-own.ensures.0 c.lent-own.ensures.1 _ _ _ _ c.build_csr-answer.ensures) (rows_small _ (read_accepted c.open-opened.ensures c.if-number-ne0.false) _ _ _) c.told_result.ensures
+pub returns-in-Ok : goal.returns-in-Ok
+returns-in-Ok c = read_and_called _ _ c.signed_result.type_inv c.in-Ok.ensures (csr_answered _ _ _ _ c.args.given c.args.weights.now c.lent.ensures.0 c.lent.ensures.1 _ _ _ _ (rw c.coupling.ensures at c.build_csr.ensures)) c.signed_result.ensures
 
-pub returns : goal.returns
-returns c = sheet_answers c.open-opened.ensures _ c.if-number-ne0.false ((csr_answered _ _ _ _ c.args.given c.args.weights.now c.lent-own.ensures.0 c.lent-own.ensures.1 _ _ _ _ c.build_csr-answer.ensures)) (back64 _ c.signed.type_inv ∙ c.signed.ensures ∙ signed_told _ c.told_result.ensures)
+pub returns-in-Err : goal.returns-in-Err
+unfolding csr_call
+returns-in-Err c = unread _ _ c.signed_refusal.type_inv c.in-Err.ensures c.signed_refusal.ensures refl

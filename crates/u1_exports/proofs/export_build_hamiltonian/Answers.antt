@@ -1,18 +1,16 @@
-use Rattle.std.proofs.Common.{◌∙◌, refl}
-use Rattle.mathematics.proofs.Signed.{back64}
+use Rattle.std.proofs.Common.{refl}
 use Rattle.hamiltonian.specs.Dense.{u1_dense_call}
-use Rattle.exports.proofs.Signs.{signed_told}
-use Rattle.exports.proofs.OnSheets.{sheet_refuses, sheet_answers, small_answer, few_small}
+use Rattle.exports.proofs.OnSheets.{unread, read_and_called}
+use Rattle.u1_exports.proofs.Small.{dense_small}
 use Rattle.u1_exports.proofs.LentWeights.{dense_answered}
 use Rattle.u1_exports.proofs.export_build_hamiltonian.Goals as goal
 
-pub returns-then-number-ne0 : goal.returns-then-number-ne0
-unfolding u1_dense_call
-returns-then-number-ne0 c = sheet_refuses c.open-opened.ensures _ c.if-number-ne0.true _ (back64 _ c.refused.type_inv ∙ c.refused.ensures)
+pub signed_result-requires : goal.signed_result-requires
+signed_result-requires c = dense_small _ _ _ _ _ _ _ _ _ c.build_hamiltonian.ensures
 
-pub signed-requires : goal.signed-requires
-unfolding u1_dense_call
-signed-requires c = small_answer (dense_answered _ _ _ _ c.args.given c.args.weights.now c.lent-own.ensures.0 c.lent-own.ensures.1 _ _ c.build_hamiltonian-answer.ensures) (λ k. few_small k refl) c.told_result.ensures
+pub returns-in-Ok : goal.returns-in-Ok
+returns-in-Ok c = read_and_called _ _ c.signed_result.type_inv c.in-Ok.ensures (dense_answered _ _ _ _ c.args.given c.args.weights.now c.lent.ensures.0 c.lent.ensures.1 _ _ (rw c.coupling.ensures at c.build_hamiltonian.ensures)) c.signed_result.ensures
 
-pub returns : goal.returns
-returns c = sheet_answers c.open-opened.ensures _ c.if-number-ne0.false ((dense_answered _ _ _ _ c.args.given c.args.weights.now c.lent-own.ensures.0 c.lent-own.ensures.1 _ _ c.build_hamiltonian-answer.ensures)) (back64 _ c.signed.type_inv ∙ c.signed.ensures ∙ signed_told _ c.told_result.ensures)
+pub returns-in-Err : goal.returns-in-Err
+unfolding u1_dense_call
+returns-in-Err c = unread _ _ c.signed_refusal.type_inv c.in-Err.ensures c.signed_refusal.ensures refl
