@@ -11,7 +11,7 @@ ghost use Rattle.complex.specs.Numbering.{key, triangle_key, Keyed, EdgeTable, J
 ghost use Rattle.acceptance.specs.Once.{EdgesIndexed, Marked};
 ghost use Rattle.answers.specs.Refusal.{judged};
 
-use answers::refusal::{Refusal, number_of};
+use answers::refusal::Refusal;
 use complex::SimplicialComplex;
 use complex::search::connected;
 use numbers::sizes::{LARGEST_TRUNCATION, MOST_EDGES, MOST_TRIANGLES, MOST_VERTICES};
@@ -161,24 +161,4 @@ pub fn accept_truncated(c: SimplicialComplex, lambda: usize) -> Result<(), Refus
         return Err(Refusal::LargeTruncation);
     }
     accept(c)
-}
-
-// The same as a number, 0 where the record is accepted.
-pub fn judge(c: SimplicialComplex) -> u8
-    ensures { result ≡ refusal (complex_of c) }
-{
-    number_of(accept(c))
-}
-
-pub fn judge_indexed(c: SimplicialComplex, table: &mut [u8; 4096]) -> u8
-    requires { table.old ≡ replicate 4096 0 }
-    ensures { Judged c table.new result }
-{
-    number_of(accept_indexed(c, table))
-}
-
-pub fn judge_truncated(c: SimplicialComplex, lambda: usize) -> u8
-    ensures { result ≡ first (truncated_tests (complex_of c) lambda) }
-{
-    number_of(accept_truncated(c, lambda))
 }

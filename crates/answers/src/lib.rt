@@ -1,12 +1,4 @@
-// What a call answers that tells one number.
+// Why a call refuses: what an answer says that is no value.
 #![tactic(auto)]
 
-pub mod expectation;
 pub mod refusal;
-
-// The number, or the refusal.
-#[derive(Clone, Copy)]
-pub enum Answer {
-    Number(usize),
-    Refused(u8),
-}

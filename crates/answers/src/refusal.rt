@@ -115,13 +115,3 @@ impl Display for Refusal {
         f.write_str(self.sentence())
     }
 }
-
-// The number of the reason, 0 where there is none.
-pub fn number_of(answer: Result<(), Refusal>) -> u8
-    ensures { result ≡ judged answer }
-{
-    match answer {
-        Ok(()) => 0,
-        Err(refusal) => refusal.number(),
-    }
-}

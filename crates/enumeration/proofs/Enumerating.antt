@@ -17,45 +17,22 @@ use Rattle.complex.specs.Judge.{truncated_tests}
 use Rattle.gauss_law.specs.Listing.{states}
 use Rattle.gauss_law.proofs.Accepted.{listing_complete}
 use Rattle.walker.specs.declared.tables.Walker.{Walker}
-use Rattle.enumeration.specs.declared.Prepared.{Prepared}
 use Rattle.walker.specs.Walker.{width}
 use Rattle.walker.specs.Tables.{Walks, states_of, Fit}
 use Rattle.mathematics.specs.Writing.{put}
 use Rattle.walker.specs.Blocks.{StatesWritten}
-use Rattle.enumeration.specs.Enumeration.{limit_test, basis_tests, short, basis_first, BasisKnown, BasisWalks, PreparedFor}
+use Rattle.enumeration.specs.Enumeration.{limit_test, basis_tests, short, basis_first, BasisKnown, BasisWalks}
 use Rattle.mathematics.proofs.Puts.{put_front}
 use Rattle.enumeration.proofs.Limits.{power_less, states_within, all_candidates}
 use Rattle.walker.proofs.Fitting.{walks_fit, walks_states}
 
--- ---- a basis is refused, or the rest decides
-pub basis_refuses : {c : Complex} {L : ℕ} {r : Prepared} → PreparedFor c L r → (r.refusal ≡ 0 → ⊥) → (rest : List (ℕ × Bool)) → Tells (basis_tests c L ++ rest) r.refusal
-basis_refuses {c} {L} h some rest = among (basis_tests c L) rest h.refusal some
-
-pub past_basis : {c : Complex} {L : ℕ} {r : Prepared} → PreparedFor c L r → r.refusal ≡ 0 → {rest : List (ℕ × Bool)} {k : ℕ} → Tells rest k → Tells (basis_tests c L ++ rest) k
-unfolding numbered every_entry
-past_basis {c} {L} h none t = past_all (basis_tests c L) refl (sym h.refusal ∙ none) t
-
--- what a basis is refused by is at most 10
-pub basis_not_17 : {c : Complex} {L : ℕ} {r : Prepared} → PreparedFor c L r → eqb r.refusal 17 ≡ false
-unfolding every_entry
-basis_not_17 {c} {L} {r} h = ne_eqb r.refusal 17 (λ z. first_not 17 (basis_tests c L) refl (λ y. omega arith) (sym h.refusal ∙ z))
-
 module _ (c : Complex) (L : ℕ) where
   -- ---- what is judged before the basis is listed
-  refused_prepared : (k : ℕ) → first (basis_tests c L) ≡ k → (k ≡ 0 → ⊥) → (r : Prepared) → r.refusal ≡ k → PreparedFor c L r
-  refused_prepared k e some r h = record { refusal = h ∙ sym e; basis = λ z. absurd (some (sym h ∙ z)) }
-
-  pub record_refused : (k : ℕ) → k ≡ first (truncated_tests c L) → (k ≡ 0 → ⊥) → (r : Prepared) → r.refusal ≡ k → PreparedFor c L r
-  record_refused k e some = refused_prepared k (first_stops (truncated_tests c L) _ (λ z. some (e ∙ z)) ∙ sym e) some
-
   module _ (none : first (truncated_tests c L) ≡ 0) (truncation : L ≤ 1000) (w : Walker) (walks : Walks c L w) where
     -- the candidates decide
     pub by_candidates : first (basis_tests c L) ≡ cond (ltb 1048576 ((2 * L + 1) ^ w.n_free)) 10 0
     unfolding first numbered every_entry
     by_candidates = rw walks.count (first_goes_on (truncated_tests c L) (limit_test c L ∷ []) refl none)
-
-    pub candidates_refused : ltb 1048576 ((2 * L + 1) ^ w.n_free) ≡ true → (r : Prepared) → r.refusal ≡ 10 → PreparedFor c L r
-    candidates_refused h = refused_prepared 10 (by_candidates ∙ rw h) (λ z. omega arith)
 
     module _ (within : (2 * L + 1) ^ w.n_free ≤ 1048576) (blocks : ℕ) (number : blocks ≡ (2 * L + 1) ^ (w.n_free - 1)) where
       blocks_fit : Fit w L blocks
@@ -76,9 +53,6 @@ module _ (c : Complex) (L : ℕ) where
 
       pub basis_accepted : 0 ≡ first (basis_tests c L)
       basis_accepted = sym (by_candidates ∙ rw (le-ltb 1048576 ((2 * L + 1) ^ w.n_free) within))
-
-      pub basis_prepared : PreparedFor c L (record { refusal = 0; blocks = blocks; walker = w })
-      basis_prepared = record { refusal = basis_accepted; basis = λ z. basis_walks }
 
   -- ---- the basis goes to a list
   module _ (w : Walker) (blocks : ℕ) (basis : BasisWalks c L w blocks) where

@@ -8,7 +8,6 @@ use Rattle.complex.specs.Complex.{Complex}
 use Rattle.complex.specs.Judge.{Accepted, truncated_tests}
 use Rattle.gauss_law.specs.Listing.{free_edges, Complete, states, limit}
 use Rattle.walker.specs.declared.tables.Walker.{Walker}
-use Rattle.enumeration.specs.declared.Prepared.{Prepared}
 use Rattle.walker.specs.Tables.{Walks, states_of, Fit}
 
 -- the candidates are over the limit
@@ -88,8 +87,3 @@ pub record BasisWalks (c : Complex) (L : ℕ) (w : Walker) (blocks : ℕ) : Type
   pub fit : Fit w L blocks
   pub listed : states_of w L blocks ≡ states c L
   pub few : length (states c L) ≤ limit
-
--- the refusal of a basis, or what walks it
-pub record PreparedFor (c : Complex) (L : ℕ) (r : Prepared) : Type 0 where
-  pub refusal : r.refusal ≡ first (basis_tests c L)
-  pub basis : r.refusal ≡ 0 → BasisWalks c L r.walker r.blocks

@@ -4,22 +4,16 @@
 pub mod basis;
 pub mod count;
 
-ghost use Rattle.std.specs.Prelude.{◌≡◌, ◌+◌, ◌*◌, ◌-◌, ◌^◌, ◌≤◌, ltb, length};
+ghost use Rattle.std.specs.Prelude.{◌≡◌, ◌+◌, ◌*◌, ◌-◌, ◌^◌, ◌≤◌, ltb};
 ghost use Rattle.complex.specs.Complex.{complex_of};
-ghost use Rattle.walker.specs.Tables.{states_of, Fit};
 ghost use Rattle.mathematics.specs.Calls.{Answered};
 ghost use Rattle.answers.specs.Refusal.{answer_of};
-ghost use Rattle.enumeration.specs.Enumeration.{Limited, PreparedFor, enumerated_call, ListingDemand};
+ghost use Rattle.enumeration.specs.Enumeration.{Limited, enumerated_call, ListingDemand};
 
 use crate::basis::Basis;
-use acceptance::judge_truncated;
 use answers::refusal::Refusal;
 use complex::SimplicialComplex;
-use cycles::CYCLE_ENTRIES;
-use numbers::sizes::{MOST_CANDIDATES, MOST_EDGES};
-use runs::count_states;
-use walker::blocks::width;
-use walker::tables::{Walker, prepare};
+use numbers::sizes::MOST_CANDIDATES;
 
 // A power, or any number above the limit where the power is above it.
 fn power(base: usize, exponent: usize) -> usize
@@ -53,64 +47,6 @@ pub fn count_of_blocks(n_free: usize, lambda: usize) -> usize
         return 1;
     }
     power(2 * lambda + 1, n_free - 1)
-}
-
-// Whether a list of a length is too short for all states. They are counted only where it could be.
-pub fn too_short(w: Walker, lambda: usize, blocks: usize, room: usize) -> bool
-    requires { Fit w lambda blocks }
-    ensures { result ≡ ltb room (length (states_of w lambda blocks) * w.n_edges) }
-{
-    let m = w.n_edges;
-    let candidates = blocks * width(w.n_free, lambda);
-    if candidates * m <= room {
-        return false;
-    }
-    room < count_states(w, lambda, blocks) * m
-}
-
-// What walks the basis of a record, or the refusal, which is not 0.
-#[derive(Clone, Copy)]
-pub struct Prepared {
-    pub refusal: u8,
-    pub blocks: usize,
-    pub walker: Walker,
-}
-
-fn unprepared(refusal: u8) -> Prepared
-    ensures { result.refusal ≡ refusal }
-{
-    let walker = Walker {
-        n_edges: 0,
-        n_free: 0,
-        free: [0; MOST_EDGES],
-        cycles: [0; CYCLE_ENTRIES],
-        first: [0; MOST_EDGES],
-    };
-    Prepared {
-        refusal: refusal,
-        blocks: 0,
-        walker: walker,
-    }
-}
-
-// The record, the truncation and the number of candidates are judged, and the walk is prepared.
-pub fn prepare_basis(c: SimplicialComplex, lambda: usize) -> Prepared
-    ensures { PreparedFor (complex_of c) lambda result }
-{
-    let number = judge_truncated(c, lambda);
-    if number != 0 {
-        return unprepared(number);
-    }
-    let w = prepare(c, lambda);
-    let n_free = w.n_free;
-    if too_many(n_free, lambda) {
-        return unprepared(10);
-    }
-    Prepared {
-        refusal: 0,
-        blocks: count_of_blocks(n_free, lambda),
-        walker: w,
-    }
 }
 
 // All states of a record within -lambda to lambda go to the beginning of the list. The record is judged first.

@@ -2,7 +2,7 @@
 use Prim.Native.Nat.{ℕ, ◌≤◌, ◌<◌, ◌^◌}
 use mathlib.Core.List.{List}
 use mathlib.Core.Bool.{Bool, true}
-use mathlib.Core.Path.{◌≡◌, refl, sym, ap, ◌∙◌}
+use mathlib.Core.Path.{◌≡◌, refl, sym, subst, ap, ◌∙◌}
 use native.Mathlib.Omega.{arith}
 use borrow.Author.Tests.{ne_eqb, leb-true}
 use lib.Dec.{leb}
@@ -24,79 +24,37 @@ use Rattle.sheet.specs.declared.Sheet.{Sheet}
 use Rattle.complex.specs.Complex.{Complex, complex_of}
 use Rattle.complex.specs.Judge.{refusal}
 use Rattle.complex.proofs.Accepting.{counts_own}
-use Rattle.sheet.specs.Sheet.{header_tests, reading_tests, reading_call, reading_refusal}
+use Rattle.sheet.specs.Sheet.{sheet_in, header_tests, reading_tests, reading_call, reading_refusal}
 use Rattle.sheet.proofs.Sheets.{shape_decides}
 use Rattle.sheet.proofs.RoundTrips.{header_none}
-use Rattle.exports.specs.declared.Told.{Told}
-use Rattle.exports.specs.declared.Opened.{Opened}
-use Rattle.exports.specs.Exports.{signed, outcome_told, yes_of, zero_of, OpenedOf, complex_in, lambda_in, on_sheet, as_number, zero_told, Exported}
-use Rattle.exports.proofs.Signs.{exports, small_told, yes_outcome, yes_small, zero_outcome}
-
-pub opened : (b : List ℕ) {s : Sheet} → Answered (reading_call b) (value s) none_lent → OpenedOf b (record { refusal = 0; sheet = s })
-unfolding reading_call reading_refusal
-opened b h = let v = value_none _ _ _ h.answer in record { number = sym v.0; holds = λ z. v.1 }
-
-pub unopened : (b : List ℕ) (s : Sheet) {n : ℕ} → Answered (reading_call b) (refused n) none_lent → OpenedOf b (record { refusal = n; sheet = s })
-unfolding reading_call reading_refusal
-unopened b s {n} h =
-    let is = refused_number n _ _ h.answer in
-    record { number = is; holds = λ z. absurd (refused_some n _ _ h.answer (is ∙ z)) }
-
--- ---- a call on a sheet
-module _ {B : Type 0} {b : List ℕ} {o : Opened} (read : OpenedOf b o) (call : Complex → ℕ → Call ℕ B) where
-  -- the sheet is refused
-  pub sheet_refuses : (o.refusal ≡ 0 → ⊥) → (r : ℤ) → r ≡ neg_ℤ (pos o.refusal) → Exported (on_sheet b call) r (call (complex_in b) (lambda_in b)).before
-  unfolding on_sheet reading_refusal signed
-  sheet_refuses some r is = exports (refuses (on_sheet b call) (among (reading_tests b) _ read.number some) (ne_eqb o.refusal 0 some)) is
-
-  -- or the call on what it holds has answered
-  pub sheet_answers : o.refusal ≡ 0 → {a : Outcome ℕ} {l : B} → Answered (call (complex_of o.sheet.complex) o.sheet.lambda) a l → {r : ℤ} → r ≡ signed a → Exported (on_sheet b call) r l
-  unfolding on_sheet reading_refusal header_tests numbered every_entry
-  sheet_answers none {a} {l} given {r} is =
-      let own = call (complex_in b) (lambda_in b) in
-      let h : Answered own a l = rw (read.holds (sym read.number ∙ none)) at given in
-      let e : first (on_sheet b call).tests ≡ first own.tests = first_goes_on (reading_tests b) own.tests refl (sym read.number ∙ none) in
-      record {
-        answer = rw e (is ∙ ap signed h.answer);
-        lists = rw e h.lists;
-        known = λ z. h.known (sym e ∙ z);
-      }
-
--- what is read is told by the tests of reading, and its complex is accepted
-module _ {b : List ℕ} {o : Opened} (read : OpenedOf b o) where
-  pub read_tells : Tells (reading_tests b) o.refusal
-  unfolding reading_refusal
-  read_tells = record { number = sym read.number }
-
-  pub read_accepted : o.refusal ≡ 0 → refusal (complex_of o.sheet.complex) ≡ 0
-  read_accepted none =
-      let h = sym read.number ∙ none in
-      rw (read.holds h) (sym (shape_decides b (header_none b h)) ∙ h)
-
--- what was told is small where the value of the call is
-pub small_answer : {B : Type 0} {call : Call ℕ B} {a : Outcome ℕ} {l : B} → Answered call a l → (call.known → call.value < 2 ^ 31) → {t : Told} → t ≡ outcome_told a → t.value < 2 ^ 31
-small_answer {B} {call} {a} h small {t} told = small_told t a (first call.tests) call.value told h.answer (λ z. small (h.known z))
+use Rattle.exports.specs.Exports.{signed, yes_of, zero_of, complex_in, lambda_in, on_sheet, as_number, zero_told, Exported}
+use Rattle.exports.proofs.Signs.{exports, yes_outcome, yes_small, zero_outcome}
 
 pub few_small : {n m : ℕ} → n ≤ m → leb m 1048576 ≡ true → n < 2 ^ 31
 few_small {n} {m} h few = let limit = leb-true m 1048576 few in omega arith
+
+-- what a call answers is small where its value is
+pub small_result : {B : Type 0} {call : Call ℕ B} {l : B} (r : Result ℕ Refusal) → Answered call (answer_of r) l → (call.known → call.value < 2 ^ 31) → IfOk r (λ n. n < 2 ^ 31)
+small_result {call = call} (Ok n) h small = let v = value_none n (first call.tests) call.value h.answer in let k = small (h.known v.0) in omega arith
+small_result (Err e) h small = tt
 
 -- a call that answers yes or no
 pub number_answered : {B : Type 0} {call : Call Bool B} {a : Outcome Bool} {l : B} → Answered call a l → Answered (as_number call) (yes_of a) l
 unfolding as_number
 number_answered {B} {call} h = record { answer = ap yes_of h.answer ∙ yes_outcome (first call.tests) call.value; lists = h.lists; known = h.known }
 
-pub small_yes : {B : Type 0} {call : Call Bool B} {a : Outcome Bool} {l : B} → Answered call a l → {t : Told} → t ≡ outcome_told (yes_of a) → t.value < 2 ^ 31
+pub small_yes : {B : Type 0} {call : Call Bool B} {a : Outcome Bool} {l : B} → Answered call a l → (r : Result ℕ Refusal) → answer_of r ≡ yes_of a → IfOk r (λ n. n < 2 ^ 31)
 unfolding as_number
-small_yes {B} {call} h told = small_answer (number_answered h) (λ k. yes_small call.value) told
+small_yes {B} {call} {a} {l} h r e = small_result r (subst (λ o. Answered (as_number call) o l) (sym e) (number_answered h)) (λ k. yes_small call.value)
 
 -- a call whose value is not told
 pub zero_answered : {A B : Type 0} {call : Call A B} {a : Outcome A} {l : B} → Answered call a l → Answered (zero_told call) (zero_of a) l
 unfolding zero_told
 zero_answered {A} {B} {call} h = record { answer = ap zero_of h.answer ∙ zero_outcome (first call.tests) call.value; lists = h.lists; known = h.known }
 
-pub small_zero : {A B : Type 0} {call : Call A B} {a : Outcome A} {l : B} → Answered call a l → {t : Told} → t ≡ outcome_told (zero_of a) → t.value < 2 ^ 31
+pub small_zero : {A B : Type 0} {call : Call A B} {a : Outcome A} {l : B} → Answered call a l → (r : Result ℕ Refusal) → answer_of r ≡ zero_of a → IfOk r (λ n. n < 2 ^ 31)
 unfolding zero_told
-small_zero h told = small_answer (zero_answered h) (λ k. omega arith) told
+small_zero {A} {B} {call} {a} {l} h r e = small_result r (subst (λ o. Answered (zero_told call) o l) (sym e) (zero_answered h)) (λ k. omega arith)
 
 -- ---- a sheet that was read, and a call on it
 module _ {B : Type 0} (b : List ℕ) (call : Complex → ℕ → Call ℕ B) {l : B} {r : ℤ} (fits : mag r < 2 ^ 63) where
@@ -124,16 +82,11 @@ module _ {B : Type 0} (b : List ℕ) (call : Complex → ℕ → Call ℕ B) {l 
 
 -- the complex that was read is accepted
 pub complex_accepted : (b : List ℕ) {s : Sheet} → Answered (reading_call b) (value s) none_lent → refusal (complex_of s.complex) ≡ 0
-unfolding reading_call
-complex_accepted b h = read_accepted (opened b h) refl
+unfolding reading_call reading_refusal
+complex_accepted b {s} h = let v = value_none s (reading_refusal b) (sheet_in b) h.answer in rw v.1 (sym (shape_decides b (header_none b v.0)) ∙ v.0)
 
 pub few_edges_read : (b : List ℕ) (s : Sheet) → Answered (reading_call b) (value s) none_lent → s.complex.n_edges ≤ 63
 few_edges_read b s h = (counts_own s.complex (complex_accepted b h)).edges
 
 pub few_triangles_read : (b : List ℕ) (s : Sheet) → Answered (reading_call b) (value s) none_lent → s.complex.n_triangles ≤ 256
 few_triangles_read b s h = (counts_own s.complex (complex_accepted b h)).triangles
-
--- what a call answers is small where its value is
-pub small_result : {B : Type 0} {call : Call ℕ B} {l : B} (r : Result ℕ Refusal) → Answered call (answer_of r) l → (call.known → call.value < 2 ^ 31) → IfOk r (λ n. n < 2 ^ 31)
-small_result {call = call} (Ok n) h small = let v = value_none n (first call.tests) call.value h.answer in let k = small (h.known v.0) in omega arith
-small_result (Err e) h small = tt

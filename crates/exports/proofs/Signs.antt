@@ -12,8 +12,7 @@ use Rattle.mathematics.proofs.Signed.{back64}
 use mir.Facts.{to_z_pos}
 use Rattle.mathematics.specs.Refusals.{Outcome, value, refused, outcome}
 use Rattle.mathematics.specs.Calls.{Call, Answered}
-use Rattle.exports.specs.declared.Told.{Told}
-use Rattle.exports.specs.Exports.{signed, outcome_told, signed_of, yes_of, zero_of, Exported}
+use Rattle.exports.specs.Exports.{signed, yes_of, zero_of, Exported}
 
 pub small_mag : (n : ℕ) → n < 256 → mag (neg_ℤ (pos n)) < 2 ^ 63
 small_mag zero h = omega arith
@@ -28,26 +27,6 @@ exports h is = record { answer = is ∙ ap signed h.answer; lists = h.lists; kno
 
 pub told : {B : Type 0} {call : Call ℕ B} {a : Outcome ℕ} {l : B} {r : ℤ} → Answered call a l → mag r < 2 ^ 63 → r ≡ signed a → Exported call (to_z w64 (of_z w64 r)) l
 told {r = r} h fits is = exports h (back64 r fits ∙ is)
-
--- what was told has the signed number of the answer, and a small value stays small
-signed_of_lem : (a : Outcome ℕ) → signed_of (outcome_told a) ≡ signed a
-unfolding signed_of outcome_told signed
-signed_of_lem (value n) = refl
-signed_of_lem (refused zero) = refl
-signed_of_lem (refused (suc n)) = rw (ne_eqb (suc n) 0 (λ z. omega arith))
-
-pub signed_told : (a : Outcome ℕ) {t : Told} → t ≡ outcome_told a → signed_of t ≡ signed a
-signed_told a e = ap signed_of e ∙ signed_of_lem a
-
-pub small_told : (t : Told) (o : Outcome ℕ) (n a : ℕ) → t ≡ outcome_told o → o ≡ outcome n a → (n ≡ 0 → a < 2 ^ 31) → t.value < 2 ^ 31
-unfolding outcome_told outcome
-small_told t o zero a e f small =
-    let k : t.value ≡ a = ap (λ (q : Told). q.value) (e ∙ ap outcome_told f) in
-    let s = small refl in
-    omega arith
-small_told t o (suc n) a e f small =
-    let k : t.value ≡ 0 = ap (λ (q : Told). q.value) (e ∙ ap outcome_told f) in
-    omega arith
 
 pub yes_outcome : (n : ℕ) (b : Bool) → yes_of (outcome n b) ≡ outcome n (cond b 1 0)
 unfolding yes_of outcome

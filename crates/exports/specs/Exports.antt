@@ -3,8 +3,6 @@ use Rattle.std.specs.Prelude.{ℕ, List, [], ◌∷◌, ◌++◌, Bool, cond, �
 use Rattle.mathematics.specs.Refusals.{Outcome, value, refused, first, outcome, written}
 use Rattle.mathematics.specs.Calls.{Call, NoneLent}
 use Rattle.matrices.specs.declared.coupling.KSParams.{KSParams}
-use Rattle.exports.specs.declared.Told.{Told}
-use Rattle.exports.specs.declared.Opened.{Opened}
 use Rattle.complex.specs.Complex.{Complex, complex_of}
 use Rattle.sheet.specs.Sheet.{sheet_in, reading_tests, reading_refusal}
 
@@ -76,14 +74,6 @@ abbrev pub three_floats : KSParams → List Float → List Float
 three_floats p old = p.g_squared ∷ p.electric ∷ p.magnetic ∷ []
 
 -- ---- as the code keeps it
--- a value with no refusal, or a refusal and 0
-unfoldable pub outcome_told : Outcome ℕ → Told
-outcome_told (value n) = record { refusal = 0; value = n }
-outcome_told (refused n) = record { refusal = n; value = 0 }
-
-unfoldable pub signed_of : Told → ℤ
-signed_of t = cond (eqb t.refusal 0) (pos t.value) (neg_ℤ (pos t.refusal))
-
 -- yes is 1, no is 0
 unfoldable pub yes_of : Outcome Bool → Outcome ℕ
 yes_of (value b) = value (cond b 1 0)
@@ -98,8 +88,3 @@ zero_of (refused n) = refused n
 unfoldable pub value_or : {A : Type 0} → Outcome A → A → A
 value_or (value a) old = a
 value_or (refused n) old = old
-
--- the refusal of the sheet's bytes, and where there is none the sheet
-pub record OpenedOf (b : List ℕ) (o : Opened) : Type 0 where
-  pub number : o.refusal ≡ reading_refusal b
-  pub holds : reading_refusal b ≡ 0 → o.sheet ≡ sheet_in b

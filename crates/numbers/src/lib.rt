@@ -21,24 +21,6 @@ pub fn u8_to_u64(x: u8) -> u64
     u64::from(x)
 }
 
-pub fn u16_to_usize(x: u16) -> usize
-    ensures { result ≡ x }
-{
-    usize::from(x)
-}
-
-pub fn i8_to_i32(x: i8) -> i32
-    ensures { result ≡ x }
-{
-    i32::from(x)
-}
-
-pub fn i32_to_i64(x: i32) -> i64
-    ensures { result ≡ x }
-{
-    i64::from(x)
-}
-
 // A small number as a signed one.
 pub fn usize_to_i32(x: usize) -> i32
     requires { x ≤ 2 ^ 20 }
@@ -51,28 +33,6 @@ pub fn smaller(a: usize, b: usize) -> usize
     ensures { result ≡ min a b }
 {
     a.min(b)
-}
-
-pub fn larger(a: usize, b: usize) -> usize
-    ensures { result ≡ max a b }
-{
-    a.max(b)
-}
-
-// A value added to a sum that is far from the ends of its range.
-pub fn plus(sum: i64, x: i32) -> i64
-    requires { nat_abs sum ≤ 2 ^ 62 }
-    ensures { result ≡ sum +ℤ x }
-{
-    sum + i64::from(x)
-}
-
-// A small sum of two values.
-pub fn sum(x: i32, delta: i32) -> i32
-    requires { nat_abs (x +ℤ delta) ≤ 2 ^ 20 }
-    ensures { result ≡ x +ℤ delta }
-{
-    x + delta
 }
 
 // Where edge e of a flat list starts.

@@ -4,18 +4,18 @@
 ghost use Rattle.std.specs.Prelude.{◌≡◌};
 ghost use Rattle.answers.specs.Refusal.{answer_of};
 ghost use Rattle.matvec.specs.Product.{product_call};
-ghost use Rattle.exports.specs.Exports.{outcome_told, zero_of, zero_told, Exported};
+ghost use Rattle.exports.specs.Exports.{zero_of, zero_told, Exported};
 
 use answers::refusal::Refusal;
-use exports::{Told, signed, told_result};
+use exports::signed_result;
 use matvec::product::matvec;
 
 // The number of rows is not told: no bound of it is known.
-#[tactic(auto, unfolding(exports::specs::Exports::outcome_told, exports::specs::Exports::zero_of))]
-fn told_product(answer: Result<usize, Refusal>) -> Told
-    ensures { result ≡ outcome_told (zero_of (answer_of answer)) }
+#[tactic(auto, unfolding(exports::specs::Exports::zero_of))]
+fn untold(answer: Result<usize, Refusal>) -> Result<usize, Refusal>
+    ensures { answer_of result ≡ zero_of (answer_of answer) }
 {
-    told_result(answer.map(|_| 0))
+    answer.map(|_| 0)
 }
 
 // The product of row lists with a vector: 0.
@@ -28,5 +28,5 @@ pub fn export_matvec(
 ) -> i64
     ensures { Exported (zero_told (product_call starts.now columns.now values.now vector.now res.old)) result res.new }
 {
-    signed(told_product(matvec(starts, columns, values, vector, res)))
+    signed_result(untold(matvec(starts, columns, values, vector, res)))
 }

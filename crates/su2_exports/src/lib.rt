@@ -12,7 +12,7 @@ ghost use Rattle.su2_products.specs.Product.{su2_product_call};
 ghost use Rattle.su2_loops.specs.Loop.{su2_loop_call, su2_passes_call};
 ghost use Rattle.exports.specs.Exports.{on_sheet, stored, value_lent, three_floats, Exported};
 
-use exports::{signed_refusal, signed_result, store_params, store_value};
+use exports::{signed_refusal, signed_result, store_expectation, store_params};
 use matrices::coupling::KSParams;
 use sheet::read_sheet;
 use su2_entries::su2_count_entries;
@@ -153,7 +153,7 @@ pub fn export_su2_wilson_loop(
     ensures { Exported (on_sheet sheet.now (λ c L. value_lent (su2_loop_call c vector.now path.now states.old) expectation.old)) result (states.new, expectation.new) }
 {
     match read_sheet(sheet) {
-        Ok(s) => store_value(
+        Ok(s) => store_expectation(
             su2_wilson_loop(s.complex, vector, path, states),
             expectation,
         ),
@@ -172,7 +172,7 @@ pub fn export_su2_wilson_passes(
     ensures { Exported (on_sheet sheet.now (λ c L. value_lent (su2_passes_call c vector.now path.now states.old) expectation.old)) result (states.new, expectation.new) }
 {
     match read_sheet(sheet) {
-        Ok(s) => store_value(
+        Ok(s) => store_expectation(
             su2_wilson_passes(s.complex, vector, path, states),
             expectation,
         ),

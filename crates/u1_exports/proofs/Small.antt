@@ -19,9 +19,10 @@ use Rattle.csr.specs.Csr.{csr_call}
 use Rattle.answers.specs.Refusal.{answer_of}
 use Rattle.answers.specs.declared.refusal.Refusal.{Refusal}
 use Rattle.hilbert.specs.Index.{index_call}
+use Rattle.enumeration.specs.Enumeration.{enumerated_call, counted_call}
 use Rattle.shifts.specs.Shift.{shift_call}
 use Rattle.electric.specs.Electric.{electric_call}
-use Rattle.exports.proofs.OnSheets.{small_result, few_small}
+use Rattle.exports.proofs.OnSheets.{small_result, few_small, complex_accepted}
 use Rattle.u1_exports.proofs.Places.{place_small}
 use Rattle.u1_exports.proofs.Entries.{entries_small, rows_small}
 
@@ -53,14 +54,15 @@ pub product_small : (c : Complex) (L : ℕ) (p : KSParams) (g : Bool) (w x : Lis
 unfolding u1_product_call
 product_small c L p g w x a b l r h = small_result r h (λ k. few_small k refl)
 
--- what was read is accepted
-sheet_accepted : (b : List ℕ) (s : Sheet) → Answered (reading_call b) (value s) none_lent → refusal (complex_of s.complex) ≡ 0
-unfolding reading_call reading_refusal
-sheet_accepted b s h =
-    let v = value_none s (reading_refusal b) (sheet_in b) h.answer in
-    rw v.1 (sym (shape_decides b (header_none b v.0)) ∙ v.0)
-
 pub rows_few : (b : List ℕ) (s : Sheet) → Answered (reading_call b) (value s) none_lent → (L : ℕ) (p : KSParams) (g : Bool) (w : List Float) (a : List ℤ) (d e : List ℕ) (v : List Float) (l : List ℤ × List ℕ × List ℕ × List Float) (r : Result ℕ Refusal)
     → Answered (csr_call (complex_of s.complex) L p g w a d e v) (answer_of r) l → IfOk r (λ n. n < 2 ^ 31)
 unfolding csr_call
-rows_few b s read L p g w a d e v l r h = small_result r h (rows_small s.complex (sheet_accepted b s read) L p _)
+rows_few b s read L p g w a d e v l r h = small_result r h (rows_small s.complex (complex_accepted b read) L p _)
+
+pub listed_small : (c : Complex) (L : ℕ) (old l : List ℤ) (r : Result ℕ Refusal) → Answered (enumerated_call c L old) (answer_of r) l → IfOk r (λ n. n < 2 ^ 31)
+unfolding enumerated_call
+listed_small c L old l r h = small_result r h (λ k. few_small k.few refl)
+
+pub counted_small : (c : Complex) (L : ℕ) (r : Result ℕ Refusal) → Answered (counted_call c L) (answer_of r) none_lent → IfOk r (λ n. n < 2 ^ 31)
+unfolding counted_call
+counted_small c L r h = small_result r h (λ k. few_small k.few refl)

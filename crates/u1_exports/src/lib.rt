@@ -25,10 +25,7 @@ use electric::electric_field_sq;
 use entries::count_entries;
 use enumeration::count::count_states;
 use enumeration::enumerate_gauge_invariant;
-use exports::{
-    Told, open, refused, signed, signed_refusal, signed_result, store_params, store_value,
-    told_number, told_result,
-};
+use exports::{signed_refusal, signed_result, store_expectation, store_params};
 use hamiltonian::dense::build_hamiltonian;
 use hilbert::index::config_to_index;
 use lanczos::matvec::hamiltonian_matvec;
@@ -39,19 +36,14 @@ use sheet::read_sheet;
 use shifts::apply_shift;
 use wilson::{Path, wilson_loop};
 
-#[tactic(auto, using(exports::proofs::Signs::yes_number), unfolding(exports::specs::Exports::outcome_told, exports::specs::Exports::yes_of))]
-fn told_law(answer: Result<bool, Refusal>) -> Told
-    ensures { result ≡ outcome_told (yes_of (answer_of answer)) }
+// Yes is 1, no is 0.
+#[tactic(auto, using(exports::proofs::Signs::yes_number), unfolding(exports::specs::Exports::yes_of))]
+fn as_number(answer: Result<bool, Refusal>) -> Result<usize, Refusal>
+    ensures { answer_of result ≡ yes_of (answer_of answer) }
 {
     match answer {
-        Ok(yes) => Told {
-            refusal: 0,
-            value: usize::from(yes),
-        },
-        Err(refusal) => Told {
-            refusal: refusal.number(),
-            value: 0,
-        },
+        Ok(yes) => Ok(usize::from(yes)),
+        Err(refusal) => Err(refusal),
     }
 }
 
@@ -77,26 +69,20 @@ fn coupling(g_squared: f64, electric: f64, magnetic: f64) -> KSParams
 pub fn export_check_gauss_law(sheet: &[u8], configuration: &[i32]) -> i64
     ensures { Exported (on_sheet sheet.now (λ c L. as_number (law_call c configuration.now))) result none_lent }
 {
-    let opened = open(sheet);
-    let number = opened.refusal;
-    if number != 0 {
-        return refused(number);
+    match read_sheet(sheet) {
+        Ok(s) => signed_result(as_number(check_gauss_law(s.complex, configuration))),
+        Err(refusal) => signed_refusal(refusal),
     }
-    let s = opened.sheet;
-    signed(told_law(check_gauss_law(s.complex, configuration)))
 }
 
 // All states of a sheet: their number.
 pub fn export_enumerate_gauge_invariant(sheet: &[u8], states: &mut [i32]) -> i64
     ensures { Exported (on_sheet sheet.now (λ c L. enumerated_call c L states.old)) result states.new }
 {
-    let opened = open(sheet);
-    let number = opened.refusal;
-    if number != 0 {
-        return refused(number);
+    match read_sheet(sheet) {
+        Ok(s) => signed_result(enumerate_gauge_invariant(s.complex, s.lambda, states)),
+        Err(refusal) => signed_refusal(refusal),
     }
-    let s = opened.sheet;
-    signed(told_result(enumerate_gauge_invariant(s.complex, s.lambda, states)))
 }
 
 // The place of a configuration among the states of a sheet.
@@ -223,13 +209,10 @@ pub fn export_build_csr(
 pub fn export_count_states(sheet: &[u8]) -> i64
     ensures { Exported (on_sheet sheet.now (λ c L. counted_call c L)) result none_lent }
 {
-    let opened = open(sheet);
-    let number = opened.refusal;
-    if number != 0 {
-        return refused(number);
+    match read_sheet(sheet) {
+        Ok(s) => signed_result(count_states(s.complex, s.lambda)),
+        Err(refusal) => signed_refusal(refusal),
     }
-    let s = opened.sheet;
-    signed(told_result(count_states(s.complex, s.lambda)))
 }
 
 // How many entries the row lists of a sheet have.
@@ -299,7 +282,7 @@ pub fn export_wilson_loop(
 {
     let path = Path { edges, directions };
     match read_sheet(sheet) {
-        Ok(s) => store_value(
+        Ok(s) => store_expectation(
             wilson_loop(s.complex, s.lambda, amplitudes, path, states),
             expectation,
         ),

@@ -6,7 +6,7 @@ use Rattle.su2_loops.specs.Loop.{su2_passes_call}
 use Rattle.su2_exports.proofs.export_su2_wilson_passes.Goals as goal
 
 pub returns-in-Ok : goal.returns-in-Ok
-returns-in-Ok c = read_and_called _ _ c.store_value.type_inv c.in-Ok.ensures (lent_answers c.su2_wilson_passes.ensures _ c.store_value.ensures.1) c.store_value.ensures.0
+returns-in-Ok c = read_and_called _ _ c.store_expectation.type_inv c.in-Ok.ensures (lent_answers c.su2_wilson_passes.ensures _ c.store_expectation.ensures.1) c.store_expectation.ensures.0
 
 pub returns-in-Err : goal.returns-in-Err
 unfolding value_lent su2_passes_call

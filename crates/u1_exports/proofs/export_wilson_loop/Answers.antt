@@ -7,7 +7,7 @@ use Rattle.u1_exports.proofs.export_wilson_loop.Goals as goal
 
 pub returns-in-Ok : goal.returns-in-Ok
 returns-in-Ok c =
-    read_and_called _ _ c.store_value.type_inv c.in-Ok.ensures (lent_answers c.wilson_loop.ensures _ c.store_value.ensures.1) c.store_value.ensures.0
+    read_and_called _ _ c.store_expectation.type_inv c.in-Ok.ensures (lent_answers c.wilson_loop.ensures _ c.store_expectation.ensures.1) c.store_expectation.ensures.0
 
 pub returns-in-Err : goal.returns-in-Err
 unfolding wilson_call value_lent
