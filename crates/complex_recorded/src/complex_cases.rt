@@ -8,7 +8,7 @@ use crate::{
     from_pentachorons_same, fundamental_loops_same, spanning_tree_same, su2_fundamental_loops_same,
     tri_edge_indices_same,
 };
-use recorded::list::u64s;
+use recorded::list::read;
 use recorded_fields::case::{byte_at, field};
 use recorded_fields::inputs::{ROOM_8, number, told};
 
@@ -24,22 +24,14 @@ fn answers_same(list: &[u8], at: usize, pentachora: &[u64]) -> bool
     let second = field(list, at, 12);
     let third = field(list, at, 13);
     let n = number(list, at, 0);
-    if kind == 1 {
-        return from_pentachorons_same(n, pentachora, told, first, second, third);
+    match kind {
+        1 => from_pentachorons_same(n, pentachora, told, first, second, third),
+        2 => tri_edge_indices_same(sheet, n, told, first),
+        3 => spanning_tree_same(sheet, told, first, second),
+        4 => fundamental_loops_same(sheet, told, second, first, third),
+        5 => su2_fundamental_loops_same(sheet, told, second, first),
+        _ => false,
     }
-    if kind == 2 {
-        return tri_edge_indices_same(sheet, n, told, first);
-    }
-    if kind == 3 {
-        return spanning_tree_same(sheet, told, first, second);
-    }
-    if kind == 4 {
-        return fundamental_loops_same(sheet, told, second, first, third);
-    }
-    if kind == 5 {
-        return su2_fundamental_loops_same(sheet, told, second, first);
-    }
-    false
 }
 
 pub fn complexes_same(list: &[u8], at: usize) -> bool
@@ -47,6 +39,6 @@ pub fn complexes_same(list: &[u8], at: usize) -> bool
     ensures { result ≡ complexes_agreed (case_at list.now at) }
 {
     let mut pentachora = [0u64; ROOM_8];
-    let n_pentachora = u64s(field(list, at, 6), &mut pentachora);
+    let n_pentachora = read(field(list, at, 6), &mut pentachora);
     answers_same(list, at, &pentachora[..n_pentachora])
 }

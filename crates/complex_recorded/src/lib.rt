@@ -13,9 +13,7 @@ use complex_exports::{
     export_su2_fundamental_loops, export_tri_edge_indices,
 };
 use numbers::sizes::{EDGE_ENTRIES, TRIANGLE_ENTRIES};
-use recorded::same::{
-    same_bytes, same_floats, same_i8s, same_number, same_u32s, same_u64, same_u64s,
-};
+use recorded::list::same;
 use rows_exports::export_matvec;
 
 pub fn from_pentachorons_same(
@@ -38,16 +36,16 @@ pub fn from_pentachorons_same(
         &mut made_triangles,
         &mut counted,
     );
-    same_number(answer, told)
-        & (same_bytes(&made_edges, edges)
-            & (same_bytes(&made_triangles, triangles) & same_u64(counted, n_triangles)))
+    (answer == told)
+        & (same(&made_edges, edges)
+            & (same(&made_triangles, triangles) & same(&[counted], n_triangles)))
 }
 
 // Three numbers as a list.
 fn same_three(list: &[u64; 3], bytes: &[u8]) -> bool
     ensures { result ≡ holds_u64s list.now bytes.now }
 {
-    same_u64s(list, bytes)
+    same(list, bytes)
 }
 
 pub fn tri_edge_indices_same(sheet: &[u8], triangle: u64, told: i64, indices: &[u8]) -> bool
@@ -55,7 +53,7 @@ pub fn tri_edge_indices_same(sheet: &[u8], triangle: u64, told: i64, indices: &[
 {
     let mut found = [0u64; 3];
     let answer = export_tri_edge_indices(sheet, triangle, &mut found);
-    same_number(answer, told) & same_three(&found, indices)
+    (answer == told) & same_three(&found, indices)
 }
 
 pub fn spanning_tree_same(sheet: &[u8], told: i64, tree: &[u8], free: &[u8]) -> bool
@@ -64,7 +62,7 @@ pub fn spanning_tree_same(sheet: &[u8], told: i64, tree: &[u8], free: &[u8]) -> 
     let mut made_tree = [0u32; 64];
     let mut made_free = [0u32; 64];
     let answer = export_spanning_tree(sheet, &mut made_tree, &mut made_free);
-    same_number(answer, told) & (same_u32s(&made_tree, tree) & same_u32s(&made_free, free))
+    (answer == told) & (same(&made_tree, tree) & same(&made_free, free))
 }
 
 pub fn fundamental_loops_same(
@@ -85,9 +83,9 @@ pub fn fundamental_loops_same(
         &mut made_edges,
         &mut made_directions,
     );
-    same_number(answer, told)
-        & (same_u32s(&made_starts, starts)
-            & (same_bytes(&made_edges, edges) & same_i8s(&made_directions, directions)))
+    (answer == told)
+        & (same(&made_starts, starts)
+            & (same(&made_edges, edges) & same(&made_directions, directions)))
 }
 
 pub fn su2_fundamental_loops_same(sheet: &[u8], told: i64, starts: &[u8], edges: &[u8]) -> bool
@@ -96,7 +94,7 @@ pub fn su2_fundamental_loops_same(sheet: &[u8], told: i64, starts: &[u8], edges:
     let mut made_starts = [0u32; 64];
     let mut made_edges = [0u8; 1024];
     let answer = export_su2_fundamental_loops(sheet, &mut made_starts, &mut made_edges);
-    same_number(answer, told) & (same_u32s(&made_starts, starts) & same_bytes(&made_edges, edges))
+    (answer == told) & (same(&made_starts, starts) & same(&made_edges, edges))
 }
 
 pub fn matvec_same(
@@ -111,5 +109,5 @@ pub fn matvec_same(
 {
     let mut result = [0.0f64; 256];
     let answer = export_matvec(starts, columns, values, vector, &mut result);
-    same_number(answer, told) & same_floats(&result, product)
+    (answer == told) & same(&result, product)
 }

@@ -4,7 +4,7 @@ ghost use Rattle.recorded_fields.specs.Layout.{case_at, Whole};
 ghost use Rattle.complex_recorded.specs.Cases.{rows_agreed};
 
 use crate::matvec_same;
-use recorded::list::{floats, u32s};
+use recorded::list::read;
 use recorded_fields::case::field;
 use recorded_fields::inputs::{ROOM_4, ROOM_8, told};
 
@@ -16,10 +16,10 @@ pub fn rows_same(list: &[u8], at: usize) -> bool
     let mut columns = [0u32; ROOM_4];
     let mut values = [0.0; ROOM_8];
     let mut vector = [0.0; ROOM_8];
-    let n_starts = u32s(field(list, at, 11), &mut starts);
-    let n_columns = u32s(field(list, at, 12), &mut columns);
-    let n_values = floats(field(list, at, 8), &mut values);
-    let n_vector = floats(field(list, at, 9), &mut vector);
+    let n_starts = read(field(list, at, 11), &mut starts);
+    let n_columns = read(field(list, at, 12), &mut columns);
+    let n_values = read(field(list, at, 8), &mut values);
+    let n_vector = read(field(list, at, 9), &mut vector);
     let told = told(list, at);
     let product = field(list, at, 14);
     matvec_same(

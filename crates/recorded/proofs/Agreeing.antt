@@ -2,6 +2,7 @@
 use Prim.Native.Nat.{ℕ, ◌<◌, ◌^◌}
 use mathlib.Core.Bool.{Bool, ◌&&◌}
 use mathlib.Core.Path.{◌≡◌, ap, ◌∙◌}
+use lib.Dec.{eqb}
 use lib.IntN.{ℤ}
 use lib.Signed.{mag}
 use mir.Syntax.{w64}
@@ -11,6 +12,7 @@ use Rattle.mathematics.specs.Calls.{Call}
 use Rattle.mathematics.proofs.Signed.{back64}
 use Rattle.exports.specs.Exports.{Exported}
 use Rattle.recorded.specs.Answers.{tells, leaves, agrees}
+use Rattle.recorded.proofs.Numbers.{equal_bits}
 
 -- both numbers are compared as the machine holds them
 module _ {B : Type 0} {call : Call ℕ B} {r : ℤ} {l : B} (h : Exported call r l) (ok : mag r < 2 ^ 63) {told : ℤ} (fits : SFits w64 told) where
@@ -23,3 +25,13 @@ module _ {B : Type 0} {call : Call ℕ B} {r : ℤ} {l : B} (h : Exported call r
   pub agrees_as : {number lists : Bool} (test : B → Bool) → number ≡ equal (to_z w64 (of_z w64 r)) (to_z w64 (of_z w64 told)) → lists ≡ test l → (number && lists) ≡ agrees call told test
   unfolding leaves agrees
   agrees_as test e f = rw (told_as e, f ∙ ap test h.lists)
+
+  -- the same where they are compared by their bits
+  pub told_by : eqb (of_z w64 r) (of_z w64 told) ≡ tells call told
+  unfolding tells
+  told_by = equal_bits w64 r told (record { sfits = ok }) fits ∙ rw h.answer
+
+  -- the number, and a test of the lists
+  pub agrees_by : {lists : Bool} (test : B → Bool) → lists ≡ test l → (eqb (of_z w64 r) (of_z w64 told) && lists) ≡ agrees call told test
+  unfolding leaves agrees
+  agrees_by test f = rw (told_by, f ∙ ap test h.lists)

@@ -1,9 +1,11 @@
 -- Lists read out of bytes, one entry a turn.
 use Prim.Native.Nat.{ℕ, ◌+◌, ◌*◌, ◌/◌, ◌<◌, ◌≤◌, min}
-use mathlib.Core.List.{List, ◌++◌}
+use mathlib.Core.List.{List, [], ◌++◌}
 use mathlib.Core.Path.{◌≡◌, refl, sym, ap, ◌∙◌}
 use native.Mathlib.Omega.{arith}
+use Rattle.std.proofs.lemmas.List.{append-nil}
 use lib.ListN.{get_or, length, take, drop, set, length-map, length-set}
+use Rattle.std.proofs.Math.ListN.{drop_of_length-le}
 use lib.Seq.{take_all, take_at, length-take-le}
 use Rattle.mathematics.specs.Counting.{below}
 use Rattle.mathematics.proofs.Below.{length_below, map_below_at}
@@ -57,6 +59,14 @@ read_all {A} {l} {old} {new} {n} {i} h end =
     let last : i ≡ n = omega arith in
     let size : length (take n l) ≡ n = length-take-le n l (omega arith) in
     record { count = few; list = h.list ∙ rw (last, size) }
+
+-- the same where the entries went to the first n of a longer list
+pub read_part : {A : Type 0} {l old part : List A} {n i : ℕ} → n ≡ min (length l) (length old) → Reading l (take n old) part n i → n ≤ i → ReadInto l old (part ++ drop n old) n
+read_part {A} {l} {old} {part} {n} {i} few h end =
+    let last : i ≡ n = omega (arith, h.within) in
+    let size : length (take n l) ≡ n = length-take-le n l (omega arith) in
+    let past : drop n (take n old) ≡ [] = drop_of_length-le (take n old) (omega (arith, length-take-le n old (omega arith))) in
+    record { count = few; list = rw (h.list, last, past, append-nil, size) }
 
 -- what was read of a list that finds room is the list
 pub read_whole : {A : Type 0} {l old new : List A} {r : ℕ} → ReadInto l old new r → length l ≤ length old → take r new ≡ l

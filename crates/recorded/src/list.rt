@@ -1,55 +1,60 @@
-// Lists read out of bytes into a lent list, from the front on: how many entries were read.
-ghost use Rattle.recorded.specs.Bytes.{i8s, i32s, u32s, u64s, floats, ReadInto};
+// Lists read out of bytes, and lists held against them.
+ghost use Rattle.std.specs.Prelude.{◌≡◌, ◌<◌};
+ghost use Rattle.recorded.specs.Bytes.{numbers_in, i8s, i32s, floats, ReadInto, is_whole, holds};
 
-use crate::number::{float_at, i8_at, i32_at, u32_at, u64_at};
-use numbers::smaller;
+use crate::entry::Entry;
+
+// The numbers that the bytes hold go to the front of a lent list, as many as find room. How many they are is told.
+pub fn read<T: Entry>(bytes: &[u8], out: &mut [T]) -> usize
+    ensures { ReadInto (numbers_in T.WIDTH T.taken bytes.now) out.old out.new result }
+{
+    let width = T::WIDTH;
+    let n = out.len().min(bytes.len() / width);
+    for (i, entry) in out[..n].iter_mut().enumerate() {
+        *entry = T::at(bytes, width * i);
+    }
+    n
+}
+
+// Whether so many bytes are whole numbers of a width, at most as many as a list has entries.
+#[tactic(auto, unfolding(crate::specs::Bytes::is_whole))]
+fn is_whole(width: usize, bytes: usize, entries: usize) -> bool
+    requires { 0 < width }
+    ensures { result ≡ is_whole width bytes entries }
+{
+    (bytes % width == 0) & (bytes / width <= entries)
+}
+
+// Whether a list begins with the numbers that the bytes hold, and the bytes hold nothing else.
+pub fn same<T: Entry>(list: &[T], bytes: &[u8]) -> bool
+    ensures { result ≡ holds T.WIDTH T.is T.blank list.now bytes.now }
+{
+    let width = T::WIDTH;
+    if !is_whole(width, bytes.len(), list.len()) {
+        return false;
+    }
+    let n = bytes.len() / width;
+    let mut so_far = true;
+    for (i, entry) in list[..n].iter().enumerate() {
+        so_far = so_far & entry.is_at(bytes, width * i);
+    }
+    so_far
+}
 
 pub fn i8s(bytes: &[u8], out: &mut [i8]) -> usize
     ensures { ReadInto (i8s bytes.now) out.old out.new result }
 {
-    let n = smaller(bytes.len(), out.len());
-    for i in 0..n {
-        out[i] = i8_at(bytes, i);
-    }
-    n
+    read(bytes, out)
 }
 
 pub fn i32s(bytes: &[u8], out: &mut [i32]) -> usize
     ensures { ReadInto (i32s bytes.now) out.old out.new result }
 {
-    let n = smaller(bytes.len() / 4, out.len());
-    for i in 0..n {
-        out[i] = i32_at(bytes, 4 * i);
-    }
-    n
-}
-
-pub fn u32s(bytes: &[u8], out: &mut [u32]) -> usize
-    ensures { ReadInto (u32s bytes.now) out.old out.new result }
-{
-    let n = smaller(bytes.len() / 4, out.len());
-    for i in 0..n {
-        out[i] = u32_at(bytes, 4 * i);
-    }
-    n
-}
-
-pub fn u64s(bytes: &[u8], out: &mut [u64]) -> usize
-    ensures { ReadInto (u64s bytes.now) out.old out.new result }
-{
-    let n = smaller(bytes.len() / 8, out.len());
-    for i in 0..n {
-        out[i] = u64_at(bytes, 8 * i);
-    }
-    n
+    read(bytes, out)
 }
 
 pub fn floats(bytes: &[u8], out: &mut [f64]) -> usize
     ensures { ReadInto (floats bytes.now) out.old out.new result }
 {
-    let n = smaller(bytes.len() / 8, out.len());
-    for i in 0..n {
-        out[i] = float_at(bytes, 8 * i);
-    }
-    n
+    read(bytes, out)
 }
