@@ -23,9 +23,13 @@ pub fn stays(state: &[i32], sides: Sides, by: i32, lambda: usize) -> bool
     requires { Movable state.now (three sides) × (lambda ≤ 1000) × (nat_abs by ≤ 1) }
     ensures { result ≡ stays lambda state.now (three sides) by }
 {
-    value_stays(state[sides.first], by, lambda)
-        & (value_stays(state[sides.second], -by, lambda)
-            & value_stays(state[sides.third], by, lambda))
+    if !value_stays(state[sides.first], by, lambda) {
+        return false;
+    }
+    if !value_stays(state[sides.second], -by, lambda) {
+        return false;
+    }
+    value_stays(state[sides.third], by, lambda)
 }
 
 // Whether it keeps those of the state at a place of the list.
