@@ -1,17 +1,14 @@
 -- What the calls answer is small.
-use Rattle.std.proofs.Common.{◌≡◌, sym, ℕ, ◌<◌, ◌^◌, List, Bool, Float, Result, IfOk, refl}
+use Rattle.std.proofs.Common.{ℕ, ◌<◌, ◌^◌, List, Bool, Float, Result, IfOk, refl}
 use Rattle.mathematics.specs.Calls.{Answered, NoneLent, none_lent}
 use Rattle.mathematics.specs.Refusals.{value}
-use Rattle.answers.proofs.Outcomes.{value_none}
 use Rattle.answers.specs.declared.refusal.Refusal.{Refusal}
 use Rattle.answers.specs.Refusal.{answer_of}
 use Rattle.complex.specs.Complex.{Complex, complex_of}
-use Rattle.complex.specs.Judge.{refusal}
 use Rattle.matrices.specs.declared.coupling.KSParams.{KSParams}
-use Rattle.exports.proofs.OnSheets.{small_result, few_small, read_accepted}
-use Rattle.exports.specs.Exports.{OpenedOf}
+use Rattle.exports.proofs.OnSheets.{small_result, few_small, complex_accepted}
 use Rattle.sheet.specs.declared.Sheet.{Sheet}
-use Rattle.sheet.specs.Sheet.{reading_call, reading_refusal}
+use Rattle.sheet.specs.Sheet.{reading_call}
 use Rattle.su2_rows.specs.Rows.{su2_rows_call}
 use Rattle.su2_masks.specs.Basis.{su2_basis_call, su2_counted_call}
 use Rattle.su2_quantum.specs.Dense.{su2_dense_call}
@@ -41,15 +38,7 @@ module _ (c : Complex) (r : Result ℕ Refusal) where
     unfolding su2_product_call
     product_small vector states res l h = small_result r h (λ k. few_small k refl)
 
--- the record of a sheet that was read is accepted
-read_right : (b : List ℕ) {s : Sheet} → Answered (reading_call b) (value s) none_lent → refusal (complex_of s.complex) ≡ 0
-unfolding reading_call reading_refusal
-read_right b {s} h =
-    let v = value_none _ _ _ h.answer in
-    let o : OpenedOf b (record { refusal = 0; sheet = s }) = record { number = sym v.0; holds = λ z. v.1 } in
-    read_accepted o refl
-
 pub rows_small : (b : List ℕ) {s : Sheet} → Answered (reading_call b) (value s) none_lent → (p : KSParams) (given : Bool) (weights : List Float) (work starts columns : List ℕ) (values : List Float) (l : List ℕ × List ℕ × List ℕ × List Float) (r : Result ℕ Refusal)
     → Answered (su2_rows_call (complex_of s.complex) p given weights work starts columns values) (answer_of r) l → IfOk r (λ n. n < 2 ^ 31)
 unfolding su2_rows_call
-rows_small b {s} h p given weights work starts columns values l r a = small_result r a (entries_small s.complex (read_right b h))
+rows_small b {s} h p given weights work starts columns values l r a = small_result r a (entries_small s.complex (complex_accepted b h))
