@@ -1,15 +1,11 @@
 -- What the calls tell is small.
-use Rattle.std.proofs.Common.{◌≡◌, ℕ, ◌<◌, ◌^◌, Bool, List, ℤ, Result, IfOk, refl, sym, ◌∙◌}
+use Rattle.std.proofs.Common.{ℕ, ◌<◌, ◌^◌, Bool, List, ℤ, Result, IfOk, refl}
 use lib.Ieee.{Float}
 use Rattle.mathematics.specs.Refusals.{value}
 use Rattle.mathematics.specs.Calls.{Answered, none_lent}
 use Rattle.complex.specs.Complex.{Complex, complex_of}
-use Rattle.complex.specs.Judge.{refusal}
 use Rattle.sheet.specs.declared.Sheet.{Sheet}
-use Rattle.sheet.specs.Sheet.{sheet_in, reading_refusal, reading_call}
-use Rattle.sheet.proofs.Sheets.{shape_decides}
-use Rattle.sheet.proofs.RoundTrips.{header_none}
-use Rattle.answers.proofs.Outcomes.{value_none}
+use Rattle.sheet.specs.Sheet.{reading_call}
 use Rattle.matrices.specs.declared.coupling.KSParams.{KSParams}
 use Rattle.plaquettes.specs.Triangle.{triangle_call}
 use Rattle.entries.specs.Entries.{entries_call}

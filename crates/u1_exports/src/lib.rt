@@ -17,7 +17,7 @@ ghost use Rattle.entries.specs.Entries.{entries_call};
 ghost use Rattle.lanczos.specs.Matvec.{u1_product_call};
 ghost use Rattle.electric.specs.Electric.{electric_call};
 ghost use Rattle.wilson.specs.Wilson.{wilson_call};
-ghost use Rattle.exports.specs.Exports.{outcome_told, yes_of, on_sheet, as_number, stored, value_lent, three_floats, Exported};
+ghost use Rattle.exports.specs.Exports.{yes_of, on_sheet, as_number, stored, value_lent, three_floats, Exported};
 
 use answers::refusal::Refusal;
 use csr::build::build_csr;

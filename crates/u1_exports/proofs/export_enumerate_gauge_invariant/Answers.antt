@@ -5,10 +5,10 @@ use Rattle.u1_exports.proofs.Small.{listed_small}
 use Rattle.u1_exports.proofs.export_enumerate_gauge_invariant.Goals as goal
 
 pub signed_result-requires : goal.signed_result-requires
-signed_result-requires c = listed_small _ _ _ _ _ c.enumerate_gauge_invariant.ensures
+signed_result-requires c = listed_small _ _ _ _ _ c.enumerate_gauge_invariant.ensures.answered
 
 pub returns-in-Ok : goal.returns-in-Ok
-returns-in-Ok c = read_and_called _ _ c.signed_result.type_inv c.in-Ok.ensures c.enumerate_gauge_invariant.ensures c.signed_result.ensures
+returns-in-Ok c = read_and_called _ _ c.signed_result.type_inv c.in-Ok.ensures c.enumerate_gauge_invariant.ensures.answered c.signed_result.ensures
 
 pub returns-in-Err : goal.returns-in-Err
 unfolding enumerated_call
