@@ -1,8 +1,8 @@
 // One lawful assignment, moved by fundamental cycles: where the walk begins, and its steps.
-ghost use Rattle.std.specs.Prelude.{◌≡◌, ◌+◌, ◌*◌, ◌-◌, ◌^◌, ◌<◌, ◌≤◌, length, pos, neg_ℤ, nat_abs, ◌+ℤ◌, ◌*ℤ◌};
+ghost use Rattle.std.specs.Prelude.{◌≡◌, ◌^◌, ◌≤◌, length, pos, neg_ℤ, nat_abs, ◌+ℤ◌, ◌*ℤ◌};
 ghost use Rattle.cycles.specs.Cycles.{row, with_cycle};
-ghost use Rattle.walker.specs.Walker.{stepped, lowest_candidate};
-ghost use Rattle.walker.specs.Steps.{Small, Addable, CyclesFit, FreeFit};
+ghost use Rattle.walker.specs.Walker.{lowest_candidate};
+ghost use Rattle.walker.specs.Steps.{Small, Addable, CyclesFit};
 
 use numbers::sizes::MOST_EDGES;
 use numbers::usize_to_i32;
@@ -41,30 +41,5 @@ pub fn begin(config: &mut [i32], cycles: &[i8], n_free: usize, lambda: usize)
     let low = negative(lambda);
     for j in 0..n_free {
         add(config, &cycles[MOST_EDGES * j..MOST_EDGES * j + m], low);
-    }
-}
-
-// One step of the counter over the free edges, from number `from` on: with 1 to the next block, with 2 to the next run of blocks.
-pub fn step(
-    config: &mut [i32],
-    free: &[u8; MOST_EDGES],
-    n_free: usize,
-    cycles: &[i8],
-    lambda: usize,
-    from: usize,
-)
-    requires { CyclesFit (length config.old) n_free lambda cycles.now × FreeFit (length config.old) n_free free.now × Small (2 ^ 20) config.old }
-    ensures { config.new ≡ stepped free.now (row (length config.old) cycles.now) lambda (n_free - from) from config.old }
-{
-    let m = config.len();
-    let top = usize_to_i32(lambda);
-    let back = negative(2 * lambda);
-    for j in from..n_free {
-        let cycle = &cycles[MOST_EDGES * j..MOST_EDGES * j + m];
-        if config[usize::from(free[j])] < top {
-            add(config, cycle, 1);
-            return;
-        }
-        add(config, cycle, back);
     }
 }

@@ -4,7 +4,7 @@ ghost use Rattle.complex.specs.Complex.{complex_of};
 ghost use Rattle.complex.specs.Judge.{refusal};
 ghost use Rattle.walker.specs.Tables.{Walks};
 
-use crate::steps::begin;
+use crate::steps::{add, begin, negative};
 use complex::SimplicialComplex;
 use complex::search::search;
 use cycles::{CYCLE_ENTRIES, fundamental_cycles, tree_paths};
@@ -41,5 +41,31 @@ pub fn prepare(c: SimplicialComplex, lambda: usize) -> Walker
         free: list,
         cycles: cycles,
         first: first,
+    }
+}
+
+impl Walker {
+    ghost use Rattle.std.specs.Prelude.{◌≡◌, ◌-◌, ◌^◌, length};
+    ghost use Rattle.cycles.specs.Cycles.{row};
+    ghost use Rattle.walker.specs.Walker.{stepped};
+    ghost use Rattle.walker.specs.Steps.{Small, CyclesFit, FreeFit};
+
+    // One step of the counter over the free edges, from number `from` on: with 1 to the next block, with 2 to the next run of blocks. By
+    // number: it begins at one of the free edges, and the cycle with the same number goes with it.
+    pub fn step(&self, config: &mut [i32], lambda: usize, from: usize)
+        requires { CyclesFit (length config.old) self.now.n_free lambda self.now.cycles × FreeFit (length config.old) self.now.n_free self.now.free × Small (2 ^ 20) config.old }
+        ensures { config.new ≡ stepped self.now.free (row (length config.old) self.now.cycles) lambda (self.now.n_free - from) from config.old }
+    {
+        let m = config.len();
+        let top = lambda as i32;
+        let back = negative(2 * lambda);
+        for j in from..self.n_free {
+            let cycle = &self.cycles[MOST_EDGES * j..MOST_EDGES * j + m];
+            if config[usize::from(self.free[j])] < top {
+                add(config, cycle, 1);
+                return;
+            }
+            add(config, cycle, back);
+        }
     }
 }

@@ -1,19 +1,20 @@
 use Rattle.std.proofs.Common.{◌≡◌, ◌+◌, ◌*◌, ◌-◌, ◌^◌, ◌≤◌, ◌<◌, pos, neg_ℤ, nat_abs, get_or, length, to_z, of_z, w32, arith, sym, ap, ap₂, ◌∙◌}
+use Rattle.std.proofs.lemmas.Int.{to_z_pos}
 use Rattle.std.specs.Int.Signed.{lt_z}
 use Rattle.mathematics.proofs.Signed.{back32, small_back}
 use Rattle.cycles.specs.Cycles.{row, with_cycle}
 use Rattle.walker.specs.Walker.{stepped}
 use Rattle.walker.proofs.Stepping.{cycle_long, cycle_signs, cycle_addable, added_small, step_here, step_on, step_end, row_part, back_small}
-use Rattle.walker.proofs.steps.step.Goals as goal
+use Rattle.walker.proofs.tables.Walker.step.Goals as goal
 
 pub returns-then-config-from : goal.returns-then-config-from
 returns-then-config-from c =
     let fit = c.requires.0 in
-    let z = row (length c.args.config.now) c.args.cycles.now in
+    let z = row (length c.args.config.now) c.args.self.now.cycles in
     let value = small_back (get_or c.loop-j.config c.from.result (pos 0)) (omega (arith, c.loop-j.invariant.small c.from.result, fit.free_few)) ∙ ap (λ i. get_or c.loop-j.config i (pos 0)) c.from.ensures in
-    let top : to_z w32 (of_z w32 c.usize_to_i32-top.result) ≡ pos c.args.lambda = back32 c.usize_to_i32-top.result c.usize_to_i32-top.type_inv ∙ c.usize_to_i32-top.ensures in
+    let top : to_z w32 c.args.lambda ≡ pos c.args.lambda = to_z_pos w32 _ (omega (arith, fit.truncation)) in
     (rw (row_part c.loop-j.j (length c.args.config.now)) at c.add.ensures)
-    ∙ sym (step_here c.args.free.now z c.args.lambda c.args.n_free c.loop-j.j c.loop-j.config (omega arith) (sym (ap₂ lt_z value top) ∙ c.if-config-from.true))
+    ∙ sym (step_here c.args.self.now.free z c.args.lambda c.args.self.now.n_free c.loop-j.j c.loop-j.config (omega arith) (sym (ap₂ lt_z value top) ∙ c.if-config-from.true))
     ∙ c.loop-j.invariant.to_come
 
 pub add-requires-in-loop-j : goal.add-requires-in-loop-j
@@ -22,7 +23,7 @@ add-requires-in-loop-j c =
     let back : to_z w32 (of_z w32 c.negative-back.result) ≡ neg_ℤ (pos (2 * c.args.lambda)) = back32 c.negative-back.result c.negative-back.type_inv ∙ c.negative-back.ensures in
     let few : nat_abs (to_z w32 (of_z w32 c.negative-back.result)) ≤ 2000 = rw back (back_small c.args.lambda fit.truncation) in
     rw (row_part c.loop-j.j (length c.args.config.now))
-    (cycle_addable _ c.args.n_free c.args.lambda c.args.cycles.now fit c.loop-j.j (omega arith) c.loop-j.config _ c.loop-j.invariant.sized (λ e. omega (arith, c.loop-j.invariant.small e, fit.free_few)) (omega arith))
+    (cycle_addable _ c.args.self.now.n_free c.args.lambda c.args.self.now.cycles fit c.loop-j.j (omega arith) c.loop-j.config _ c.loop-j.invariant.sized (λ e. omega (arith, c.loop-j.invariant.small e, fit.free_few)) (omega arith))
 
 pub loop-j-preserved : goal.loop-j-preserved
 loop-j-preserved c =
@@ -30,27 +31,27 @@ loop-j-preserved c =
     let m = length c.args.config.now in
     let L = c.args.lambda in
     let j = c.loop-j.j in
-    let z = row m c.args.cycles.now in
+    let z = row m c.args.self.now.cycles in
     let inside : j < 63 = omega (arith, fit.free_few) in
     let back : to_z w32 (of_z w32 c.negative-back.result) ≡ neg_ℤ (pos (2 * L)) = back32 c.negative-back.result c.negative-back.type_inv ∙ c.negative-back.ensures in
     let value = small_back (get_or c.loop-j.config c.from.result (pos 0)) (omega (arith, c.loop-j.invariant.small c.from.result, fit.free_few)) ∙ ap (λ i. get_or c.loop-j.config i (pos 0)) c.from.ensures in
-    let top : to_z w32 (of_z w32 c.usize_to_i32-top.result) ≡ pos L = back32 c.usize_to_i32-top.result c.usize_to_i32-top.type_inv ∙ c.usize_to_i32-top.ensures in
+    let top : to_z w32 c.args.lambda ≡ pos c.args.lambda = to_z_pos w32 _ (omega (arith, fit.truncation)) in
     let made : c.add-in-loop-j.new.config ≡ with_cycle c.loop-j.config (neg_ℤ (pos (2 * L))) (z j) = rw (row_part j m, back) at c.add-in-loop-j.ensures in
     record {
       sized = c.add-in-loop-j.auto.config ∙ c.loop-j.invariant.sized;
       to_come =
-          ap (stepped c.args.free.now z L (c.args.n_free - (j + 1)) (j + 1)) made
-          ∙ sym (step_on c.args.free.now z L c.args.n_free j c.loop-j.config (omega arith) (sym (ap₂ lt_z value top) ∙ c.if-config-from.false))
+          ap (stepped c.args.self.now.free z L (c.args.self.now.n_free - (j + 1)) (j + 1)) made
+          ∙ sym (step_on c.args.self.now.free z L c.args.self.now.n_free j c.loop-j.config (omega arith) (sym (ap₂ lt_z value top) ∙ c.if-config-from.false))
           ∙ c.loop-j.invariant.to_come;
       small =
           λ e.
           rw made
           (omega (
             arith,
-            added_small c.loop-j.config (neg_ℤ (pos (2 * L))) (z j) (2 ^ 20 + j * 2000) 2000 (cycle_long m c.args.n_free L c.args.cycles.now fit j inside ∙ sym c.loop-j.invariant.sized) c.loop-j.invariant.small
-                (back_small L fit.truncation) (cycle_signs m c.args.n_free L c.args.cycles.now fit j inside) e,
+            added_small c.loop-j.config (neg_ℤ (pos (2 * L))) (z j) (2 ^ 20 + j * 2000) 2000 (cycle_long m c.args.self.now.n_free L c.args.self.now.cycles fit j inside ∙ sym c.loop-j.invariant.sized) c.loop-j.invariant.small
+                (back_small L fit.truncation) (cycle_signs m c.args.self.now.n_free L c.args.self.now.cycles fit j inside) e,
           ));
     }
 
 pub returns : goal.returns
-returns c = sym (step_end c.args.free.now (row (length c.args.config.now) c.args.cycles.now) c.args.lambda c.args.n_free c.loop-j.j c.loop-j.config (omega arith)) ∙ c.loop-j.invariant.to_come
+returns c = sym (step_end c.args.self.now.free (row (length c.args.config.now) c.args.self.now.cycles) c.args.lambda c.args.self.now.n_free c.loop-j.j c.loop-j.config (omega arith)) ∙ c.loop-j.invariant.to_come
