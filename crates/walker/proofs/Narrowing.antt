@@ -1,20 +1,18 @@
 -- The tests and numbers by which a block is narrowed, as the code finds them.
 use Prim.Native.Nat.{ℕ, zero, suc, ◌+◌, ◌-◌, ◌^◌, ◌≤◌, min, max}
 use mathlib.Core.List.{List}
-use mathlib.Core.Bool.{true, false, ◌&&◌, false≢true}
+use mathlib.Core.Bool.{true, false}
 use mathlib.Core.Path.{◌≡◌, refl, sym, ◌∙◌, ap}
 use native.Mathlib.Omega.{arith}
 use native.Mathlib.Numerals.{add-one}
 use native.Mathlib.Nat.{add-zero, add-suc}
 use lib.Dec.{T, leb}
 use lib.IntN.{ℤ, pos, negsuc, neg_ℤ, nat_abs, ◌-ℤ◌, ◌*ℤ◌}
-use lib.Signed.{lt_z, le_z, non_neg}
+use lib.Signed.{lt_z, non_neg}
 use lib.ListN.{get_or, length}
 use mir.Syntax.{w32, w64}
 use mir.Val.{SFits, Fits, to_z, of_z}
-use borrow.Author.Tests.{leb-true, le-leb}
 use Rattle.mathematics.specs.Integers.{equal}
-use Rattle.mathematics.proofs.Tests.{and_parts, and_both, same_tests}
 use Rattle.mathematics.proofs.Integers.{negative, parts, one_part, the, ◌⊟◌, test_less}
 use Rattle.mathematics.proofs.Signed.{size_difference, size_fits, small_back}
 use Rattle.walker.specs.declared.blocks.Span.{Span}
@@ -22,17 +20,6 @@ use Rattle.walker.specs.Walker.{excess, entry_start, entry_stop, first_within, e
 use Rattle.walker.specs.Blocks.{Narrowed, SpanTo, SpanOfBlock}
 use Rattle.walker.proofs.Interval.{stop_bound}
 use Rattle.walker.proofs.BlockRows.{rows_none}
-
--- a value is within -L to L
-pub within_test : (L : ℕ) (x : ℤ) → (le_z (neg_ℤ (pos L)) x && le_z x (pos L)) ≡ leb (nat_abs x) L
-within_test zero (pos n) = rw (le-leb 0 n (omega arith))
-within_test (suc L) (pos n) = refl
-within_test zero (negsuc n) =
-    same_tests false (leb (suc n) zero) (λ h. absurd (false≢true h)) (λ h. absurd (omega (arith, leb-true (suc n) zero h)))
-within_test (suc L) (negsuc n) =
-    same_tests (leb n L && true) (leb (suc n) (suc L))
-    (λ h. le-leb (suc n) (suc L) (omega (arith, leb-true n L (and_parts (leb n L) true h).0)))
-    (λ h. and_both (leb n L) true (le-leb n L (omega (arith, leb-true (suc n) (suc L) h))) refl)
 
 -- ---- how far one number is above another
 not_negative : (z : ℤ) → negative z ≡ 0 → T (non_neg z)

@@ -44,6 +44,9 @@ row_part j m = omega arith
 pub back_small : (L : ℕ) → L ≤ 1000 → nat_abs (neg_ℤ (pos (2 * L))) ≤ 2000
 back_small L h = omega (arith, size_neg (pos (2 * L)))
 
+pub low_small : (L : ℕ) → L ≤ 1000 → nat_abs (neg_ℤ (pos L)) ≤ 1000
+low_small L h = omega (arith, size_neg (pos L))
+
 -- ---- from zeros to the lowest candidate
 pub combined_next : (cycle : ℕ → List ℤ) (x : ℕ → ℤ) (p : List ℤ) (j : ℕ) → sum_of_cycles cycle x p (j + 1) ≡ with_cycle (sum_of_cycles cycle x p j) (x j) (cycle j)
 unfolding sum_of_cycles
