@@ -2,7 +2,7 @@ use Rattle.std.proofs.Common.{◌≡◌, length, refl, ap, ◌∙◌, arith}
 use Rattle.cycles.specs.Cycles.{row}
 use Rattle.walker.specs.Walker.{walked_states}
 use Rattle.walker.proofs.BlockStates.{states_none, states_counted}
-use Rattle.runs.proofs.Turns.{parts_ask, parts_signs}
+use Rattle.runs.proofs.Turns.{parts_ask}
 use Rattle.runs.proofs.OneRun.{next_walkable, next_runs, may_step, asks_span, fewer, run_asks, run_and_rest}
 use Rattle.runs.proofs.walk.count_blocks.Goals as goal
 
@@ -16,8 +16,7 @@ pub of-kinds-requires : goal.of-kinds-requires
 of-kinds-requires c =
     let s = c.args in
     let sizes = parts_ask s.w.now.free s.w.now.cycles s.lambda s.w.now.n_free s.config.now _ c.requires.0 in
-    let signs = parts_signs s.w.now.free s.w.now.cycles s.lambda s.w.now.n_free s.config.now _ c.requires.0 in
-    (sizes.0, sizes.1, signs.0, signs.1)
+    (sizes.0, sizes.1)
 
 pub loop-left-init : goal.loop-left-init
 loop-left-init c = record { sized = refl; walkable = c.requires.0; runs = c.requires.1; count = omega arith }

@@ -45,8 +45,7 @@ pub of-kinds-requires : goal.of-kinds-requires
 of-kinds-requires c =
     let s = c.args in
     let sizes = parts_ask s.w.now.free s.w.now.cycles s.lambda s.w.now.n_free s.config.now _ c.requires.1 in
-    let signs = parts_signs s.w.now.free s.w.now.cycles s.lambda s.w.now.n_free s.config.now _ c.requires.1 in
-    (sizes.0, sizes.1, signs.0, signs.1)
+    (sizes.0, sizes.1)
 
 pub loop-left-init : goal.loop-left-init
 loop-left-init c =
