@@ -1,17 +1,16 @@
 -- What a basis is refused for and what walks it, and what the enumeration tells, by the test that decides it.
 use Prim.Native.Nat.{ℕ, ◌+◌, ◌-◌, ◌*◌, ◌^◌, ◌≤◌}
-use mathlib.Core.List.{List, [], ◌∷◌, ◌++◌, flatten}
-use mathlib.Core.Bool.{Bool, true, false, cond}
+use mathlib.Core.List.{List, [], ◌∷◌, flatten}
+use mathlib.Core.Bool.{cond}
 use mathlib.Core.Path.{◌≡◌, refl, sym, ◌∙◌, ap}
 use native.Mathlib.Omega.{arith}
-use lib.Dec.{eqb, ltb}
+use lib.Dec.{ltb}
 use lib.IntN.{ℤ}
 use lib.ListN.{length}
-use borrow.Author.Tests.{le-ltb, ne_eqb}
+use borrow.Author.Tests.{le-ltb}
 use Rattle.mathematics.specs.Tests.{every_entry}
 use Rattle.mathematics.specs.Refusals.{first}
-use Rattle.mathematics.proofs.Refusals.{first_stops, first_goes_on, first_not, numbered}
-use Rattle.mathematics.proofs.Calls.{Tells, among, past_all}
+use Rattle.mathematics.proofs.Refusals.{first_goes_on, numbered}
 use Rattle.complex.specs.Complex.{Complex}
 use Rattle.complex.specs.Judge.{truncated_tests}
 use Rattle.gauss_law.specs.Listing.{states}

@@ -2,7 +2,7 @@
 use Rattle.std.specs.Prelude.{ℕ, ◌+◌, ◌*◌, ◌^◌, ◌≤◌, ◌<◌, Bool, ◌≡◌, ltb, ℤ, pos, length}
 use mathlib.Core.List.{List, [], ◌∷◌, ◌++◌, flatten}
 use Rattle.mathematics.specs.Writing.{front}
-use Rattle.mathematics.specs.Refusals.{Outcome, first, value}
+use Rattle.mathematics.specs.Refusals.{Outcome, value}
 use Rattle.mathematics.specs.Calls.{Call, NoneLent, none_lent}
 use Rattle.complex.specs.Complex.{Complex}
 use Rattle.complex.specs.Judge.{Accepted, truncated_tests}

@@ -46,7 +46,7 @@ impl Basis {
     pub fn count(&self) -> usize
         ensures { result ≡ length (states_of self.now.walker self.now.lambda self.now.blocks) }
     {
-        count_states(self.walker, self.lambda, self.blocks)
+        count_states(&self.walker, self.lambda, self.blocks)
     }
 
     // Whether a list of a length is too short for all states. They are counted only where it could be.
@@ -66,6 +66,6 @@ impl Basis {
         requires { length (states_of self.now.walker self.now.lambda self.now.blocks) * self.now.walker.n_edges ≤ length states.old }
         ensures { StatesWritten (states_of self.now.walker self.now.lambda self.now.blocks) states.old states.new result }
     {
-        write_states(self.walker, self.lambda, self.blocks, states)
+        write_states(&self.walker, self.lambda, self.blocks, states)
     }
 }

@@ -1,5 +1,5 @@
 -- A prepared basis, as a call on a record uses it.
-use Rattle.std.proofs.Common.{◌≡◌, ℕ, ◌*◌, List, length, sym, ◌∙◌, ap, ltb, ℤ, ne_eqb}
+use Rattle.std.proofs.Common.{◌≡◌, ℕ, ◌*◌, List, length, ap, ltb, ℤ, ne_eqb}
 use Rattle.mathematics.specs.Refusals.{refused}
 use Rattle.mathematics.specs.Calls.{Call, Answered}
 use Rattle.mathematics.proofs.Calls.{Tells, refuses}

@@ -3,7 +3,6 @@ ghost use Rattle.std.specs.Prelude.{◌≡◌, ℕ, ◌≤◌, length};
 ghost use Rattle.mathematics.specs.Tests.{every_entry};
 ghost use Rattle.complex.specs.Complex.{Complex, complex_of};
 ghost use Rattle.complex.specs.Judge.{refusal};
-ghost use Rattle.enumeration.specs.Enumeration.{BasisWalks};
 ghost use Rattle.hilbert.specs.Basis.{in_basis};
 ghost use Rattle.gauss_law.specs.Gauss.{within};
 ghost use Rattle.hilbert.specs.Search.{Sought, FoundIn};
@@ -17,9 +16,7 @@ use answers::refusal::Refusal;
 use complex::SimplicialComplex;
 use enumeration::basis::Basis;
 use law_check::find_unlawful;
-use runs::write_states;
 use walker::blocks::within;
-use walker::tables::Walker;
 
 // Whether every value is within -lambda to lambda.
 fn in_band(configuration: &[i32], lambda: usize) -> bool
@@ -42,31 +39,17 @@ pub fn in_basis(c: SimplicialComplex, lambda: usize, configuration: &[i32]) -> b
 }
 
 // The basis goes to the beginning of a list, and a configuration that is in it is found there.
-pub fn list_and_find(
-    w: Walker,
-    lambda: usize,
-    blocks: usize,
-    configuration: &[i32],
-    states: &mut [i32],
-) -> usize
-    requires { Sought w lambda blocks configuration.now (length states.old) }
-    ensures { (c : Complex) → BasisWalks c lambda w blocks → FoundIn c lambda configuration.now states.old states.new result }
-{
-    let n = write_states(w, lambda, blocks, states);
-    find_place(states, n, configuration, &w.free, w.n_free)
-}
-
-// The same of a basis that was prepared.
 pub fn list_and_seek(basis: &Basis, configuration: &[i32], states: &mut [i32]) -> usize
     requires { Sought basis.now.walker basis.now.lambda basis.now.blocks configuration.now (length states.old) }
     ensures { (c : Complex) (L : ℕ) → BasisOf c L basis.now → FoundIn c L configuration.now states.old states.new result }
 {
-    list_and_find(
-        basis.walker,
-        basis.lambda,
-        basis.blocks,
-        configuration,
+    let n = basis.write(states);
+    find_place(
         states,
+        n,
+        configuration,
+        &basis.walker.free,
+        basis.walker.n_free,
     )
 }
 

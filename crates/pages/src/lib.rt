@@ -101,7 +101,7 @@ fn fill_first(out: &mut [u8], s: Sheet) -> Begun
         return fill_refused(out, Refusal::ManyCandidates);
     }
     let blocks = count_of_blocks(w.n_free, lambda);
-    let dim = count_states(w, lambda, blocks);
+    let dim = count_states(&w, lambda, blocks);
     let len = write_first_line(out, 0, c.n_vertices, c.n_edges, c.n_triangles, lambda, dim);
     let next = while_left(first_page(w, lambda, blocks));
     Begun {

@@ -12,7 +12,7 @@ use answers::refusal::Refusal;
 use complex::SimplicialComplex;
 use cursor::tables::state_at;
 use enumeration::basis::Basis;
-use hilbert::index::list_and_find;
+use hilbert::index::list_and_seek;
 use triangles::{Sides, triangle_sides};
 use walker::blocks::within;
 
@@ -72,5 +72,5 @@ pub fn apply_triangle_shift(
     if !three_within(&row, sides, lambda) {
         return Err(Refusal::OutOfBand);
     }
-    Ok(list_and_find(basis.walker, lambda, basis.blocks, &row[..m], states))
+    Ok(list_and_seek(&basis, &row[..m], states))
 }

@@ -23,7 +23,8 @@ use Rattle.walker.specs.Blocks.{SpanTo, SpanOfBlock}
 use Rattle.runs.specs.Edges.{kind, of_kind, Edges, Listed, Judged, picked}
 use mir.Syntax.{w8}
 use mir.Val.{of_z}
-use Rattle.mathematics.proofs.Signed.{zero8, size_fits}
+use Rattle.std.proofs.Common.{FitsSigned}
+use Rattle.mathematics.proofs.Signed.{zero8}
 use Rattle.walker.proofs.Candidates.{within}
 use Rattle.walker.proofs.Interval.{moves, inside_span, span_inside, within_entries, entries_within, rows_by_tests}
 use Rattle.walker.proofs.Narrowing.{span_bound}
@@ -48,12 +49,12 @@ module _ (z y : List ℤ) (k e : ℕ) (l : List ℕ) (h : Edges z y k e l (lengt
       })
 
 -- the test of a sign in the machine
-module _ (x : ℤ) (sign : nat_abs x ≤ 1) where
+module _ (x : ℤ) (sign : FitsSigned w8 x) where
   pub sign_zero : of_z w8 x ≡ 0 → equal x (pos 0) ≡ true
-  sign_zero h = sym (zero8 x (size_fits w8 x (omega arith)).sfits) ∙ eq-eqb (of_z w8 x) 0 h
+  sign_zero h = sym (zero8 x sign.sfits) ∙ eq-eqb (of_z w8 x) 0 h
 
   pub sign_some : (of_z w8 x ≡ 0 → ⊥) → equal x (pos 0) ≡ false
-  sign_some h = sym (zero8 x (size_fits w8 x (omega arith)).sfits) ∙ ne_eqb (of_z w8 x) 0 h
+  sign_some h = sym (zero8 x sign.sfits) ∙ ne_eqb (of_z w8 x) 0 h
 
 -- ---- what stands in them
 module _ (z y : List ℤ) (k m : ℕ) (small : m ≤ 63) (list : List ℕ) (count : ℕ) (h : Edges z y k m list count) where
@@ -104,28 +105,8 @@ module _ (list : List ℕ) (count : ℕ) (s : List ℤ) (room : count ≤ length
       go (yes k) = rw (picked_at q k) (h (get_or list q 0))
       go (no k) = rw (get_or-eq_default (picked list count s) (pos 0) {n = q} (omega (arith, picked_long))) (omega arith)
 
--- ---- listed edges are judged
-module _ (L : ℕ) (s : List ℤ) (list : List ℕ) (count : ℕ) where
-  pub judged_out : (q : ℕ) → q < count → leb (nat_abs (get_or s (get_or list q 0) (pos 0))) L ≡ false → Judged L s list count false
-  judged_out q k t = record { all = λ e. absurd (false≢true e); some = λ e. (q, k, leb-false _ L t) }
-
-  pub judged_in : ((q : ℕ) → q < count → nat_abs (get_or s (get_or list q 0) (pos 0)) ≤ L) → Judged L s list count true
-  judged_in h = record { all = λ e. h; some = λ e. absurd (false≢true (sym e)) }
-
 -- ---- what a kind says
 module _ (z y : List ℤ) (e : ℕ) where
-  pub kind_still : equal (get_or z e (pos 0)) (pos 0) ≡ true → equal (get_or y e (pos 0)) (pos 0) ≡ true → of_kind z y 0 e ≡ true
-  unfolding kind of_kind
-  kind_still t u = rw (t, u) (eq-eqb 0 0 refl)
-
-  pub kind_side : equal (get_or z e (pos 0)) (pos 0) ≡ true → equal (get_or y e (pos 0)) (pos 0) ≡ false → of_kind z y 1 e ≡ true
-  unfolding kind of_kind
-  kind_side t u = rw (t, u) (eq-eqb 1 1 refl)
-
-  pub kind_moved : equal (get_or z e (pos 0)) (pos 0) ≡ false → of_kind z y 2 e ≡ true
-  unfolding kind of_kind
-  kind_moved t = rw t (eq-eqb 2 2 refl)
-
   -- an edge is of one kind alone
   pub only_moved : equal (get_or z e (pos 0)) (pos 0) ≡ false → (of_kind z y 0 e ≡ false) × (of_kind z y 1 e ≡ false) × (of_kind z y 2 e ≡ true)
   unfolding kind of_kind
@@ -190,5 +171,5 @@ module _ (L n : ℕ) (s z y : List ℤ) (signs : Small 1 z) (long : length z ≡
           → (t : Bool) → equal (get_or z e (pos 0)) (pos 0) ≡ t → nat_abs (moves L n s z signs d e) ≤ L
       entry d e l h true t = rw (sign_none (get_or s e (pos 0)) (pos d) (get_or z e (pos 0)) t) (inside e l t)
       entry d e l h false t =
-          let f = edge_found z y 2 (length s) few moved b goes e l (kind_moved z y e t) in
+          let f = edge_found z y 2 (length s) few moved b goes e l (only_moved z y e t).2 in
           rw (← f.2, ← (picked_at moved b s room f.0 f.1), ← (picked_at moved b z room f.0 f.1)) (h f.0 f.1)

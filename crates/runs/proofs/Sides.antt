@@ -24,7 +24,7 @@ use Rattle.walker.proofs.Walk.{added_none}
 use Rattle.runs.specs.Edges.{Edges, Listed, picked}
 use Rattle.runs.specs.Runs.{run_states, RunFit, Staying, SideSpan, Inside}
 use Rattle.runs.proofs.Between.{between_part, between_few, between_flat}
-use Rattle.runs.proofs.EdgeLists.{edge_inside, edge_kind, edge_found, picked_at, picked_small, kind_still, kind_side, still_first, still_second, sign_none, lists_span}
+use Rattle.runs.proofs.EdgeLists.{edge_inside, edge_kind, edge_found, picked_at, picked_small, only_still, only_side, still_first, still_second, sign_none, lists_span}
 
 -- ---- the span of a run, by lists of edges
 module _ (L : ℕ) (s y : List ℤ) (signs : Small 1 y) (still side : List ℕ) (a b k : ℕ) (listed : Listed (length s) side b) where
@@ -71,10 +71,10 @@ module _ (L : ℕ) (s z y : List ℤ) (few : length s ≤ 63) (first_signs : Sma
     where
       go : (u : Bool) → equal (get_or y e (pos 0)) (pos 0) ≡ u → nat_abs (get_or s e (pos 0) +ℤ pos i *ℤ get_or y e (pos 0)) ≤ L
       go true u =
-          let f = edge_found z y 0 (length s) few still a rests e l (kind_still z y e t u) in
+          let f = edge_found z y 0 (length s) few still a rests e l (only_still z y e t u).0 in
           rw (sign_none (get_or s e (pos 0)) (pos i) (get_or y e (pos 0)) u, ← f.2) ((spans.inside i low high).still_within f.0 f.1)
       go false u =
-          let f = edge_found z y 1 (length s) few side b goes e l (kind_side z y e t u) in
+          let f = edge_found z y 1 (length s) few side b goes e l (only_side z y e t u).1 in
           rw (← f.2) ((spans.inside i low high).side_within f.0 f.1)
 
   -- a state of a block stays within the bounds there

@@ -22,7 +22,7 @@ pub struct Kinds {
 impl Kinds {
     // The edges of each kind, by the signs of the first two cycles.
     pub fn of(first: &[i8], second: &[i8]) -> Kinds
-        requires { (length first.now ≤ 63) × (length second.now ≡ length first.now) × Small 1 first.now × Small 1 second.now }
+        requires { (length first.now ≤ 63) × (length second.now ≡ length first.now) }
         ensures { KindsOf first.now second.now (length first.now) result }
     {
         let mut still = EdgeList::new();

@@ -1,4 +1,4 @@
-use Rattle.std.proofs.Common.{◌≡◌, sym, ◌∙◌, refl, length, false}
+use Rattle.std.proofs.Common.{sym, ◌∙◌, refl, length}
 use borrow.Author.Tests.{eq-eqb, ne_eqb}
 use Rattle.mathematics.proofs.Calls.{none, here, past, refuses, ends}
 use Rattle.complex.specs.Complex.{complex_of}

@@ -53,16 +53,17 @@ returns-then-not-three_within c =
 pub slice_bounds-row-end : goal.slice_bounds-row-end
 slice_bounds-row-end c = omega (arith, edges_few _ _ c.args.triangle c.args.state _ c.in_ok-basis.ensures _ c.count-n.ensures, c.shift_row.array_long)
 
-pub slice_bounds-list_and_find-end : goal.slice_bounds-list_and_find-end
-slice_bounds-list_and_find-end c = simp length-take (omega (arith, edges_few _ _ c.args.triangle c.args.state _ c.in_ok-basis.ensures _ c.count-n.ensures, c.shift_row.array_long))
+pub slice_bounds-list_and_seek-end : goal.slice_bounds-list_and_seek-end
+slice_bounds-list_and_seek-end c = simp length-take (omega (arith, edges_few _ _ c.args.triangle c.args.state _ c.in_ok-basis.ensures _ c.count-n.ensures, c.shift_row.array_long))
 
-pub list_and_find-requires : goal.list_and_find-requires
-list_and_find-requires c = asked _ _ _ _ _ c.in_ok-basis.ensures _ c.count-n.ensures c.if-c-triangle.false _ c.if-states-n.false _ c.triangle_sides-sides.ensures _ c.state_at-row.ensures.0 c.state_at-row.ensures.1 _ c.shift_row.ensures _ c.three_within.ensures (not-false _ (ap not c.if-not-three_within.false))
+pub list_and_seek-requires : goal.list_and_seek-requires
+list_and_seek-requires c =
+    rw c.in_ok-basis.ensures.basis.truncated
+    (asked _ _ _ _ _ c.in_ok-basis.ensures _ c.count-n.ensures c.if-c-triangle.false _ c.if-states-n.false _ c.triangle_sides-sides.ensures _ c.state_at-row.ensures.0 c.state_at-row.ensures.1 _ c.shift_row.ensures _ c.three_within.ensures (not-false _ (ap not c.if-not-three_within.false)))
 
 pub returns : goal.returns
 unfolding triangle_call
 returns c =
-    let basis = basis_of _ _ c.args.triangle c.args.state _ c.in_ok-basis.ensures _ c.count-n.ensures in
-    let told = answered _ _ _ _ _ c.in_ok-basis.ensures _ c.count-n.ensures c.if-c-triangle.false _ c.if-states-n.false _ c.triangle_sides-sides.ensures _ c.state_at-row.ensures.0 c.state_at-row.ensures.1 _ c.shift_row.ensures _ c.three_within.ensures (not-false _ (ap not c.if-not-three_within.false)) _ refl _ _ (c.list_and_find.ensures _ basis) in
+    let told = answered _ _ _ _ _ c.in_ok-basis.ensures _ c.count-n.ensures c.if-c-triangle.false _ c.if-states-n.false _ c.triangle_sides-sides.ensures _ c.state_at-row.ensures.0 c.state_at-row.ensures.1 _ c.shift_row.ensures _ c.three_within.ensures (not-false _ (ap not c.if-not-three_within.false)) _ refl _ _ (c.list_and_seek.ensures _ _ c.in_ok-basis.ensures.basis) in
     let h = shift_demanded _ _ _ _ _ _ _ told in
     record { answered = h.0; shift_demand = h.1 }

@@ -1,4 +1,4 @@
-use Rattle.std.proofs.Common.{ap, ◌∙◌, arith}
+use Rattle.std.proofs.Common.{ap, ◌∙◌, arith, rules, FitsSigned, w8, pos, get_or}
 use Rattle.runs.specs.Kinds.{listed}
 use Rattle.runs.proofs.EdgeLists.{none_edges, edges_same, edges_more, sign_zero, sign_some, only_moved, only_side, only_still}
 use Rattle.runs.proofs.edges.Kinds.of.Goals as goal
@@ -16,8 +16,7 @@ pub loop-e-preserved : goal.loop-e-preserved
 loop-e-preserved c =
     let so_far = c.loop-e.invariant in
     let few = so_far.few in
-    let first = c.requires.2 c.loop-e.e in
-    let second = c.requires.3 c.loop-e.e in
+    let first : FitsSigned w8 (get_or c.args.first.now c.loop-e.e (pos 0)) = search rules in
     elim c.if-sign-ne0.branch [
       | then-sign-ne0 w ↦
           let kind = only_moved c.args.first.now c.args.second.now c.loop-e.e (sign_some _ first w.if-sign-ne0.true) in
@@ -28,6 +27,7 @@ loop-e-preserved c =
             moved = edges_more _ _ _ _ _ so_far.moved _ (ap listed w.moved-is ∙ w.push.ensures.listed) kind.2;
           }
       | else-sign-ne0+then-second-e-ne0 w ↦
+          let second : FitsSigned w8 (get_or c.args.second.now c.loop-e.e (pos 0)) = search rules in
           let kind = only_side c.args.first.now c.args.second.now c.loop-e.e (sign_zero _ first w.if-sign-ne0.false) (sign_some _ second w.if-second-e-ne0.true) in
           record {
             few = (omega (arith, ap (λ l. l.count) w.still-is, few.0), omega (arith, ap (λ l. l.count) w.side-is, w.push-then-second-e-ne0.ensures.longer, few.1), omega (arith, ap (λ l. l.count) w.moved-is, few.2));
@@ -36,6 +36,7 @@ loop-e-preserved c =
             moved = edges_same _ _ _ _ _ so_far.moved _ (ap listed w.moved-is) kind.2;
           }
       | else-sign-ne0+else-second-e-ne0 w ↦
+          let second : FitsSigned w8 (get_or c.args.second.now c.loop-e.e (pos 0)) = search rules in
           let kind = only_still c.args.first.now c.args.second.now c.loop-e.e (sign_zero _ first w.if-sign-ne0.false) (sign_zero _ second w.if-second-e-ne0.false) in
           record {
             few = (omega (arith, ap (λ l. l.count) w.still-is, w.push-else-second-e-ne0.ensures.longer, few.0), omega (arith, ap (λ l. l.count) w.side-is, few.1), omega (arith, ap (λ l. l.count) w.moved-is, few.2));
