@@ -1,7 +1,7 @@
 -- A block narrowed by the edges that its cycle moves, where the others are within the bounds.
 use Prim.Native.Nat.{ℕ, ◌+◌, ◌≤◌, ◌<◌}
 use mathlib.Core.List.{List, [], ◌∷◌, ◌++◌}
-use mathlib.Core.Bool.{Bool, true, false, cond, false≢true}
+use mathlib.Core.Bool.{Bool, true, false, cond}
 use mathlib.Core.Path.{◌≡◌, refl, sym, ap, ◌∙◌}
 use native.Mathlib.Omega.{arith}
 use native.Mathlib.Decide.{dec_lt}
@@ -9,7 +9,7 @@ use lib.Dec.{eqb, leb, ltb}
 use lib.IntN.{ℤ, pos, nat_abs, ◌+ℤ◌, ◌*ℤ◌, *ℤ-zero, +ℤ_idr}
 use lib.ListN.{get_or, length, take, length-map, length-append, get_or-eq_default}
 use lib.Seq.{get_or-take, length-take-le, take_all}
-use borrow.Author.Tests.{eq-eqb, ne_eqb, eqb-true, leb-true, leb-false, ltb-true, le-leb, lt-ltb}
+use borrow.Author.Tests.{eq-eqb, ne_eqb, eqb-true, leb-true, ltb-true, le-leb, lt-ltb}
 use Rattle.mathematics.specs.Integers.{equal}
 use Rattle.mathematics.specs.Counting.{below, keep}
 use Rattle.mathematics.proofs.Integers.{equal_true}
@@ -20,7 +20,7 @@ use Rattle.cycles.specs.Cycles.{with_cycle}
 use Rattle.walker.specs.declared.blocks.Span.{Span}
 use Rattle.walker.specs.Steps.{Small}
 use Rattle.walker.specs.Blocks.{SpanTo, SpanOfBlock}
-use Rattle.runs.specs.Edges.{kind, of_kind, Edges, Listed, Judged, picked}
+use Rattle.runs.specs.Edges.{kind, of_kind, Edges, Listed, picked}
 use mir.Syntax.{w8}
 use mir.Val.{of_z}
 use Rattle.std.proofs.Common.{FitsSigned}

@@ -6,5 +6,6 @@ pub mod RunRows
 pub mod RunRoom
 pub mod Walked
 pub mod Turns
+pub mod Turn
 pub mod OneRun
 pub mod Written

@@ -1,65 +1,117 @@
--- One run of the walk, where the assignment at which the walk began gave the first two cycles and their edges.
-use Rattle.std.proofs.Common.{◌≡◌, ℕ, ◌+◌, ◌-◌, ◌^◌, ◌≤◌, ◌<◌, min, List, ◌++◌, length, take, drop, ℤ, ap, ◌∙◌}
+-- One run of the walk, by the tables.
+use Rattle.std.proofs.Common.{◌≡◌, ℕ, ◌+◌, ◌-◌, ◌^◌, ◌≤◌, ◌<◌, min, List, ◌++◌, length, take, ℤ, sym, ap, refl, ◌∙◌, arith, length-append}
 use Rattle.cycles.specs.Cycles.{row}
 use Rattle.walker.specs.declared.blocks.Span.{Span}
+use Rattle.walker.specs.declared.tables.Walker.{Walker}
 use Rattle.walker.specs.Walker.{stepped, width, walked_states}
 use Rattle.walker.specs.Steps.{Small, CyclesFit, FreeFit, Walkable, Runs}
-use Rattle.runs.specs.Edges.{Edges, Listed}
+use Rattle.walker.specs.Tables.{begin_of, states_of, Fit}
+use Rattle.walker.proofs.BlockStates.{states_none, states_counted}
+use Rattle.walker.proofs.Stepping.{cycle_long}
+use Rattle.runs.specs.declared.edges.Kinds.{Kinds}
+use Rattle.runs.specs.Edges.{Edges}
+use Rattle.runs.specs.Kinds.{listed, KindsOf}
 use Rattle.runs.specs.Runs.{run_states, RunFit, SideSpan, Inside}
-use Rattle.runs.proofs.Walked.{walkable_run, runs_next}
-use Rattle.runs.proofs.Turns.{first_part, second_part, edges_here, step_may, span_asks, fewer_left, turn_fits, turn_inside, turn_states, turn_counts}
+use Rattle.runs.proofs.Walked.{counted_long, walkable_run, runs_next}
+use Rattle.runs.proofs.Turns.{step_may, fewer_left, turn_fits, turn_inside, turn_states}
 
-module _ (free : List ℕ) (cycles : List ℤ) (L n : ℕ) (start : List ℤ) (blocks : ℕ) (begun : Walkable free cycles L n start blocks) where
-  abbrev z : List ℤ
-  z = take (length start - 0) cycles
+-- a walk that may go on from s for so many blocks
+pub record Underway (w : Walker) (L : ℕ) (s : List ℤ) (left : ℕ) : Type 0 where
+  pub sized : length s ≡ w.n_edges
+  pub walkable : Walkable w.free w.cycles L w.n_free s left
+  pub runs : Runs w.free w.cycles L w.n_free s
 
-  abbrev y : List ℤ
-  y = take (63 + length start - 63) (drop 63 cycles)
+-- the states that it then passes
+abbrev pub to_come : Walker → ℕ → List ℤ → ℕ → List (List ℤ)
+to_come w L s left = walked_states w.free (row w.n_edges w.cycles) L w.n_free s left
 
-  module _ (s : List ℤ) (left : ℕ) (same : length s ≡ length start) (fit : Walkable free cycles L n s left) (runs : Runs free cycles L n s) (more : 0 < left) (run wide : ℕ) (of_wide : wide ≡ width L (n - 1)) (of_run : run ≡ min left wide) where
-    is : run ≡ min left (width L (n - 1))
-    is = of_run ∙ ap (min left) of_wide
+-- ---- the whole walk
+module _ (w : Walker) (L blocks : ℕ) (fit : Fit w L blocks) where
+  pub begun : Underway w L (take w.n_edges w.first) blocks
+  unfolding begin_of
+  begun = record { sized = fit.sized; walkable = fit.walkable; runs = fit.runs }
 
-    first : z ≡ row (length s) cycles 0
-    first = rw same (first_part free cycles L n start blocks begun)
+  pub all_to_come : to_come w L (take w.n_edges w.first) blocks ≡ states_of w L blocks
+  unfolding begin_of states_of
+  all_to_come = refl
 
-    second : y ≡ row (length s) cycles 1
-    second = rw same (second_part free cycles L n start blocks begun)
+  pub all_counted : length (states_of w L blocks) ≤ 2 ^ 40
+  unfolding states_of
+  all_counted = rw fit.sized at (states_counted w.free w.cycles L w.n_free (begin_of w) blocks fit.walkable)
 
-    here : {kind : ℕ} {list : List ℕ} {count : ℕ} → Edges z y kind (length z) list count → Edges z y kind (length s) list count
-    here h = rw same (edges_here free cycles L n start blocks begun h)
+  pub cycles_here : CyclesFit w.n_edges w.n_free L w.cycles
+  cycles_here = rw fit.sized at fit.walkable.cycles_fit
 
-    pub next_walkable : (new : List ℤ) → new ≡ stepped free (row (length s) cycles) L (n - 2) 2 s → Walkable free cycles L n new (left - run)
-    next_walkable new made = walkable_run free cycles L n s left fit runs more run is new made
+pub none_to_come : (w : Walker) (L : ℕ) (s : List ℤ) (left : ℕ) → left ≡ 0 → length (to_come w L s left) ≡ 0
+none_to_come w L s left none = ap (λ k. length (to_come w L s k)) none ∙ ap length (states_none w.free (row w.n_edges w.cycles) L w.n_free s)
 
-    pub next_runs : (new : List ℤ) → new ≡ stepped free (row (length s) cycles) L (n - 2) 2 s → Runs free cycles L n new
-    next_runs new made = runs_next free cycles L n s left fit runs more run is new made
+-- ---- a run of it
+module _ (w : Walker) (L M n : ℕ) (z y : List ℤ) (kinds : Kinds) (of_M : M ≡ L) (of_n : n ≡ width L w.n_free) (of_z : z ≡ row w.n_edges w.cycles 0) (of_y : y ≡ row w.n_edges w.cycles 1) (sorted : KindsOf z y (length z) kinds)
+    (s : List ℤ) (left : ℕ) (now : Underway w L s left) (more : 0 < left) (run wide : ℕ) (of_wide : wide ≡ width L (w.n_free - 1)) (of_run : run ≡ min left wide) where
+  abbrev still : List ℕ
+  still = listed kinds.still
 
-    module _ (still side : List ℕ) (a b : ℕ) (rests : Edges z y 0 (length z) still a) (goes : Edges z y 1 (length z) side b) where
-      pub may_step : CyclesFit (length s) n L cycles × FreeFit (length s) n free × Small (2 ^ 20) s
-      may_step = step_may free cycles L n s left fit runs more run is z y first second still side a b (here rests) (here goes)
+  abbrev side : List ℕ
+  side = listed kinds.side
 
-      pub asks_span : Listed (length s) still a × Listed (length s) side b × (length y ≡ length s) × Small (2 ^ 20) s × Small 1 y × (L ≤ 1000)
-      asks_span = span_asks free cycles L n s left fit runs more run is z y first second still side a b (here rests) (here goes)
+  is : run ≡ min left (width L (w.n_free - 1))
+  is = of_run ∙ ap (min left) of_wide
 
-      pub fewer : (run ≤ left) × (left - run < left)
-      fewer = fewer_left free cycles L n s left fit runs more run is z y first second still side a b (here rests) (here goes)
+  first : z ≡ row (length s) w.cycles 0
+  first = of_z ∙ ap (λ m. row m w.cycles 0) (sym now.sized)
 
-      module _ (w : ℕ) (of_w : w ≡ width L n) (r : Span) (spans : SideSpan L s y still a side b run r) where
-        pub run_fits : RunFit L w s z y r.to
-        run_fits = rw of_w (turn_fits free cycles L n s left fit runs more run is z y first second still side a b (here rests) (here goes) r spans)
+  second : y ≡ row (length s) w.cycles 1
+  second = of_y ∙ ap (λ m. row m w.cycles 1) (sym now.sized)
 
-        pub run_inside : Inside L s z y r
-        run_inside = turn_inside free cycles L n s left fit runs more run is z y first second still side a b (here rests) (here goes) r spans
+  long : length z ≡ length s
+  long = ap length first ∙ cycle_long (length s) w.n_free L w.cycles now.walkable.cycles_fit 0 (omega arith)
 
-        module _ (moved : List ℕ) (m : ℕ) (moves : Edges z y 2 (length z) moved m) where
-          pub run_asks : RunFit L w s z y r.to × Inside L s z y r × Edges z y 2 (length s) moved m
-          run_asks = (run_fits, run_inside, here moves)
+  rests : Edges z y 0 (length s) still (length still)
+  rests = rw (← long) sorted.still
 
-        pub run_then_rest : (new : List ℤ) → new ≡ stepped free (row (length s) cycles) L (n - 2) 2 s
-            → walked_states free (row (length s) cycles) L n s left ≡ run_states L w s z y r.from r.to ++ walked_states free (row (length new) cycles) L n new (left - run)
-        run_then_rest new made = rw of_w (turn_states free cycles L n s left fit runs more run is z y first second still side a b (here rests) (here goes) r spans new made)
+  goes : Edges z y 1 (length s) side (length side)
+  goes = rw (← long) sorted.side
 
-        pub run_and_rest : (new : List ℤ) → new ≡ stepped free (row (length s) cycles) L (n - 2) 2 s
-            → length (walked_states free (row (length s) cycles) L n s left) ≡ length (run_states L w s z y r.from r.to) + length (walked_states free (row (length new) cycles) L n new (left - run))
-        run_and_rest new made = rw of_w (turn_counts free cycles L n s left fit runs more run is z y first second still side a b (here rests) (here goes) r spans new made)
+  pub may_step : CyclesFit (length s) w.n_free L w.cycles × FreeFit (length s) w.n_free w.free × Small (2 ^ 20) s
+  may_step = step_may w.free w.cycles L w.n_free s left now.walkable now.runs more run is z y first second still side (length still) (length side) rests goes
+
+  pub asks_span : (length z ≡ length s) × Small (2 ^ 20) s
+  asks_span = (long, may_step.2)
+
+  pub fewer : (run ≤ left) × (left - run < left)
+  fewer = fewer_left w.free w.cycles L w.n_free s left now.walkable now.runs more run is z y first second still side (length still) (length side) rests goes
+
+  module _ (r : Span) (spans : SideSpan M s y still (length still) side (length side) run r) where
+    abbrev pub these : List (List ℤ)
+    these = run_states M n s z y r.from r.to
+
+    spans_here : SideSpan L s y still (length still) side (length side) run r
+    spans_here = rw of_M at spans
+
+    pub run_asks : RunFit M n s z y r.to × Inside M s z y r
+    run_asks =
+        rw (of_M, of_n) (
+          turn_fits w.free w.cycles L w.n_free s left now.walkable now.runs more run is z y first second still side (length still) (length side) rests goes r spans_here,
+          turn_inside w.free w.cycles L w.n_free s left now.walkable now.runs more run is z y first second still side (length still) (length side) rests goes r spans_here,
+        )
+
+    module _ (new : List ℤ) (made : new ≡ stepped w.free (row (length s) w.cycles) L (w.n_free - 2) 2 s) where
+      new_long : length new ≡ length s
+      new_long = ap length made ∙ counted_long w.free (row (length s) w.cycles) L w.n_free (w.n_free - 2) 2 s
+
+      pub next_underway : Underway w L new (left - run)
+      next_underway =
+          record {
+            sized = new_long ∙ now.sized;
+            walkable = walkable_run w.free w.cycles L w.n_free s left now.walkable now.runs more run is new made;
+            runs = runs_next w.free w.cycles L w.n_free s left now.walkable now.runs more run is new made;
+          }
+
+      pub run_then_rest : to_come w L s left ≡ these ++ to_come w L new (left - run)
+      run_then_rest =
+          rw (of_M, of_n, ← now.sized)
+          (turn_states w.free w.cycles L w.n_free s left now.walkable now.runs more run is z y first second still side (length still) (length side) rests goes r spans_here new made
+          ∙ ap (λ m. run_states L (width L w.n_free) s z y r.from r.to ++ walked_states w.free (row m w.cycles) L w.n_free new (left - run)) new_long)
+
+      pub run_counts : length (to_come w L s left) ≡ length these + length (to_come w L new (left - run))
+      run_counts = ap length run_then_rest ∙ length-append these (to_come w L new (left - run))

@@ -1,5 +1,5 @@
 -- Rows made of those of the block before, or each of the row before.
-use Prim.Native.Nat.{ℕ, zero, suc, ◌+◌, ◌-◌, ◌*◌, ◌^◌, ◌≤◌, ◌<◌}
+use Prim.Native.Nat.{ℕ, zero, suc, min, max, ◌+◌, ◌-◌, ◌*◌, ◌^◌, ◌≤◌, ◌<◌}
 use mathlib.Core.List.{List, [], ◌∷◌, ◌++◌, append_assoc, append-nil, flatten}
 use mathlib.Core.Path.{◌≡◌, refl, sym, ap, ap₂, ◌∙◌}
 use native.Mathlib.Omega.{arith}
@@ -9,6 +9,16 @@ use native.Mathlib.Decide.{dec_le, dec_lt}
 use lib.IntN.{ℤ, pos, neg_ℤ, nat_abs, ◌+ℤ◌, ◌*ℤ◌, *ℤ_comm, +ℤ_idl}
 use lib.ListN.{length, get_or, take, drop, replicate, length-append, length-replicate, length-drop, take-append-drop, get_or-append, get_or-eq_default}
 use lib.Seq.{take-nil, get_or-take, get_or-drop, take-append-le, drop-append-le, take_all, take-add, drop-drop, take_at, drop_at, get_or-append-add, length-take-le}
+use lib.ListN.{set}
+use lib.Seq.{paste, paste-suc}
+use mathlib.Core.Logic.{inl}
+use mir.Syntax.{w32}
+use mir.Val.{to_z, of_z}
+use mir.Facts.{to_z-of_z}
+use Rattle.std.proofs.Common.{FitsSigned}
+use Rattle.mathematics.proofs.Signed.{back32, size_fits}
+use Rattle.mathematics.proofs.Pasted.{paste_outside}
+use Rattle.mathematics.proofs.Puts.{paste_put}
 use Rattle.mathematics.specs.Writing.{put}
 use Rattle.mathematics.proofs.Integers.{positive, negative, linear, the, ◌⊞◌, ⊖◌, times_one, minus_one_times}
 use Rattle.mathematics.proofs.Flat.{flatten_last, flatten_append}
@@ -80,10 +90,10 @@ pub beside_is : (y old list : List ℤ) (k : ℕ) → length list ≡ 256 → li
 beside_is y old list k long is = record { long = long; is = λ r h. ap (take (r * length y)) is ∙ repeated_put y old r k h }
 
 -- the first of them
-pub beside_one : (y list : List ℤ) (m : ℕ) → length y ≡ m → Beside y 1 list → take (m - 0) list ≡ y
+pub beside_one : (y list : List ℤ) (m : ℕ) → length y ≡ m → Beside y 1 list → take m list ≡ y
 unfolding repeated
 beside_one y list m long h =
-    let e : 1 * length y ≡ m - 0 = omega (arith, sub-zero m) in
+    let e : 1 * length y ≡ m = omega arith in
     rw e at (h.is 1 (omega arith))
 
 -- ---- cycles added to lists that follow each other
@@ -224,11 +234,45 @@ module _ (u old list : List ℤ) (at back number done more : ℕ) (may : Raisabl
         small = rw next_part (small_part (2 ^ 25) (raised old (at - back) (repeated u done)) (raised old (at - back + done * row_size) (repeated u more)) (raised old (at - back + length (repeated u (done + more))) (repeated u rest)) (rw all at may.small));
       }
 
+  pub more_room : at + done * length u + more * length u ≤ length old
+  more_room = omega (arith, may.room, repeated_long u number, mul-le-mul_right (length u) fits, add-mul done more (length u))
+
   pub raised_more : (new : List ℤ) → new ≡ put list (at + done * row_size) (raised list (at + done * row_size - back) (repeated u more)) → new ≡ put old at (raised old (at - back) (repeated u (done + more)))
   raised_more new made =
       made ∙ rw (next_part, is, ← done_long)
       (put_more old at (raised old (at - back) (repeated u done)) (raised old (at - back + length (raised old (at - back) (repeated u done))) (repeated u more)) (omega (arith, done_long, enough, counted)))
       ∙ ap (put old at) (ap (λ n. raised old (at - back) (repeated u done) ++ raised old (at - back + n) (repeated u more)) done_long ∙ sym both)
+
+-- ---- one entry more
+module _ (old : List ℤ) (at back : ℕ) (amounts : List ℤ) (may : Raisable old at back amounts) (list : List ℤ) (i : ℕ) (more : i < length amounts) (is : list ≡ paste old at (raised old (at - back) amounts) i) where
+  readable : at - back + length amounts ≤ length old
+  readable = omega (arith, may.before, may.apart, may.room)
+
+  abbrev value : ℤ
+  value = get_or list (at - back + i) (pos 0)
+
+  abbrev amount : ℤ
+  amount = get_or amounts i (pos 0)
+
+  raised_here : get_or (raised old (at - back) amounts) i (pos 0) ≡ value +ℤ amount
+  raised_here =
+      raised_at old (at - back) amounts readable i more
+      ∙ ap (λ x. x +ℤ amount)
+      (sym (ap (λ l. get_or l (at - back + i) (pos 0)) is ∙ paste_outside old at (raised old (at - back) amounts) i (pos 0) (omega (arith, may.room)) (omega (arith, raised_long old (at - back) amounts readable)) (at - back + i) (inl (omega (arith, may.before, may.apart)))))
+
+  module _ (x : FitsSigned w32 value) (y : FitsSigned w32 amount) where
+    pub sum_fits : FitsSigned w32 (to_z w32 (of_z w32 value) +ℤ to_z w32 (of_z w32 amount))
+    sum_fits = rw (back32 value x.sfits, back32 amount y.sfits, ← raised_here) (size_fits w32 (get_or (raised old (at - back) amounts) i (pos 0)) (omega (arith, may.small i)))
+
+    pub sum_pasted : set list (at + i) (to_z w32 (of_z w32 (to_z w32 (of_z w32 value) +ℤ to_z w32 (of_z w32 amount)))) ≡ paste old at (raised old (at - back) amounts) (i + 1)
+    sum_pasted =
+        rw (to_z-of_z sum_fits, back32 value x.sfits, back32 amount y.sfits, ← raised_here, is, add-one i)
+        (paste-suc old at (raised old (at - back) amounts) i (pos 0) (omega (arith, may.room)) (omega (arith, raised_long old (at - back) amounts readable)))
+
+pub raised_whole : (old : List ℤ) (at back : ℕ) (amounts : List ℤ) → Raisable old at back amounts → (list : List ℤ) (i : ℕ) → i ≡ length amounts → list ≡ paste old at (raised old (at - back) amounts) i → list ≡ put old at (raised old (at - back) amounts)
+raised_whole old at back amounts may list i all is =
+    let past : i ≡ length (raised old (at - back) amounts) = omega (arith, raised_long old (at - back) amounts (omega (arith, may.before, may.apart, may.room))) in
+    (rw past at is) ∙ paste_put old at (raised old (at - back) amounts)
 
 pub nothing_raised : (u old : List ℤ) (at from : ℕ) → old ≡ put old at (raised old from (repeated u 0))
 unfolding repeated raised with_cycle
@@ -328,23 +372,40 @@ module _ (s z y : List ℤ) (first_long : length z ≡ length s) (second_long : 
 
 -- ---- a block of which the rows from low to before high are made of those of the block before
 module _ (s z y : List ℤ) (first : Addable s (pos 0) z) (second : Addable s (pos 0) y) (list : List ℤ) (at : ℕ) (last : Span) (stands : RowsBefore list at (earlier s z y first.sized second.sized) z last) (from to low high : ℕ)
-    (over : from ≤ low) (among : last.from ≤ low) (some : low < high) (under : high ≤ to) (ends : high ≤ last.to) (bound : to ≤ 2 ^ 20) (enough : at + (to - from) * length s ≤ length list) where
+    (begins : low ≡ max from last.from) (stops : high ≡ min to last.to) (some : low < high) (bound : to ≤ 2 ^ 20) (enough : at + (to - from) * length s ≤ length list) where
+  over : from ≤ low
+  over = omega (arith, begins)
+
+  among : last.from ≤ low
+  among = omega (arith, begins)
+
+  pub under : high ≤ to
+  under = omega (arith, stops)
+
+  ends : high ≤ last.to
+  ends = omega (arith, stops)
+
   abbrev rows_of : ℕ → ℕ → List ℤ
   rows_of a b = flatten (block_rows s z a b)
 
   pub first_room : (low - from) * length s + (high - low) * length s + (to - high) * length s ≡ (to - from) * length s
   first_room =
-      let e : to - from ≡ low - from + (high - low) + (to - high) = omega arith in
+      let e : to - from ≡ low - from + (high - low) + (to - high) = omega (arith, over, under) in
       rw e (sym (add-mul (low - from + (high - low)) (to - high) (length s) ∙ ap (λ n. n + (to - high) * length s) (add-mul (low - from) (high - low) (length s))))
+
+  pub first_two : (high - from) * length s ≡ (low - from) * length s + (high - low) * length s
+  first_two =
+      let e : high - from ≡ low - from + (high - low) = omega (arith, over) in
+      rw e (add-mul (low - from) (high - low) (length s))
 
   pub back_is : (last.to - from) * length s ≡ (low - from) * length s + (last.to - low) * length s
   back_is =
-      let e : last.to - from ≡ low - from + (last.to - low) = omega arith in
+      let e : last.to - from ≡ low - from + (last.to - low) = omega (arith, over, ends) in
       rw e (add-mul (low - from) (last.to - low) (length s))
 
   pub before_at : (last.to - low) * length s ≤ at
   before_at =
-      let fewer : last.to - low ≤ last.to - last.from = omega arith in
+      let fewer : last.to - low ≤ last.to - last.from = omega (arith, among) in
       omega (arith, stands.ends, ap (λ n. (last.to - last.from) * n) (earlier_long s z y first.sized second.sized), mul-le-mul_right (length s) fewer)
 
   abbrev middle : ℕ
@@ -361,7 +422,7 @@ module _ (s z y : List ℤ) (first : Addable s (pos 0) z) (second : Addable s (p
     middle_rows =
         let e : low + (high - low) ≡ high = omega arith in
         ap (λ n. raised one n (repeated y (high - low))) source_is
-        ∙ next_rows s z y first.sized second.sized list at last stands one (rows_of from low) is low (high - low) among (omega arith)
+        ∙ next_rows s z y first.sized second.sized list at last stands one (rows_of from low) is low (high - low) among (omega (arith, ends))
         ∙ ap (rows_of low) e
 
     amounts_size : length (repeated y (high - low)) ≡ (high - low) * length s
@@ -370,12 +431,12 @@ module _ (s z y : List ℤ) (first : Addable s (pos 0) z) (second : Addable s (p
     pub middle_may : Raisable one middle back (repeated y (high - low))
     middle_may =
         let e : low + (high - low) ≡ high = omega arith in
-        let fewer : high - low ≤ last.to - low = omega arith in
+        let fewer : high - low ≤ last.to - low = omega (arith, ends) in
         record {
           before = omega (arith, back_is, before_at);
           apart = omega (arith, amounts_size, back_is, mul-le-mul_right (length s) fewer);
           room = omega (arith, amounts_size, first_room, long);
-          small = rw middle_rows (rw e at (rows_flat_small s z first low (high - low) (omega arith)));
+          small = rw middle_rows (rw e at (rows_flat_small s z first low (high - low) (omega (arith, under))));
         }
 
     module _ (two : List ℤ) (made : two ≡ put one middle (raised one (middle - back) (repeated y (high - low)))) where
@@ -388,11 +449,10 @@ module _ (s z y : List ℤ) (first : Addable s (pos 0) z) (second : Addable s (p
 
       pub all_written : (three : List ℤ) → three ≡ put two (at + (high - from) * length s) (rows_of high to) → three ≡ put list at (rows_of from to)
       all_written three last-is =
-          let e : high + (to - high) ≡ to = omega arith in
+          let e : high + (to - high) ≡ to = omega (arith, under) in
           let size = rows_long s z from high in
-          let split : (high - from) * length s ≡ (low - from) * length s + (high - low) * length s = let d : high - from ≡ low - from + (high - low) = omega arith in rw d (add-mul (low - from) (high - low) (length s)) in
-          last-is ∙ rw (middle_written, ← size) (put_more list at (rows_of from high) (rows_of high to) (omega (arith, size, split, first_room)))
-          ∙ ap (put list at) (sym (flatten_append (block_rows s z from high) (block_rows s z high to)) ∙ ap flatten (sym (rw e at (rows_split s z from high (to - high) (omega arith)))))
+          last-is ∙ rw (middle_written, ← size) (put_more list at (rows_of from high) (rows_of high to) (omega (arith, size, first_two, first_room)))
+          ∙ ap (put list at) (sym (flatten_append (block_rows s z from high) (block_rows s z high to)) ∙ ap flatten (sym (rw e at (rows_split s z from high (to - high) (omega (arith, over))))))
 
 -- ---- rows each made of the one before: those up to d stand at a place of a list, and one more goes behind them
 module _ (s z : List ℤ) (ready : Addable s (pos 0) z) (old list : List ℤ) (at from to d place : ℕ) (low : from < d) (more : d < to) (bound : to ≤ 2 ^ 20) (enough : at + (to - from) * length s ≤ length old)

@@ -1,46 +1,42 @@
 -- One run of the walk, as the code has it.
 use Prim.Native.Nat.{ℕ, ◌+◌, ◌-◌, ◌^◌, ◌≤◌, ◌<◌, min}
 use mathlib.Core.List.{List, ◌++◌}
-use mathlib.Core.Path.{◌≡◌, sym, ap, ◌∙◌}
+use mathlib.Core.Path.{◌≡◌, ap, ◌∙◌}
 use native.Mathlib.Omega.{arith}
-use native.Mathlib.Nat.{sub-zero}
 use lib.IntN.{ℤ}
-use lib.ListN.{length, take, drop, length-append}
+use lib.ListN.{length, take, drop}
 use Rattle.cycles.specs.Cycles.{row}
 use Rattle.walker.specs.declared.blocks.Span.{Span}
 use Rattle.walker.specs.Walker.{stepped, width, walked_states}
 use Rattle.walker.specs.Steps.{Small, CyclesFit, FreeFit, Walkable, Runs}
 use Rattle.walker.proofs.Stepping.{cycle_long, cycle_signs}
-use Rattle.runs.specs.Edges.{Edges, Listed}
+use Rattle.runs.specs.Edges.{Edges}
 use Rattle.runs.specs.Runs.{run_states, RunFit, SideSpan, Inside}
-use Rattle.runs.proofs.EdgeLists.{edges_listed}
 use Rattle.runs.proofs.Sides.{sides_inside, run_whole}
 use Rattle.runs.proofs.Walked.{run_some, this_run_fits, run_first}
 
 -- ---- the first two cycles as parts of the table
-module _ (free : List ℕ) (cycles : List ℤ) (L n : ℕ) (s : List ℤ) (k : ℕ) (fit : Walkable free cycles L n s k) where
-  pub first_part : take (length s - 0) cycles ≡ row (length s) cycles 0
-  first_part = rw (sub-zero (length s))
+module _ (m n L : ℕ) (cycles : List ℤ) (fit : CyclesFit m n L cycles) where
+  abbrev first : List ℤ
+  first = take m cycles
 
-  pub second_part : take (63 + length s - 63) (drop 63 cycles) ≡ row (length s) cycles 1
-  second_part = let e : 63 + length s - 63 ≡ length s = omega arith in rw e
+  abbrev second : List ℤ
+  second = take (63 + m - 63) (drop 63 cycles)
 
-  pub parts_ask : (length (take (length s - 0) cycles) ≤ 63) × (length (take (63 + length s - 63) (drop 63 cycles)) ≡ length (take (length s - 0) cycles))
-  parts_ask =
-      let long = cycle_long (length s) n L cycles fit.cycles_fit in
-      let one = ap length first_part ∙ long 0 (omega arith) in
-      let two = ap length second_part ∙ long 1 (omega arith) in
-      (omega (arith, one, fit.cycles_fit.edges_few), two ∙ sym one)
+  second_part : second ≡ row m cycles 1
+  second_part = let e : 63 + m - 63 ≡ m = omega arith in rw e
 
-  pub parts_signs : Small 1 (take (length s - 0) cycles) × Small 1 (take (63 + length s - 63) (drop 63 cycles))
-  parts_signs =
-      let signs = cycle_signs (length s) n L cycles fit.cycles_fit in
-      (rw first_part (signs 0 (omega arith)), rw second_part (signs 1 (omega arith)))
+  pub first_long : length first ≡ m
+  first_long = cycle_long m n L cycles fit 0 (omega arith)
 
-  -- their edges of one kind
-  pub edges_here : {kind : ℕ} {list : List ℕ} {count : ℕ} → Edges (take (length s - 0) cycles) (take (63 + length s - 63) (drop 63 cycles)) kind (length (take (length s - 0) cycles)) list count
-      → Edges (take (length s - 0) cycles) (take (63 + length s - 63) (drop 63 cycles)) kind (length s) list count
-  edges_here h = rw (ap length first_part ∙ cycle_long (length s) n L cycles fit.cycles_fit 0 (omega arith)) at h
+  pub second_long : length second ≡ m
+  second_long = ap length second_part ∙ cycle_long m n L cycles fit 1 (omega arith)
+
+  pub first_signs : Small 1 first
+  first_signs = cycle_signs m n L cycles fit 0 (omega arith)
+
+  pub second_signs : Small 1 second
+  second_signs = rw second_part (cycle_signs m n L cycles fit 1 (omega arith))
 
 -- ---- the run
 module _ (free : List ℕ) (cycles : List ℤ) (L n : ℕ) (s : List ℤ) (left : ℕ) (fit : Walkable free cycles L n s left) (runs : Runs free cycles L n s) (more : 0 < left) (run : ℕ) (is : run ≡ min left (width L (n - 1)))
@@ -50,16 +46,6 @@ module _ (free : List ℕ) (cycles : List ℤ) (L n : ℕ) (s : List ℤ) (left 
 
   pub step_may : CyclesFit (length s) n L cycles × FreeFit (length s) n free × Small (2 ^ 20) s
   step_may = (fit.cycles_fit, fit.free_fit, run_fits.start)
-
-  pub span_asks : Listed (length s) still a × Listed (length s) side b × (length y ≡ length s) × Small (2 ^ 20) s × Small 1 y × (L ≤ 1000)
-  span_asks = (
-    edges_listed z y 0 (length s) run_fits.edges_few still a rests,
-    edges_listed z y 1 (length s) run_fits.edges_few side b goes,
-    run_fits.second_long,
-    run_fits.start,
-    run_fits.second_signs,
-    run_fits.truncation,
-  )
 
   pub fewer_left : (run ≤ left) × (left - run < left)
   fewer_left = let some = run_some free cycles L n s left fit runs more run is in (some.0, omega (arith, some.0, some.1))
@@ -95,6 +81,3 @@ module _ (free : List ℕ) (cycles : List ℤ) (L n : ℕ) (s : List ℤ) (left 
       turn_states =
           let whole : run_states L (width L n) s (row (length s) cycles 0) (row (length s) cycles 1) 0 run ≡ these = rw (← first, ← second) (run_whole L s z y run_fits.edges_few run_fits.first_signs run_fits.first_long run_fits.second_long still side a b run rests goes r spans (width L n)) in
           run_first free cycles L n s left fit runs more run is new made ∙ ap (λ l. l ++ rest) whole
-
-      pub turn_counts : length (walked_states free (row (length s) cycles) L n s left) ≡ length these + length rest
-      turn_counts = ap length turn_states ∙ length-append these rest

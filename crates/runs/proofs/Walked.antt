@@ -32,7 +32,7 @@ module _ (free : List ℕ) (cycle : ℕ → List ℤ) (L n : ℕ) where
       (sym (between_next (λ i. block L (width L n) (with_cycle s (pos i) (cycle 1)) (cycle 0)) 0 k (omega arith)))
 
   -- ---- a step keeps the length
-  counted_long : (k j : ℕ) (s : List ℤ) → length (stepped free cycle L k j s) ≡ length s
+  pub counted_long : (k j : ℕ) (s : List ℤ) → length (stepped free cycle L k j s) ≡ length s
   unfolding stepped counted_up
   counted_long zero j s = refl
   counted_long (suc k) j s = go (counted_long k (suc j) (with_cycle s (neg_ℤ (pos (2 * L))) (cycle j))) (lt_z (get_or s (get_or free j 0) (pos 0)) (pos L))

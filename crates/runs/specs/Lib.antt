@@ -2,3 +2,5 @@ pub mod Edges
 pub mod Kinds
 pub mod Rows
 pub mod Runs
+pub mod Tables
+pub mod TablesOf

@@ -8,8 +8,7 @@ ghost use Rattle.runs.specs.Edges.{Listed, Judged, picked};
 ghost use Rattle.runs.specs.Kinds.{KindsOf};
 
 use numbers::edge_list::EdgeList;
-use walker::blocks::{Span, within};
-use walker::steps::plus_times;
+use walker::blocks::within;
 
 // The edges that neither cycle moves, those that the second alone moves, and those that the first moves.
 #[derive(Clone, Copy)]
@@ -52,27 +51,4 @@ pub fn all_within(config: &[i32], list: &[u8], lambda: usize) -> bool
         }
     }
     true
-}
-
-// The multiples of a cycle that keep the values on listed edges within the bounds, below a width. Before that another cycle is added to the
-// values some times, 0 where it is not.
-pub fn span_over(
-    config: &[i32],
-    other: &[i8],
-    times: i32,
-    cycle: &[i8],
-    list: &[u8],
-    lambda: usize,
-    width: usize,
-) -> Span
-    requires { Listed (length config.now) list.now (length list.now) × (length cycle.now ≡ length config.now) × Addable config.now times other.now × Small (2 ^ 20) (with_cycle config.now times other.now) × Small 1 cycle.now × (lambda ≤ 1000) }
-    ensures { SpanTo lambda width (picked list.now (length list.now) (with_cycle config.now times other.now)) (picked list.now (length list.now) cycle.now) (length list.now) result }
-{
-    let mut span = Span { from: 0, to: width };
-    for edge in list {
-        let e = usize::from(*edge);
-        let x = plus_times(config[e], times, other[e]);
-        span = span.narrow(x, cycle[e], lambda, width);
-    }
-    span
 }

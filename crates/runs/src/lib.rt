@@ -4,34 +4,58 @@
 pub mod edges;
 pub mod rows;
 pub mod run;
-pub mod walk;
+pub mod tables;
 
 ghost use Rattle.std.specs.Prelude.{◌≡◌, ◌*◌, ◌≤◌, length};
 ghost use Rattle.walker.specs.Tables.{states_of, Fit};
 ghost use Rattle.walker.specs.Blocks.{StatesWritten};
 
-use crate::walk::{count_blocks, write_blocks};
+use crate::run::run_width;
+use crate::tables::RunTables;
 use numbers::sizes::MOST_EDGES;
 use walker::tables::Walker;
 
-// How many states the first blocks have.
-#[tactic(auto, unfolding(walker::specs::Tables::begin_of, walker::specs::Tables::states_of))]
+// How many states the first blocks have. The last run may have fewer blocks, so the loop counts what is left.
 pub fn count_states(w: &Walker, lambda: usize, blocks: usize) -> usize
     requires { Fit w.now lambda blocks }
     ensures { result ≡ length (states_of w.now lambda blocks) }
 {
+    let tables = RunTables::of(w, lambda);
+    let wide = run_width(w.n_free, lambda);
     let mut space = w.first;
-    count_blocks(w, &mut space[..w.n_edges], lambda, blocks)
+    let config = &mut space[..w.n_edges];
+    let mut count = 0;
+    let mut left = blocks;
+    while 0 < left {
+        let run = left.min(wide);
+        let span = tables.span(config, run);
+        count += tables.count(config, span);
+        w.step(config, lambda, 2);
+        left -= run;
+    }
+    count
 }
 
-// The states of the first blocks go to the beginning of a list. How many they are.
-#[tactic(auto, unfolding(walker::specs::Tables::begin_of, walker::specs::Tables::states_of))]
+// The states of the first blocks go to the beginning of a list. How many they are. The loop counts as in count_states.
 pub fn write_states(w: &Walker, lambda: usize, blocks: usize, states: &mut [i32]) -> usize
     requires { Fit w.now lambda blocks × (length (states_of w.now lambda blocks) * w.now.n_edges ≤ length states.old) }
     ensures { StatesWritten (states_of w.now lambda blocks) states.old states.new result }
 {
+    let tables = RunTables::of(w, lambda);
+    let wide = run_width(w.n_free, lambda);
     let m = w.n_edges;
     let mut space = w.first;
-    let mut row = [0i32; MOST_EDGES];
-    write_blocks(w, &mut space[..m], lambda, blocks, states, &mut row[..m])
+    let config = &mut space[..m];
+    let mut rows = [0i32; MOST_EDGES];
+    let row = &mut rows[..m];
+    let mut count = 0;
+    let mut left = blocks;
+    while 0 < left {
+        let run = left.min(wide);
+        let span = tables.span(config, run);
+        count += tables.write(states, count * m, row, config, span);
+        w.step(config, lambda, 2);
+        left -= run;
+    }
+    count
 }

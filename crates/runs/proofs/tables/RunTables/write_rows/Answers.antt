@@ -1,0 +1,68 @@
+use Rattle.std.proofs.Common.{◌≡◌, ◌+◌, ◌-◌, ◌≤◌, ◌<◌, length, sym, ap, ◌∙◌, arith, rules}
+use mathlib.Core.List.{flatten}
+use Rattle.mathematics.specs.Writing.{put}
+use Rattle.mathematics.proofs.Puts.{put_none}
+use Rattle.walker.specs.Walker.{block_rows}
+use Rattle.walker.proofs.BlockRows.{rows_none, row_room, row_after}
+use Rattle.runs.proofs.Raising.{beside_one, first_row, row_may, row_written}
+use Rattle.runs.proofs.tables.RunTables.write_rows.Goals as goal
+
+pub returns-then-is_empty : goal.returns-then-is_empty
+unfolding flatten
+returns-then-is_empty c =
+    let s = c.args in
+    let low : s.span.to ≤ s.span.from = c.is_empty.ensures.0 (search rules) in
+    let none : s.span.to - s.span.from ≡ 0 = omega arith in
+    rw (rows_none s.config.now s.self.now.first.now s.span.from s.span.to none) (sym (put_none s.states.now s.at))
+
+pub write_row-requires : goal.write_row-requires
+write_row-requires c =
+    let s = c.args in
+    let some : s.span.from < s.span.to = search (rules, c.is_empty.ensures.1) in
+    (c.requires.0, omega (arith, c.requires.1), omega (arith, c.requires.2, row_room s.span.from s.span.from s.span.to (length s.config.now) (omega arith) some))
+
+pub loop-init : goal.loop-init
+loop-init c =
+    let s = c.args in
+    let one : s.span.from + 1 - s.span.from ≡ 1 = omega arith in
+    record {
+      place = rw one (omega arith);
+      long = c.write_row.auto.states;
+      list = c.write_row.ensures ∙ ap (put s.states.now s.at) (first_row s.config.now s.self.now.first.now s.span.from);
+    }
+
+pub overflow_add-place : goal.overflow_add-place
+overflow_add-place c =
+    let s = c.args in
+    let low = c.loop.auto.counter in
+    let enough = c.requires.2 in
+    let place = c.loop.invariant.place in
+    let room = row_room s.span.from c.loop.counter s.span.to (length s.config.now) (omega arith) (omega arith) in
+    search rules
+
+pub raise-requires : goal.raise-requires
+raise-requires c =
+    let s = c.args in
+    let low = c.loop.auto.counter in
+    rw (beside_one _ _ (length s.config.now) c.requires.0.sized s.self.now.fits.once)
+    (row_may s.config.now s.self.now.first.now c.requires.0 s.states.now c.loop.states s.at s.span.from s.span.to c.loop.counter (c.loop.place + length s.config.now) (omega arith) (omega arith) c.requires.1 c.requires.2 c.loop.invariant.long c.loop.invariant.place c.loop.invariant.list)
+
+pub loop-preserved : goal.loop-preserved
+loop-preserved c =
+    let s = c.args in
+    let low = c.loop.auto.counter in
+    let made = rw (beside_one _ _ (length s.config.now) c.requires.0.sized s.self.now.fits.once) at c.raise.ensures in
+    record {
+      place = omega (arith, c.loop.invariant.place, row_after s.span.from c.loop.counter (length s.config.now) (omega arith));
+      long = c.raise.auto.states ∙ c.loop.invariant.long;
+      list = row_written s.config.now s.self.now.first.now c.requires.0 s.states.now c.loop.states s.at s.span.from s.span.to c.loop.counter (c.loop.place + length s.config.now) (omega arith) (omega arith) c.requires.1 c.requires.2 c.loop.invariant.long c.loop.invariant.place c.loop.invariant.list _ made;
+    }
+
+pub returns : goal.returns
+returns c =
+    let s = c.args in
+    let some : s.span.from < s.span.to = search (rules, c.is_empty.ensures.1) in
+    let low = c.loop.auto.counter in
+    let high = c.loop.auto.counter-end in
+    let all : c.loop.counter ≡ s.span.to = omega arith in
+    c.loop.invariant.list ∙ ap (λ d. put s.states.now s.at (flatten (block_rows s.config.now s.self.now.first.now s.span.from d))) all
