@@ -11,7 +11,7 @@ use lib.Dec.{ltb}
 use lib.IntN.{ℤ}
 use lib.Ieee.{Float}
 use lib.ListN.{get_or, length, set, take, length-set, replicate, length-replicate, get_or-replicate, get_or-eq_default}
-use lib.Seq.{paste, length-take-le, get_or-set_same, get_or-set_other}
+use lib.Seq.{paste, get_or-take, length-take-le, get_or-set_same, get_or-set_other}
 use Rattle.matrices.specs.Squares.{squares, energy}
 use Rattle.rows.specs.Entries.{pairs}
 use Rattle.rows.specs.Row.{ColumnsDiffer, Sorted}
@@ -19,25 +19,34 @@ use Rattle.rows.specs.RowLists.{RowAppended, RowsWritten, RowFits}
 use Rattle.rows.proofs.RowsWritten.{row_copied, none_written}
 use Rattle.rows.proofs.SortedRows.{fits_at, added_next, added_written}
 use Rattle.hilbert.specs.Search.{row}
+use Rattle.moves.specs.declared.row.RowRoom.{RowRoom}
+use Rattle.rows.proofs.Pairs.{pairs_length}
 use Rattle.moves.specs.Numbers.{lower, number_in}
 use Rattle.moves.specs.Moves.{tables, collected, pointed, Pointers}
-use Rattle.moves.proofs.Collecting.{pointed_pointers}
+use Rattle.moves.proofs.Collecting.{pointed_pointers, collected_agree, pointed_agree}
 use Rattle.csr.specs.Fill.{Walk, walk_of, entries_from, pointers_after, pointers_at, walk_entries, RowFound, RowDone, WalkAt, Writable}
 
--- what was collected for state i is sorted
-module _ (v : Walk) (i : ℕ) (pointers : List ℕ) (s : List ℤ) (a : ℕ) (x : Float) (s_is : s ≡ v.state i) (a_is : a ≡ v.numbers i) (x_is : x ≡ energy v.electric (squares (v.state i)))
-    (l : List (ℕ × Float)) (found : l ≡ collected v.moves v.truncation v.numbers v.states s a pointers i x v.count) where
+-- what was collected for state i, by the words of the states alone, is sorted
+module _ (v : Walk) (words : List ℕ) (numbers_are : number_in words ≡ v.numbers) (n : ℕ) (n_is : n ≡ v.states) (i : ℕ) (pointers : List ℕ) (s : List ℤ) (a : ℕ) (x : Float) (s_is : s ≡ v.state i) (a_is : a ≡ v.numbers i)
+    (x_is : x ≡ energy v.electric (squares (v.state i))) (l : List (ℕ × Float)) (found : l ≡ collected v.moves v.truncation (number_in (take v.states words)) n s a pointers i x v.count) where
+  same_numbers : (q : ℕ) → q < v.states → number_in (take v.states words) q ≡ v.numbers q
+  same_numbers q h = ap lower (get_or-take v.states words q 0 h) ∙ ap (λ f. f q) numbers_are
+
   entries_are : l ≡ entries_from v pointers i
   unfolding entries_from
-  entries_are = found ∙ rw (s_is, a_is, x_is)
+  entries_are = found ∙ rw (n_is, collected_agree v.moves v.truncation (number_in (take v.states words)) v.numbers v.states same_numbers s a pointers i x v.count, s_is, a_is, x_is)
 
   pub collected_differ : ColumnsDiffer (entries_from v pointers i) → ColumnsDiffer l
   collected_differ differ = rw entries_are differ
 
   pub row_found : (r : ℕ) (new : List (ℕ × Float)) (pointers' : List ℕ) → Sorted l (take r new)
-      → pointers' ≡ pointed v.moves v.truncation v.numbers v.states s a pointers v.count → RowFound v i pointers r pointers' new
+      → pointers' ≡ pointed v.moves v.truncation (number_in (take v.states words)) n s a pointers v.count → RowFound v i pointers r pointers' new
   unfolding pointers_after
-  row_found r new pointers' sorted moved = record { is = rw (← entries_are) sorted; pointers_are = moved ∙ rw (s_is, a_is) }
+  row_found r new pointers' sorted moved =
+      record {
+        is = rw (← entries_are) sorted;
+        pointers_are = moved ∙ rw (n_is, pointed_agree v.moves v.truncation (number_in (take v.states words)) v.numbers v.states same_numbers s a pointers v.count, s_is, a_is);
+      }
 
 -- and its copy behind the rows before it
 pub row_done : (v : Walk) (i at : ℕ) (pointers words columns : List ℕ) (values : List Float) (r : ℕ) (pointers' row_columns : List ℕ) (row_values : List Float) (words' columns' : List ℕ) (values' : List Float)
@@ -58,11 +67,25 @@ row_done v i at pointers words columns values r pointers' row_columns row_values
     }
 
 -- a row for which there is room
-pub found_fits : (v : Walk) (i at r columns_room values_room : ℕ) (pointers pointers' : List ℕ) (new : List (ℕ × Float)) → RowFound v i pointers r pointers' new → r ≤ length new
+found_fits : (v : Walk) (i at r columns_room values_room : ℕ) (pointers pointers' : List ℕ) (new : List (ℕ × Float)) → RowFound v i pointers r pointers' new → r ≤ length new
     → RowFits (entries_from v pointers i) at columns_room values_room → (at + r ≤ columns_room) × (at + r ≤ values_room) × (at + r < 2 ^ 32)
 found_fits v i at r columns_room values_room pointers pointers' new found room fits =
     let long : r ≡ length (entries_from v pointers i) = sym (length-take-le r new room) ∙ found.is.same.count in
     (omega (arith, long, fits.columns_fit), omega (arith, long, fits.values_fit), omega (arith, long, fits.small))
+
+-- a row of the room, for which there is room in two lists
+module _ (v : Walk) (i at r columns_room values_room : ℕ) (pointers : List ℕ) (room : RowRoom) (found : RowFound v i pointers r room.pointers (pairs room.columns room.values)) (few : r ≤ v.count + 1) (moves_few : v.count ≤ 512)
+    (fits : RowFits (entries_from v pointers i) at columns_room values_room) where
+  front : r ≤ length (pairs room.columns room.values)
+  front = omega (arith, few, moves_few, room.columns_long, pairs_length room.columns room.values (room.columns_long ∙ sym room.values_long))
+
+  pub room_fits : (r ≤ length room.columns) × (r ≤ length room.values) × (at + r ≤ columns_room) × (at + r ≤ values_room)
+  room_fits =
+      let there = found_fits v i at r columns_room values_room pointers room.pointers (pairs room.columns room.values) found front fits in
+      (omega (arith, few, moves_few, room.columns_long), omega (arith, few, moves_few, room.values_long), there.0, there.1)
+
+  pub row_small : at + r < 2 ^ 32
+  row_small = (found_fits v i at r columns_room values_room pointers room.pointers (pairs room.columns room.values) found front fits).2
 
 -- ---- row after row
 lower_kept : (x n : ℕ) → lower (x + 1048576 * n) ≡ lower x

@@ -1,3 +1,4 @@
 pub mod Csr
 pub mod Fill
 pub mod Words
+pub mod Views

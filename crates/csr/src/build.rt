@@ -10,7 +10,7 @@ ghost use Rattle.triangles.specs.Indices.{AllSides};
 ghost use Rattle.entries.specs.Rows.{csr_row, csr_entries};
 ghost use Rattle.csr.specs.Csr.{csr_call};
 
-use crate::fill::write_rows;
+use crate::fill::RowTables;
 use crate::words::{write_numbers, write_starts};
 use answers::refusal::Refusal;
 use complex::SimplicialComplex;
@@ -18,17 +18,19 @@ use entries::count::count_rows;
 use enumeration::basis::Basis;
 use matrices::coupling::{KSParams, is_u1};
 use matrices::weights::accept_weights;
-use moves::tables::write_moves;
+use moves::number::Digits;
+use moves::row::MoveTables;
+use moves::tables::MoveLists;
 use plaquettes::target::{Sizes, list_states};
 use triangles::all_sides;
 
-// The rows of all states go to the beginning of three lists. Another list begins with the states.
-fn write_lists(
+// The rows of all states go to the beginning of three lists. Another list begins with the states. All stand apart, as the caller lends them.
+fn write_lists<'x>(
     c: SimplicialComplex,
-    all: &[u8; 768],
+    all: &'x [u8; 768],
     p: KSParams,
     weights: Option<&[f64]>,
-    list: &[i32],
+    list: &'x [i32],
     s: Sizes,
     free: &[u8; 63],
     starts: &mut [u32],
@@ -38,24 +40,28 @@ fn write_lists(
     requires { BasisList (complex_of c) list.now s free.now × AllSides (complex_of c) all.now × ((2 * s.lambda + 1) ^ s.free ≤ 1048576) × Weighed (length (complex_of c).triangles) (is_given weights) (given_list weights) × (s.states < length starts.old) × (csr_entries (complex_of c) s.lambda p (weight (is_given weights) (given_list weights)) ≤ length columns.old) × (csr_entries (complex_of c) s.lambda p (weight (is_given weights) (given_list weights)) ≤ length values.old) }
     ensures { RowsWritten (csr_row (complex_of c) s.lambda p (weight (is_given weights.entry) (given_list weights.entry))) s.states (csr_entries (complex_of c) s.lambda p (weight (is_given weights.entry) (given_list weights.entry))) starts.old columns.old values.old starts.new columns.new values.new }
 {
-    let mut keys = [0u32; 512];
-    let mut terms = [0.0f64; 512];
-    write_moves(
-        c, all, p, weights, free, s.free, s.lambda, s.states, &mut keys, &mut terms,
-    );
-    write_numbers(list, s, free, starts);
-    write_rows(
+    let digits = Digits {
+        free,
+        n: s.free,
+        lambda: s.lambda,
+    };
+    let lists = MoveLists::of(c, all, p, weights, digits, s.states);
+    let n_moves = 2 * c.n_triangles;
+    let keys = &lists.keys[..n_moves];
+    let terms = &lists.terms[..n_moves];
+    let rows = RowTables {
         list,
-        s,
-        p.electric,
-        all,
-        &keys,
-        &terms,
-        2 * c.n_triangles,
-        starts,
-        columns,
-        values,
-    );
+        sizes: s,
+        electric: p.electric,
+        moves: MoveTables {
+            all,
+            keys,
+            terms,
+            lambda: s.lambda,
+        },
+    };
+    write_numbers(list, s, digits, starts);
+    rows.write_rows(starts, columns, values);
     write_starts(starts, s.states);
 }
 

@@ -5,134 +5,74 @@ ghost use Rattle.rows.specs.Row.{ColumnsDiffer};
 ghost use Rattle.rows.specs.RowLists.{RowFits};
 ghost use Rattle.plaquettes.specs.Rows.{SmallRows};
 ghost use Rattle.moves.specs.Moves.{Pointers};
-ghost use Rattle.csr.specs.Fill.{walk_of, entries_from, Walking, RowFound, RowDone, WalkAt, Writable};
+ghost use Rattle.csr.specs.Fill.{entries_from, Walking, RowFound, RowDone, WalkAt, Writable};
+ghost use Rattle.csr.specs.Views.{walk_by};
 
 use crate::words::set_length;
-use moves::row::collect_row;
+use moves::row::{MoveTables, RowRoom, RowState};
 use moves::seek::lower;
 use plaquettes::rows::{row_at, row_energy};
 use plaquettes::target::Sizes;
 use rows::lists::copy_row;
 use rows::row::sort_row;
 
-// The row of state i, found by the moves of its state. How many entries it has is told.
-fn find_row(
-    list: &[i32],
-    s: Sizes,
-    i: usize,
-    electric: f64,
-    all: &[u8; 768],
-    keys: &[u32; 512],
-    terms: &[f64; 512],
-    n_moves: usize,
-    words: &[u32],
-    pointers: &mut [usize],
-    row_columns: &mut [u32],
-    row_values: &mut [f64],
-) -> usize
-    requires { Walking (walk_of all.now keys.now terms.now n_moves s.lambda words.now s.states list.now s.edges electric) × SmallRows list.now s.states s.edges × (i < s.states) × (s.states ≤ length words.now) × Pointers s.states pointers.old × (n_moves < length row_columns.old) × (length row_columns.old ≡ length row_values.old) × ColumnsDiffer (entries_from (walk_of all.now keys.now terms.now n_moves s.lambda words.now s.states list.now s.edges electric) pointers.old i) }
-    ensures { RowFound (walk_of all.now keys.now terms.now n_moves s.lambda words.now s.states list.now s.edges electric) i pointers.old result pointers.new (pairs row_columns.new row_values.new) × (result ≤ n_moves + 1) }
-{
-    let diagonal = row_energy(list, s.edges, i, electric);
-    let number = lower(words[i]);
-    let state = row_at(list, s.edges, i);
-    let found = collect_row(
-        state,
-        i,
-        diagonal,
-        s.lambda,
-        all,
-        keys,
-        terms,
-        n_moves,
-        words,
-        s.states,
-        number,
-        pointers,
-        row_columns,
-        row_values,
-    );
-    sort_row(row_columns, row_values, found);
-    found
+// What each row is made of: a list that begins with the states, its sizes, the electric factor and the moves.
+#[derive(Clone, Copy)]
+pub struct RowTables<'a> {
+    pub list: &'a [i32],
+    pub sizes: Sizes,
+    pub electric: f64,
+    pub moves: MoveTables<'a>,
 }
 
-// The row of state i goes to two lists, from a place on, and its length to the upper bits of its word. Where the next begins is told.
-fn add_row(
-    list: &[i32],
-    s: Sizes,
-    i: usize,
-    electric: f64,
-    all: &[u8; 768],
-    keys: &[u32; 512],
-    terms: &[f64; 512],
-    n_moves: usize,
-    words: &mut [u32],
-    pointers: &mut [usize],
-    row_columns: &mut [u32],
-    row_values: &mut [f64],
-    at: usize,
-    columns: &mut [u32],
-    values: &mut [f64],
-) -> usize
-    requires { Walking (walk_of all.now keys.now terms.now n_moves s.lambda words.old s.states list.now s.edges electric) × SmallRows list.now s.states s.edges × (i < s.states) × (s.states ≤ length words.old) × Pointers s.states pointers.old × (n_moves < length row_columns.old) × (length row_columns.old ≡ length row_values.old) × ColumnsDiffer (entries_from (walk_of all.now keys.now terms.now n_moves s.lambda words.old s.states list.now s.edges electric) pointers.old i) × (get_or words.old i 0 < 2 ^ 20) × RowFits (entries_from (walk_of all.now keys.now terms.now n_moves s.lambda words.old s.states list.now s.edges electric) pointers.old i) at (length columns.old) (length values.old) }
-    ensures { RowDone (walk_of all.now keys.now terms.now n_moves s.lambda words.old s.states list.now s.edges electric) i at pointers.old words.old columns.old values.old result pointers.new words.new columns.new values.new }
-{
-    let count = find_row(
-        list,
-        s,
-        i,
-        electric,
-        all,
-        keys,
-        terms,
-        n_moves,
-        words,
-        pointers,
-        row_columns,
-        row_values,
-    );
-    copy_row(row_columns, row_values, count, at, columns, values);
-    set_length(words, i, count);
-    at + count
-}
-
-// The rows of all states go to the beginning of two lists, and their lengths to the upper bits of the words.
-pub fn write_rows(
-    list: &[i32],
-    s: Sizes,
-    electric: f64,
-    all: &[u8; 768],
-    keys: &[u32; 512],
-    terms: &[f64; 512],
-    n_moves: usize,
-    words: &mut [u32],
-    columns: &mut [u32],
-    values: &mut [f64],
-)
-    requires { SmallRows list.now s.states s.edges × Writable (walk_of all.now keys.now terms.now n_moves s.lambda words.old s.states list.now s.edges electric) words.old (length columns.old) (length values.old) }
-    ensures { (at : ℕ) × (pointers : List ℕ) × WalkAt (walk_of all.now keys.now terms.now n_moves s.lambda words.old s.states list.now s.edges electric) words.old columns.old values.old s.states at pointers words.new columns.new values.new }
-{
-    let mut pointers = [0usize; 512];
-    let mut row_columns = [0u32; 513];
-    let mut row_values = [0.0f64; 513];
-    let mut at = 0;
-    for i in 0..s.states {
-        at = add_row(
-            list,
-            s,
+impl RowTables<'_> {
+    // The row of state i, found by the moves of its state. How many entries it has is told.
+    fn find_row(&self, i: usize, words: &[u32], room: &mut RowRoom) -> usize
+        requires { Walking (walk_by self.now words.now) × SmallRows self.now.list.now self.now.sizes.states self.now.sizes.edges × (length self.now.moves.terms.now ≡ length self.now.moves.keys.now) × (i < self.now.sizes.states) × (self.now.sizes.states ≤ length words.now) × Pointers self.now.sizes.states room.old.pointers × ColumnsDiffer (entries_from (walk_by self.now words.now) room.old.pointers i) }
+        ensures found { RowFound (walk_by self.now words.now) i room.old.pointers result room.new.pointers (pairs room.new.columns room.new.values) }
+        ensures few { result ≤ length self.now.moves.keys.now + 1 }
+    {
+        let s = self.sizes;
+        let row = RowState {
             i,
-            electric,
-            all,
-            keys,
-            terms,
-            n_moves,
-            words,
-            &mut pointers,
-            &mut row_columns,
-            &mut row_values,
-            at,
-            columns,
-            values,
-        );
+            state: row_at(self.list, s.edges, i),
+            number: lower(words[i]),
+            diagonal: row_energy(self.list, s.edges, i, self.electric),
+        };
+        let found = self.moves.collect_row(row, &words[..s.states], room);
+        sort_row(&mut room.columns, &mut room.values, found);
+        found
+    }
+
+    // The row of state i goes to two lists, from a place on, and its length to the upper bits of its word. Where the next begins is told. The two lists stand
+    // apart, as the caller lends them.
+    fn add_row(
+        &self,
+        i: usize,
+        words: &mut [u32],
+        room: &mut RowRoom,
+        at: usize,
+        columns: &mut [u32],
+        values: &mut [f64],
+    ) -> usize
+        requires { Walking (walk_by self.now words.old) × SmallRows self.now.list.now self.now.sizes.states self.now.sizes.edges × (length self.now.moves.terms.now ≡ length self.now.moves.keys.now) × (i < self.now.sizes.states) × (self.now.sizes.states ≤ length words.old) × Pointers self.now.sizes.states room.old.pointers × ColumnsDiffer (entries_from (walk_by self.now words.old) room.old.pointers i) × (get_or words.old i 0 < 2 ^ 20) × RowFits (entries_from (walk_by self.now words.old) room.old.pointers i) at (length columns.old) (length values.old) }
+        ensures { RowDone (walk_by self.now words.old) i at room.old.pointers words.old columns.old values.old result room.new.pointers words.new columns.new values.new }
+    {
+        let count = self.find_row(i, words, room);
+        copy_row(&room.columns, &room.values, count, at, columns, values);
+        set_length(words, i, count);
+        at + count
+    }
+
+    // The rows of all states go to the beginning of two lists, and their lengths to the upper bits of the words. By number: state i and its word go together.
+    pub fn write_rows(&self, words: &mut [u32], columns: &mut [u32], values: &mut [f64])
+        requires { SmallRows self.now.list.now self.now.sizes.states self.now.sizes.edges × (length self.now.moves.terms.now ≡ length self.now.moves.keys.now) × Writable (walk_by self.now words.old) words.old (length columns.old) (length values.old) }
+        ensures { (at : ℕ) × (pointers : List ℕ) × WalkAt (walk_by self.now words.old) words.old columns.old values.old self.now.sizes.states at pointers words.new columns.new values.new }
+    {
+        let mut room = RowRoom::new();
+        let mut at = 0;
+        for i in 0..self.sizes.states {
+            at = self.add_row(i, words, &mut room, at, columns, values);
+        }
     }
 }

@@ -5,7 +5,7 @@ ghost use Rattle.plaquettes.specs.Rows.{SmallRows};
 ghost use Rattle.moves.specs.Numbers.{number, Numbered};
 ghost use Rattle.csr.specs.Words.{upper, begins, FirstWords};
 
-use moves::number::number;
+use moves::number::Digits;
 use plaquettes::rows::row_at;
 use plaquettes::target::Sizes;
 
@@ -17,13 +17,13 @@ pub fn set_length(words: &mut [u32], i: usize, count: usize)
     words[i] = words[i] + 1048576 * (count as u32);
 }
 
-// The numbers of the states of a list go to the words.
-pub fn write_numbers(list: &[i32], s: Sizes, free: &[u8; 63], words: &mut [u32])
-    requires { SmallRows list.now s.states s.edges × ((i : ℕ) → i < s.states → Numbered s.lambda s.lambda free.now s.free (row s.edges list.now i)) × (s.states ≤ length words.old) }
-    ensures { FirstWords (λ i. number s.lambda s.lambda free.now s.free (row s.edges list.now i)) s.states words.old words.new }
+// The numbers of the states of a list go to the words. By number: state i and word i go together.
+pub fn write_numbers(list: &[i32], s: Sizes, digits: Digits<'_>, words: &mut [u32])
+    requires { SmallRows list.now s.states s.edges × ((i : ℕ) → i < s.states → Numbered digits.lambda digits.lambda digits.free.now digits.n (row s.edges list.now i)) × (s.states ≤ length words.old) }
+    ensures { FirstWords (λ i. number digits.entry.lambda digits.entry.lambda digits.entry.free.now digits.entry.n (row s.edges list.now i)) s.states words.old words.new }
 {
     for i in 0..s.states {
-        let x = number(row_at(list, s.edges, i), free, s.free, s.lambda, s.lambda);
+        let x = digits.number(row_at(list, s.edges, i), digits.lambda);
         words[i] = x as u32;
     }
 }
@@ -34,9 +34,9 @@ pub fn write_starts(words: &mut [u32], n: usize)
     ensures { FirstWords (begins (upper words.old)) (n + 1) words.old words.new }
 {
     let mut at = 0;
-    for i in 0..n {
-        let count = words[i] / 1048576;
-        words[i] = at;
+    for word in words[..n].iter_mut() {
+        let count = *word / 1048576;
+        *word = at;
         at += count;
     }
     words[n] = at;

@@ -2,6 +2,8 @@
 use Prim.Native.Nat.{ℕ, zero, suc, ◌+◌, ◌-◌, ◌<◌, ◌≤◌, min}
 use mathlib.Core.List.{List, append-nil}
 use mathlib.Core.Bool.{Bool, true, false, cond}
+use Rattle.std.proofs.Common.{Option, Some, None}
+use Rattle.std.proofs.lemmas.Option.{none-some, cond_some}
 use mathlib.Core.Path.{◌≡◌, refl, sym, ◌∙◌}
 use native.Mathlib.Numerals.{add-one}
 use native.Mathlib.Omega.{arith}
@@ -35,14 +37,18 @@ pointer_set n pointers k q h p =
         at false t = rw (get_or-eq_default (set pointers k q) 0 {n = j} (rw (e, length-set pointers k q) (ltb-false k (length pointers) t))) (omega arith)
     go j (no e) = rw (get_or-set_other pointers k j q 0 e) (p.below j)
 
-module _ (place : ℕ) (value : Float) (n k m : ℕ) (pointers : List ℕ) (old : List (ℕ × Float)) where
-  -- a move that is not taken
-  pub move_left : (taken : Bool) → taken ≡ false → MovePushed taken place value n k m pointers old m pointers old
-  move_left taken e = rw e (record { entries = sym (append-nil (take m old)); room = omega arith; pointers_are = refl })
+module _ (value : Float) (n k m : ℕ) (pointers : List ℕ) (old : List (ℕ × Float)) where
+  -- no place
+  pub move_none : (target : Option ℕ) → target ≡ None → (taken : Bool) (p : ℕ) → target ≡ cond taken (Some p) None → MovePushed taken p value n k m pointers old m pointers old
+  move_none target none true p is = absurd (none-some p (sym none ∙ is))
+  move_none target none false p is = record { entries = sym (append-nil (take m old)); room = omega arith; pointers_are = refl }
 
-  -- one that is
-  pub move_taken : (taken : Bool) → taken ≡ true → (found r : ℕ) (new : List (ℕ × Float)) (q : ℕ) → found ≡ place → EntryPushed old m (found, value) true r new → q ≡ min (found + 1) n → MovePushed taken place value n k m pointers old r (set pointers k q) new
-  move_taken taken e found r new q there pushed is = rw (e, is, ← there) (record { entries = pushed.front; room = omega (arith, pushed.count); pointers_are = refl })
+  -- a place, and its pointer behind it
+  pub move_some : (target : Option ℕ) (q : ℕ) → target ≡ Some q → (r : ℕ) (new : List (ℕ × Float)) → EntryPushed old m (q, value) true r new → (pointer : ℕ) → pointer ≡ min (q + 1) n
+      → (taken : Bool) (p : ℕ) → target ≡ cond taken (Some p) None → MovePushed taken p value n k m pointers old r (set pointers k pointer) new
+  move_some target q some r new pushed pointer pointer_is taken p is =
+      let same = cond_some taken p q (sym is ∙ some) in
+      rw (same.0, same.1, pointer_is) (record { entries = pushed.front; room = omega (arith, pushed.count); pointers_are = refl })
 
 module _ (v : Moves) (L : ℕ) (numbers : ℕ → ℕ) (n : ℕ) (s : List ℤ) (a : ℕ) (pointers : List ℕ) where
   -- the pointer of a move stays until its turn
@@ -108,3 +114,25 @@ module _ (v : Moves) (L : ℕ) (numbers : ℕ → ℕ) (n : ℕ) (s : List ℤ) 
       pub move_pointed : after ≡ pointed v L numbers n s a pointers (k + 1)
       unfolding pointed
       move_pointed = rw (add-one k) (pushed.pointers_are ∙ rw (arrives_kept k now pointers_are, is, pointers_are))
+
+-- ---- numbers that agree at the first n places
+sought_agree : (f g : ℕ → ℕ) (wanted p k : ℕ) → ((q : ℕ) → p ≤ q → q < p + k → f q ≡ g q) → sought f wanted p k ≡ sought g wanted p k
+unfolding sought
+sought_agree f g wanted p zero same = refl
+sought_agree f g wanted p (suc k) same =
+    rw (same p (omega arith) (omega arith), sought_agree f g wanted (p + 1) k (λ q low high. same q (omega arith) (omega arith)))
+
+module _ (v : Moves) (L : ℕ) (f g : ℕ → ℕ) (n : ℕ) (same : (q : ℕ) → q < n → f q ≡ g q) (s : List ℤ) (a : ℕ) (pointers : List ℕ) where
+  arrives_agree : (k : ℕ) → arrives v f n a pointers k ≡ arrives v g n a pointers k
+  unfolding arrives
+  arrives_agree k = sought_agree f g (a + change_in (get_or v.keys k 0)) (get_or pointers k 0) (n - get_or pointers k 0) (λ q low high. same q (omega arith))
+
+  pub collected_agree : (i : ℕ) (x : Float) (k : ℕ) → collected v L f n s a pointers i x k ≡ collected v L g n s a pointers i x k
+  unfolding collected
+  collected_agree i x zero = refl
+  collected_agree i x (suc k) = rw (collected_agree i x k, arrives_agree k)
+
+  pub pointed_agree : (k : ℕ) → pointed v L f n s a pointers k ≡ pointed v L g n s a pointers k
+  unfolding pointed
+  pointed_agree zero = refl
+  pointed_agree (suc k) = rw (pointed_agree k, arrives_agree k)

@@ -12,21 +12,26 @@ fn digit(x: i32, low: usize) -> usize
     (x + low as i32) as usize
 }
 
-// The number of a row with values from -low to low: the last free edge has the first digit.
-pub fn number(
-    row: &[i32],
-    free: &[u8; MOST_EDGES],
-    n_free: usize,
-    lambda: usize,
-    low: usize,
-) -> usize
-    requires { Numbered lambda low free.now n_free row.now }
-    ensures { result ≡ number lambda low free.now n_free row.now }
-{
-    let base = 2 * lambda + 1;
-    let mut a = 0;
-    for j in (0..n_free).rev() {
-        a = a * base + digit(row[usize::from(free[j])], low);
+// The places of the digits: the first n entries of the walker's list are the free edges. The truncation gives the base.
+#[derive(Clone, Copy)]
+pub struct Digits<'a> {
+    pub free: &'a [u8; MOST_EDGES],
+    pub n: usize,
+    pub lambda: usize,
+}
+
+impl Digits<'_> {
+    // The number of a row with values from -low to low: the last free edge has the first digit.
+    pub fn number(&self, row: &[i32], low: usize) -> usize
+        requires { Numbered self.now.lambda low self.now.free.now self.now.n row.now }
+        ensures { result ≡ number self.now.lambda low self.now.free.now self.now.n row.now }
+    {
+        let free = self.free;
+        let base = 2 * self.lambda + 1;
+        let mut a = 0;
+        for edge in free[..self.n].iter().rev() {
+            a = a * base + digit(row[usize::from(*edge)], low);
+        }
+        a
     }
-    a
 }

@@ -10,15 +10,15 @@ pub fn lower(word: u32) -> usize
     (word % 1048576) as usize
 }
 
-// The first place from `from` on whose number, with 2^20 added, is not below `wanted`, or n.
-pub fn seek(words: &[u32], n: usize, from: usize, wanted: usize) -> usize
-    requires { (from ≤ n) × (n ≤ length words.now) }
-    ensures { (result ≡ sought (number_in words.now) wanted from (n - from)) × (result ≤ n) }
+// The first place from `from` on whose number, with 2^20 added, is not below `wanted`, or the number of the words.
+pub fn seek(words: &[u32], from: usize, wanted: usize) -> usize
+    requires { from ≤ length words.now }
+    ensures { (result ≡ sought (number_in words.now) wanted from (length words.now - from)) × (result ≤ length words.now) }
 {
-    for place in from..n {
+    for place in from..words.len() {
         if wanted <= lower(words[place]) + 1048576 {
             return place;
         }
     }
-    n
+    words.len()
 }

@@ -4,4 +4,4 @@ use Rattle.csr.specs.Words.{FirstWords}
 use Rattle.csr.proofs.words.write_numbers.Given as goal
 
 abbrev pub invariant-loop-i : goal.invariant-loop-i
-invariant-loop-i l = FirstWords (λ k. number l.s.lambda l.s.lambda l.free l.s.free (row l.s.edges l.list k)) l.i l.fn.words l.words
+invariant-loop-i l = FirstWords (λ k. number l.digits.lambda l.digits.lambda l.digits.free.now l.digits.n (row l.s.edges l.list k)) l.i l.fn.words l.words
