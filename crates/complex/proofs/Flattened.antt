@@ -11,7 +11,7 @@ use Rattle.complex.specs.Complex.{Simplex, entries, simplices}
 use Rattle.complex.proofs.Simplices.{entries_length, entry_at, simplices_length, simplex_at}
 use Rattle.complex.proofs.Accepting.{Sized}
 
-entries_part : (l : List ℕ) (k at : ℕ) → at + k ≤ length l → entries l at k ≡ take k (drop at l)
+pub entries_part : (l : List ℕ) (k at : ℕ) → at + k ≤ length l → entries l at k ≡ take k (drop at l)
 unfolding entries
 entries_part l zero at h = refl
 entries_part l (suc k) at h =

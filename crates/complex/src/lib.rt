@@ -8,6 +8,7 @@ ghost use Rattle.std.specs.Prelude.{◌≡◌, ◌+◌, ◌*◌, ◌<◌, get_or
 
 use numbers::sizes::{EDGE_ENTRIES, TRIANGLE_ENTRIES};
 
+// The lists are fixed memory, and the numbers say how much of them is used: there is no heap.
 #[derive(Clone, Copy)]
 pub struct SimplicialComplex {
     pub n_vertices: usize,

@@ -6,7 +6,7 @@ ghost use Rattle.complex.specs.Numbering.{Numbered};
 use numbers::sizes::MOST_TRIANGLES;
 
 // table[k] is one more than the number of key k, and 0 where k is new; keys holds the keys as they were numbered; a count of limit + 1
-// says that there were more.
+// says that there were more. Both lists are fixed memory: there is no heap.
 #[derive(Clone, Copy)]
 pub struct Numbering {
     pub limit: usize,

@@ -9,7 +9,7 @@ use crate::SimplicialComplex;
 use numbers::sizes::{EDGE_ENTRIES, MOST_EDGES, MOST_VERTICES};
 
 // How far a search is: the found + 1 vertices seen stand first in the queue, tree_edges[i] led to queue[i + 1], and visited[v] is 1
-// where v was seen.
+// where v was seen. The lists are fixed memory: there is no heap.
 #[derive(Clone, Copy)]
 pub struct SpanningTree {
     pub queue: [u8; MOST_VERTICES],
@@ -34,7 +34,8 @@ fn opposite(d: usize) -> usize
     d + 1 - 2 * (d % 2)
 }
 
-// The first count half-edges are linked, from the last to the first: each stands before the later ones at its vertex.
+// The first count half-edges are linked, from the last to the first: each stands before the later ones at its vertex. By number: the links
+// are the numbers.
 fn half_edges(edges: &[u8; EDGE_ENTRIES], count: usize) -> HalfEdges
     requires { (count ≤ 126) × ((d : ℕ) → d < count → get_or edges.now d 0 < 64) }
     ensures { Linked edges.now count result.heads result.next 0 }
@@ -109,6 +110,7 @@ pub fn search(c: &SimplicialComplex) -> SpanningTree
         visited: [0; MOST_VERTICES],
     };
     tree.visited[0] = 1;
+    // by number: the queue grows while it is served
     for h in 0..c.n_vertices {
         serve(c, &half, h, &mut tree);
     }

@@ -1,14 +1,20 @@
 -- The table of fundamental cycles of an accepted record, as the code fills it.
-use Prim.Native.Nat.{ℕ, suc, ◌+◌, ◌*◌, ◌≤◌, ◌<◌}
-use mathlib.Core.List.{List, []}
+use Prim.Native.Nat.{ℕ, suc, ◌+◌, ◌*◌, ◌^◌, ◌≤◌, ◌<◌}
+use mathlib.Core.List.{List, [], ◌++◌}
 use mathlib.Core.Path.{◌≡◌, sym, ◌∙◌, ap, subst}
 use mathlib.Core.Logic.{◌≢◌}
 use native.Mathlib.Omega.{arith}
 use native.Mathlib.Numerals.{add-one}
 use native.Mathlib.Decide.{ℕ_discrete, dec_lt}
 use lib.IntN.{ℤ, pos, negsuc, ◌-ℤ◌, nat_abs}
-use lib.ListN.{get_or, length, take, set, replicate, length-replicate, length-set, get_or-eq_default}
-use lib.Seq.{paste, paste-suc, get_or-take, length-paste}
+use lib.ListN.{get_or, length, take, drop, set, replicate, length-replicate, length-set, get_or-eq_default}
+use lib.Seq.{paste, get_or-take, length-paste}
+use lib.Signed.{mag}
+use mir.Syntax.{w8}
+use mir.Val.{to_z, of_z}
+use mir.Facts.{to_z-of_z}
+use Rattle.mathematics.proofs.Front.{front_more}
+use Rattle.mathematics.proofs.Signed.{size_fits, back8}
 use Rattle.mathematics.proofs.Ordered.{place_member, each_at}
 use Rattle.complex.specs.declared.SimplicialComplex.{SimplicialComplex}
 use Rattle.complex.specs.Complex.{Simplex, Complex, entries, start, end, complex_of}
@@ -21,7 +27,7 @@ use Rattle.gauss_law.specs.Spanning.{FreeOf}
 use Rattle.gauss_law.proofs.Free.{free_below}
 use Rattle.gauss_law.proofs.Accepted.{accepted_ends}
 use Rattle.gauss_law.proofs.Spanned.{edges_long}
-use Rattle.cycles.specs.Cycles.{row, with_cycle, Cycle, PathTable, Subtractable, cycle_row, CycleTable}
+use Rattle.cycles.specs.Cycles.{row, with_cycle, Cycle, PathTable, Subtractable, Differing, cycle_row, CycleTable}
 use Rattle.mathematics.proofs.Integers.{minus_one_times}
 use Rattle.cycles.proofs.Adding.{added_at, added_length, zeros_at}
 use Rattle.mathematics.proofs.Pasted.{entry_paste, entry_set}
@@ -60,13 +66,24 @@ module _ (paths : List ℤ) (a b m : ℕ) (ready : Subtractable paths a b m) whe
       go (yes h) = rw (difference_entry e h) (ready.signs e h)
       go (no h) = rw (get_or-eq_default (with_cycle first (negsuc 0) second) (pos 0) {n = e} (omega (arith, difference_long))) (omega arith)
 
-  -- one entry more
-  pub subtract_more : (table so_far : List ℤ) (j e : ℕ) (x : ℤ) → 63 * j + m ≤ length table → e < m → so_far ≡ paste table (63 * j) (with_cycle first (negsuc 0) second) e
-      → x ≡ get_or paths (63 * a + e) (pos 0) -ℤ get_or paths (63 * b + e) (pos 0)
-      → set so_far (63 * j + e) x ≡ paste table (63 * j) (with_cycle first (negsuc 0) second) (e + 1)
-  subtract_more table so_far j e x room h q r =
-      rw (q, r ∙ sym (difference_entry e h), add-one e)
-      (paste-suc table (63 * j) (with_cycle first (negsuc 0) second) e (pos 0) (omega arith) (omega (arith, difference_long)))
+  pub paths_differ : Differing m first second
+  paths_differ =
+      record {
+        first = first_long;
+        second = second_long;
+        signs = λ e h. rw (row_at m ready.few paths a e h, row_at m ready.few paths b e h) (ready.signs e h);
+      }
+
+-- one entry more of a list less another goes to a third list
+pub difference_more : (s t old now : List ℤ) (e : ℕ) → Differing (length old) s t → e < length old → now ≡ take e (with_cycle s (negsuc 0) t) ++ drop e old
+    → mag (get_or s e (pos 0)) < 2 ^ 7 → mag (get_or t e (pos 0)) < 2 ^ 7
+    → set now e (to_z w8 (of_z w8 (to_z w8 (of_z w8 (get_or s e (pos 0))) -ℤ to_z w8 (of_z w8 (get_or t e (pos 0)))))) ≡ take (e + 1) (with_cycle s (negsuc 0) t) ++ drop (e + 1) old
+difference_more s t old now e h here so_far x y =
+    let p = get_or s e (pos 0) in
+    let q = get_or t e (pos 0) in
+    let read : to_z w8 (of_z w8 (to_z w8 (of_z w8 p) -ℤ to_z w8 (of_z w8 q))) ≡ p -ℤ q = rw (back8 p x, back8 q y) (to_z-of_z (size_fits w8 (p -ℤ q) (omega (arith, h.signs e here)))) in
+    let entry : get_or (with_cycle s (negsuc 0) t) e (pos 0) ≡ p -ℤ q = added_at s (negsuc 0) t e (h.second ∙ sym h.first) ∙ rw (minus_one_times q) in
+    front_more old (with_cycle s (negsuc 0) t) now e (pos 0) (added_length s (negsuc 0) t ∙ h.first) so_far _ here (read ∙ sym entry)
 
 -- ---- the cycles of an accepted record
 pub free_listed : (c : Complex) (free : EdgeList) → FreeOf c free → (j : ℕ) → j < free.count → get_or free.list j 0 ≡ get_or (free_edges c) j 0
@@ -82,18 +99,15 @@ module _ (c : SimplicialComplex) (good : refusal (complex_of c) ≡ 0) (paths : 
   few : length es ≤ 63
   few = right.few_edges
 
-  free_entry : (j : ℕ) → j < free.count → get_or free.list j 0 ≡ get_or (free_edges (complex_of c)) j 0
-  free_entry = free_listed (complex_of c) free is
-
-  module _ (j : ℕ) (more : j < free.count) where
+  module _ (j : ℕ) (more : j < length (free_edges (complex_of c))) where
     abbrev edge : ℕ
-    edge = get_or free.list j 0
+    edge = get_or (free_edges (complex_of c)) j 0
 
     abbrev sides : Simplex
     sides = entries c.edges (2 * edge) 2
 
     inside : edge < length es
-    inside = rw (free_entry j more) (each_at 0 (free_below (complex_of c)) j (omega (arith, is.count)))
+    inside = each_at 0 (free_below (complex_of c)) j more
 
     pub inside_code : edge < c.n_edges
     inside_code = rw (edges_long c) at inside
@@ -145,7 +159,7 @@ module _ (c : SimplicialComplex) (good : refusal (complex_of c) ≡ 0) (paths : 
         new = set written (63 * j + edge) (pos 1)
 
         room : (k : ℕ) → k ≤ j → 63 * k + m ≤ length old
-        room k l = omega (arith, few, h.long, is.few)
+        room k l = omega (arith, few, h.long, is.few, is.count)
 
         copied : length written ≡ length old
         copied = length-paste old (63 * j) difference m (room j (omega arith)) (omega (arith, long))
@@ -167,10 +181,10 @@ module _ (c : SimplicialComplex) (good : refusal (complex_of c) ≡ 0) (paths : 
         own =
             rw made
             (rw sides_are at
-            (fundamental (complex_of c) right (row m paths) table.paths edge (rw (free_entry j more) (place_member 0 (free_edges (complex_of c)) j (omega (arith, is.count))))))
+            (fundamental (complex_of c) right (row m paths) table.paths edge (place_member 0 (free_edges (complex_of c)) j more)))
 
         cycle : (k : ℕ) → k < suc j → Dec (k ≡ j) → Cycle (complex_of c) (get_or (free_edges (complex_of c)) k 0) (row m new k)
-        cycle k l (yes e) = rw e (subst (λ f. Cycle (complex_of c) f (row m new j)) (free_entry j more) own)
+        cycle k l (yes e) = rw e own
         cycle k l (no n) = rw (kept k (omega arith) n) (h.cycles k (omega arith))
 
     pub close_more : (old : List ℤ) → CycleTable (complex_of c) j old → CycleTable (complex_of c) (j + 1) (cycle_row old j paths c.n_edges sides edge)
@@ -189,11 +203,3 @@ module _ (c : SimplicialComplex) (good : refusal (complex_of c) ≡ 0) (paths : 
         cycles = λ j h. absurd (omega arith);
         signs = λ i. rw (zeros_at 3969 i) (omega arith);
       }
-
--- the free edges as the code walks them
-module _ {c : Complex} {free : EdgeList} (of : FreeOf c free) {walked : List ℕ} (is : walked ≡ take free.count free.list) where
-  pub free_long : length walked ≡ free.count
-  free_long = ap length (is ∙ of.stands) ∙ sym of.count
-
-  pub free_at : {j : ℕ} → j < free.count → get_or walked j 0 ≡ get_or free.list j 0
-  free_at {j} more = ap (λ (l : List ℕ). get_or l j 0) is ∙ get_or-take free.count free.list j 0 more

@@ -1,6 +1,6 @@
 -- Tables of rows of 63: what a row holds after another row, or one entry, was written.
 use Prim.Native.Nat.{ℕ, ◌+◌, ◌*◌, ◌-◌, ◌≤◌, ◌<◌}
-use mathlib.Core.List.{List}
+use mathlib.Core.List.{List, append_assoc}
 use mathlib.Core.Path.{◌≡◌, sym, ◌∙◌, ap}
 use mathlib.Core.Logic.{◌≢◌, ◌⊎◌, inl, inr}
 use native.Mathlib.Omega.{arith}
@@ -8,7 +8,8 @@ use native.Mathlib.Numerals.{add-one}
 use native.Mathlib.Decide.{ℕ_discrete, dec_lt}
 use lib.IntN.{ℤ, pos}
 use lib.ListN.{get_or, length, take, drop, set, length-set, length-drop, replicate, length-replicate, get_or-replicate}
-use lib.Seq.{paste, paste-suc, take-take, length-take-le, length-paste, get_or-take, get_or-drop, get_or-set_same, get_or-set_other, ext_get_or}
+use lib.Seq.{paste, paste-suc, take_all, drop-drop, take-take, length-take-le, length-paste, get_or-take, get_or-drop, get_or-set_same, get_or-set_other, ext_get_or}
+use borrow.Rule.Slice.PartMut.{put_mid}
 use Rattle.mathematics.proofs.Pasted.{paste_inside, paste_outside}
 use Rattle.cycles.specs.Cycles.{row}
 
@@ -103,3 +104,7 @@ pub row_copied : (table : List ℤ) (from to m : ℕ) → paste table to (drop f
 row_copied table from to m =
     let n : (from + m) - from ≡ m = omega arith in
     rw (n, take-take m m (drop from table) (omega arith))
+
+-- a list that is put over a part stands at its place
+pub row_put : (table s : List ℤ) (at m k : ℕ) → k ≡ m → length s ≡ m → put_mid at k table s ≡ paste table at s m
+row_put table s at m k q long = rw (q, drop-drop m at table, take_all m s (omega arith)) (sym (append_assoc (take at table) s _))

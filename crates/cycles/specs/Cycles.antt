@@ -60,6 +60,12 @@ pub record Subtractable (paths : List ℤ) (a b m : ℕ) : Type 0 where
   pub few : m ≤ 63
   pub signs : (e : ℕ) → e < m → nat_abs (get_or paths (63 * a + e) (pos 0) -ℤ get_or paths (63 * b + e) (pos 0)) ≤ 1
 
+-- two lists of m values that differ by at most 1 in each
+pub record Differing (m : ℕ) (s t : List ℤ) : Type 0 where
+  pub first : length s ≡ m
+  pub second : length t ≡ m
+  pub signs : (e : ℕ) → e < m → nat_abs (get_or s e (pos 0) -ℤ get_or t e (pos 0)) ≤ 1
+
 -- row j of a table of cycles is made of the paths to the ends of the edge s of number f
 unfoldable pub cycle_row : List ℤ → ℕ → List ℤ → ℕ → Simplex → ℕ → List ℤ
 cycle_row table j paths m s f = set (paste table (63 * j) (with_cycle (row m paths (start s)) (negsuc 0) (row m paths (end s))) m) (63 * j + f) (pos 1)

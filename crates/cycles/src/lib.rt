@@ -8,13 +8,12 @@ ghost use Rattle.complex.specs.Search.{across};
 ghost use Rattle.complex.specs.Judge.{refusal};
 ghost use Rattle.gauss_law.specs.Listing.{tree_edges, free_edges};
 ghost use Rattle.gauss_law.specs.Spanning.{Spanned, FreeOf};
-ghost use Rattle.cycles.specs.Cycles.{row, with_cycle, PathTable, extended, Subtractable, cycle_row, CycleTable};
+ghost use Rattle.cycles.specs.Cycles.{row, with_cycle, PathTable, extended, Subtractable, Differing, cycle_row, CycleTable};
 
 use complex::SimplicialComplex;
 use complex::search::SpanningTree;
 use numbers::edge_list::EdgeList;
-use numbers::sizes::{EDGE_ENTRIES, MOST_EDGES, MOST_VERTICES};
-use numbers::{edge_end, edge_start};
+use numbers::sizes::{MOST_EDGES, MOST_VERTICES};
 
 // The table of paths has a row for each vertex.
 pub const PATH_ENTRIES: usize = MOST_VERTICES * MOST_EDGES;
@@ -29,6 +28,15 @@ fn copy_row(table: &mut [i8; PATH_ENTRIES], from: usize, to: usize, n_edges: usi
 {
     let first = MOST_EDGES * from;
     table.copy_within(first..first + n_edges, MOST_EDGES * to);
+}
+
+// The row of the path to vertex v.
+fn path_to(paths: &[i8; PATH_ENTRIES], v: usize, n_edges: usize) -> &[i8]
+    requires { (v < 64) × (n_edges ≤ 63) × (length paths.now ≡ 4032) }
+    ensures { result.now ≡ row n_edges paths.now v }
+{
+    let first = MOST_EDGES * v;
+    &paths[first..first + n_edges]
 }
 
 // The end of the edge (a, b) across from w.
@@ -46,19 +54,12 @@ fn toward(b: usize, w: usize) -> i8
 }
 
 // The path to vertex w: that to its parent, and edge e between them.
-fn extend(
-    paths: &mut [i8; PATH_ENTRIES],
-    edges: &[u8; EDGE_ENTRIES],
-    n_edges: usize,
-    e: usize,
-    w: usize,
-)
-    requires { (e < n_edges) × (n_edges ≤ 63) × (w < 64) × (across (entries edges.now (2 * e) 2) w < 64) × (across (entries edges.now (2 * e) 2) w ≢ w) × (length paths.old ≡ 4032) }
-    ensures { paths.new ≡ extended paths.old n_edges (entries edges.now (2 * e) 2) e w }
+fn extend(paths: &mut [i8; PATH_ENTRIES], c: &SimplicialComplex, e: usize, w: usize)
+    requires { (e < c.now.n_edges) × (c.now.n_edges ≤ 63) × (w < 64) × (across (entries c.now.edges (2 * e) 2) w < 64) × (across (entries c.now.edges (2 * e) 2) w ≢ w) × (length paths.old ≡ 4032) }
+    ensures { paths.new ≡ extended paths.old c.now.n_edges (entries c.now.edges (2 * e) 2) e w }
 {
-    let a = edge_start(edges, e);
-    let b = edge_end(edges, e);
-    copy_row(paths, across(a, b, w), w, n_edges);
+    let (a, b) = c.edge(e);
+    copy_row(paths, across(a, b, w), w, c.n_edges);
     paths[MOST_EDGES * w + e] = toward(b, w);
 }
 
@@ -70,32 +71,18 @@ pub fn tree_paths(c: SimplicialComplex, tree: SpanningTree) -> [i8; PATH_ENTRIES
     let mut paths = [0i8; PATH_ENTRIES];
     let steps = tree.tree_edges[..tree.found].iter().zip(&tree.queue[1..]);
     for (e, w) in steps {
-        extend(
-            &mut paths,
-            &c.edges,
-            c.n_edges,
-            usize::from(*e),
-            usize::from(*w),
-        );
+        extend(&mut paths, &c, usize::from(*e), usize::from(*w));
     }
     paths
 }
 
-// The path to a less the path to b goes to row j.
-fn subtract_paths(
-    cycles: &mut [i8; CYCLE_ENTRIES],
-    j: usize,
-    paths: &[i8; PATH_ENTRIES],
-    a: usize,
-    b: usize,
-    n_edges: usize,
-)
-    requires { (j < 63) × Subtractable paths.now a b n_edges × (length cycles.old ≡ 3969) }
-    ensures { cycles.new ≡ paste cycles.old (63 * j) (with_cycle (row n_edges paths.now a) (negsuc 0) (row n_edges paths.now b)) n_edges }
+// A path less another goes to a row. By number: a proof knows nothing of what a loop over a zip with iter_mut wrote.
+fn subtract_paths(row: &mut [i8], first: &[i8], second: &[i8])
+    requires { Differing (length row.old) first.now second.now }
+    ensures { row.new ≡ with_cycle first.now (negsuc 0) second.now }
 {
-    // One row is written from two others, so each of the three is read or written at e.
-    for e in 0..n_edges {
-        cycles[MOST_EDGES * j + e] = paths[MOST_EDGES * a + e] - paths[MOST_EDGES * b + e];
+    for (e, x) in row.iter_mut().enumerate() {
+        *x = first[e] - second[e];
     }
 }
 
@@ -104,17 +91,21 @@ fn close_cycle(
     cycles: &mut [i8; CYCLE_ENTRIES],
     j: usize,
     paths: &[i8; PATH_ENTRIES],
-    edges: &[u8; EDGE_ENTRIES],
-    n_edges: usize,
+    c: &SimplicialComplex,
     f: usize,
 )
-    requires { (j < 63) × (f < n_edges) × Subtractable paths.now (get_or edges.now (2 * f) 0) (get_or edges.now (2 * f + 1) 0) n_edges × (length cycles.old ≡ 3969) }
-    ensures { cycles.new ≡ cycle_row cycles.old j paths.now n_edges (entries edges.now (2 * f) 2) f }
+    requires { (j < 63) × (f < c.now.n_edges) × Subtractable paths.now (get_or c.now.edges (2 * f) 0) (get_or c.now.edges (2 * f + 1) 0) c.now.n_edges × (length cycles.old ≡ 3969) }
+    ensures { cycles.new ≡ cycle_row cycles.old j paths.now c.now.n_edges (entries c.now.edges (2 * f) 2) f }
 {
-    let a = edge_start(edges, f);
-    let b = edge_end(edges, f);
-    subtract_paths(cycles, j, paths, a, b, n_edges);
-    cycles[MOST_EDGES * j + f] = 1;
+    let (a, b) = c.edge(f);
+    let at = MOST_EDGES * j;
+    let row = &mut cycles[at..at + c.n_edges];
+    subtract_paths(
+        row,
+        path_to(paths, a, c.n_edges),
+        path_to(paths, b, c.n_edges),
+    );
+    cycles[at + f] = 1;
 }
 
 // The fundamental cycles of all free edges.
@@ -128,7 +119,7 @@ pub fn fundamental_cycles(
 {
     let mut cycles = [0i8; CYCLE_ENTRIES];
     for (j, f) in free.as_slice().iter().enumerate() {
-        close_cycle(&mut cycles, j, paths, &c.edges, c.n_edges, usize::from(*f));
+        close_cycle(&mut cycles, j, paths, &c, usize::from(*f));
     }
     cycles
 }

@@ -90,6 +90,7 @@ pub fn write_counts(out: &mut [u8], at: usize, v: usize, e: usize, t: usize, lam
     write_named(out, truncation, b" lambda ", lambda)
 }
 
+// The numbers of the line in their order: a struct of them would be made for this one call.
 pub fn write_first_line(
     out: &mut [u8],
     at: usize,

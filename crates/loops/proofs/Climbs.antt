@@ -44,6 +44,9 @@ pub record Apart (c : SimplicialComplex) (a b : ℕ) : Type 0 where
   pub second : b < c.n_vertices
   pub apart : a ≢ b
 
+pub apart : {c : SimplicialComplex} {a b : ℕ} → a < c.n_vertices → b < c.n_vertices → a ≢ b → Apart c a b
+apart first second other = record { first = first; second = second; apart = other }
+
 -- a climbs to u, or b does, and the path between them has one step less
 pub record FirstClimbs (c : SimplicialComplex) (r : TreeParents) (a b u : ℕ) : Type 0 where
   pub below : u < c.n_vertices
@@ -137,13 +140,6 @@ module _ {c : SimplicialComplex} {r : TreeParents} (h : Parented c r) where
 
     sb : Seen b
     sb = seen b t.second
-
-    -- both have a place in the tables
-    pub first_fits : a < 64
-    first_fits = let few = vertices_few in omega (arith, t.first)
-
-    pub second_fits : b < 64
-    second_fits = let few = vertices_few in omega (arith, t.second)
 
     -- a was found later
     module _ (l : get_or r.place b 0 < get_or r.place a 0) where

@@ -4,16 +4,14 @@ use mathlib.Core.List.{List, [], ◌∷◌, ◌++◌, map, map-append}
 use mathlib.Core.Path.{◌≡◌, sym, ap, ◌∙◌}
 use native.Mathlib.Omega.{arith}
 use lib.IntN.{negsuc}
-use lib.ListN.{get_or, set, take, length, length-append, length-map}
-use lib.Seq.{get_or-take}
+use lib.ListN.{get_or, set, length, length-append, length-map}
 use Rattle.mathematics.specs.Writing.{put}
 use Rattle.mathematics.proofs.Ordered.{each_at}
 use Rattle.mathematics.proofs.Puts.{put_one, put_more, put_length}
 use Rattle.complex.specs.declared.SimplicialComplex.{SimplicialComplex}
 use Rattle.complex.specs.Complex.{Complex, complex_of}
 use Rattle.complex.proofs.Simplices.{start_at, end_at}
-use Rattle.numbers.specs.declared.edge_list.EdgeList.{EdgeList}
-use Rattle.gauss_law.specs.Spanning.{FreeOf}
+use Rattle.gauss_law.specs.Listing.{free_edges}
 use Rattle.gauss_law.proofs.Accepted.{accepted_ends}
 use Rattle.gauss_law.proofs.Free.{free_below}
 use Rattle.gauss_law.proofs.Spanned.{edges_long}
@@ -31,10 +29,12 @@ pub record EndsRead (c : SimplicialComplex) (f a b : ℕ) : Type 0 where
   pub first : a ≡ get_or c.edges (2 * f) 0
   pub second : b ≡ get_or c.edges (2 * f + 1) 0
 
--- e is the j-th free edge in a list of them
-pub record FreeRead (free : EdgeList) (j e : ℕ) : Type 0 where
-  pub more : j < free.count
-  pub is : e ≡ get_or free.list j 0
+pub ends_read : {c : SimplicialComplex} {f a b : ℕ} → f < c.n_edges → a ≡ get_or c.edges (2 * f) 0 → b ≡ get_or c.edges (2 * f + 1) 0 → EndsRead c f a b
+ends_read inside first second = record { inside = inside; first = first; second = second }
+
+-- e is the entry j of a list of the free edges
+pub next_free : {K : Complex} {items : List ℕ} {j e : ℕ} → items ≡ free_edges K → j < length items → e ≡ get_or items j 0 → NextFree K j e
+next_free {j = j} same more is = record { more = rw same at more; is = is ∙ ap (λ l. get_or l j 0) same }
 
 module _ {c : SimplicialComplex} {r : TreeParents} (h : Parented c r) where
   abbrev K : Complex
@@ -62,52 +62,31 @@ module _ {c : SimplicialComplex} {r : TreeParents} (h : Parented c r) where
     loop_long = ap length loop_is ∙ length-append (path K a b) ((f, negsuc 0) ∷ [])
 
     -- the path and then the edge back are written to a list; x is g of that step
-    module _ {A : Type 0} (g : Step → A) {x : A} (own : x ≡ g (f, negsuc 0)) (at : ℕ) (out : List A) {count : ℕ} {mid : List A}
-        (counts : count ≡ length (path K a b)) (put_path : mid ≡ put out at (map g (path K a b))) (room : at + length (loop_of K f) ≤ length out) where
+    module _ {A : Type 0} (g : Step → A) {x : A} (own : x ≡ g (f, negsuc 0)) (at : ℕ) (out : List A) {last : ℕ} {mid : List A}
+        (next : last ≡ at + length (path K a b)) (put_path : mid ≡ put out at (map g (path K a b))) (room : at + length (loop_of K f) ≤ length out) where
       fits : at + length (map g (path K a b)) ≤ length out
       fits = rw (length-map (path K a b) g) (omega (arith, loop_long))
 
-      pub last_room : at + count < length mid
+      pub last_room : last < length mid
       last_room =
           let long : length mid ≡ length out = ap length put_path ∙ put_length out at (map g (path K a b)) fits in
           omega (arith, loop_long)
 
-      pub loop_put : set mid (at + count) x ≡ put out at (map g (loop_of K f))
+      pub loop_put : set mid last x ≡ put out at (map g (loop_of K f))
       loop_put =
           let p = map g (path K a b) in
-          let k : at + count ≡ at + length p = rw (length-map (path K a b) g) (ap (λ n. at + n) counts) in
-          put_one mid (at + count) x last_room
-          ∙ ap (λ l. put l (at + count) (x ∷ [])) put_path
+          let k : last ≡ at + length p = rw (length-map (path K a b) g) next in
+          put_one mid last x last_room
+          ∙ ap (λ l. put l last (x ∷ [])) put_path
           ∙ ap (λ n. put (put out at p) n (x ∷ [])) k
           ∙ put_more out at p (x ∷ []) fits
           ∙ ap (λ y. put out at (p ++ (y ∷ []))) own
           ∙ ap (put out at) (sym (ap (map g) loop_is ∙ map-append g (path K a b) ((f, negsuc 0) ∷ [])))
 
   -- ---- the free edges
-  module _ {free : EdgeList} (of : FreeOf K free) where
-    -- the steps of the first j loops
-    pub steps_fit : {j : ℕ} → j ≤ free.count → length (loop_steps K j) ≤ 3969
-    steps_fit {j} l = steps_most K (good h) j (rw (← of.count) l)
+  -- the steps of the first j loops
+  pub steps_fit : {j : ℕ} → j ≤ length (free_edges K) → length (loop_steps K j) ≤ 3969
+  steps_fit {j} l = steps_most K (good h) j l
 
-    module _ {j e : ℕ} (read : FreeRead free j e) where
-      pub next_free : NextFree K j e
-      next_free =
-          record {
-            more = rw (← of.count) read.more;
-            is = read.is ∙ sym (get_or-take free.count free.list j 0 read.more) ∙ ap (λ l. get_or l j 0) of.stands;
-          }
-
-      pub edge_inside : e < c.n_edges
-      edge_inside =
-          let n = next_free in
-          let i = each_at 0 (free_below K) j n.more in
-          rw n.is (omega (arith, edges_long c))
-
-    -- the entry j of the list of them
-    pub slice_read : {items : List ℕ} {j e : ℕ} → items ≡ take free.count free.list → j < length items → e ≡ get_or items j 0 → FreeRead free j e
-    slice_read {items} {j} {e} stands before is =
-        let long : length items ≡ free.count = ap length (stands ∙ of.stands) ∙ sym of.count in
-        record { more = omega arith; is = is ∙ ap (λ (l : List ℕ). get_or l j 0) stands ∙ get_or-take free.count free.list j 0 (omega arith) }
-
-    pub slice_long : {items : List ℕ} → items ≡ take free.count free.list → length items ≡ free.count
-    slice_long stands = ap length (stands ∙ of.stands) ∙ sym of.count
+  pub edge_inside : {j e : ℕ} → NextFree K j e → e < c.n_edges
+  edge_inside {j} n = let i = each_at 0 (free_below K) j n.more in rw n.is (omega (arith, edges_long c))

@@ -6,7 +6,7 @@ use mathlib.Core.Bool.{Bool, true, ◌&&◌}
 use native.Mathlib.Omega.{arith}
 use borrow.Author.Tests.{eqb-true, ltb-true, lt-ltb}
 use lib.ListN.{get_or, length, take, length-map}
-use lib.Seq.{get_or-take}
+use lib.Seq.{get_or-take, take_all}
 use lib.Dec.{eqb, ltb}
 use Rattle.mathematics.specs.Lists.{same, listed, noted_all, firsts, choose}
 use Rattle.mathematics.specs.Tests.{every_entry}
@@ -16,12 +16,14 @@ use Rattle.mathematics.proofs.Lists.{numbers_equal, lists_equal, noted_all_appen
 use Rattle.mathematics.proofs.Firsts.{firsts_pass, firsts_have}
 use Rattle.mathematics.proofs.Flat.{flat_map_last, all_flat_map}
 use Rattle.complex.specs.Complex.{Simplex, start, end, entries, simplices}
+use Rattle.complex.specs.declared.numbering.Numbering.{Numbering}
 use Rattle.complex.specs.Judge.{rising, sides_listed}
 use Rattle.complex.specs.Numbering.{number, Numbered, key, EdgeTable, triangle_key, Keyed}
 use Rattle.pentachora.specs.Pentachora.{pentachora, pentachoron_right, pentachora_right, sorted, faces}
 use Rattle.pentachora.specs.Faces.{all_faces, edge_of, triangle_of}
 use Rattle.complex.proofs.Simplices.{entries_length, simplices_length, simplex_at}
-use Rattle.complex.proofs.Indexes.{simplices_next, two, small_pair, key_apart, number_key}
+use Rattle.mathematics.proofs.Front.{take_next}
+use Rattle.complex.proofs.Indexes.{two, small_pair, key_apart, number_key}
 use Rattle.complex.proofs.Triangles.{number_place, fitting, fits, fitting_keyed, triangle_apart}
 use Rattle.pentachora.proofs.Sorting.{sorted_length, sorted_rises, rising_weaker}
 
@@ -118,13 +120,34 @@ edge_keys_below l h i il =
     omega arith
 
 -- the keys of one pentachoron more
-pub faces_next : (f : Simplex → ℕ) (k : ℕ) (l : List ℕ) (p : ℕ) → noted_all eqb [] (map f (all_faces k (simplices 5 l (p + 1)))) ≡ noted_all eqb (noted_all eqb [] (map f (all_faces k (simplices 5 l p)))) (map f (choose k (sorted (entries l (5 * p) 5))))
+pub faces_next : (f : Simplex → ℕ) (k : ℕ) (l : List Simplex) (p : ℕ) → p < length l → noted_all eqb [] (map f (all_faces k (take (p + 1) l))) ≡ noted_all eqb (noted_all eqb [] (map f (all_faces k (take p l)))) (map f (choose k (sorted (get_or l p []))))
 unfolding all_faces
-faces_next f k l p =
-    let new = entries l (5 * p) 5 in
-    let old = flat_map (λ q. choose k (sorted q)) (simplices 5 l p) in
-    rw (simplices_next 5 l p, flat_map_last (λ q. choose k (sorted q)) (simplices 5 l p) new, map-append f old (choose k (sorted new)))
+faces_next f k l p h =
+    let new = get_or l p [] in
+    let old = flat_map (λ q. choose k (sorted q)) (take p l) in
+    rw (take_next l p [] h, flat_map_last (λ q. choose k (sorted q)) (take p l) new, map-append f old (choose k (sorted new)))
     (noted_all_append eqb [] (map f old) (map f (choose k (sorted new))))
+
+-- the faces of the first p pentachora are noted by their keys
+pub record FacesNoted (limit : ℕ) (f : Simplex → ℕ) (k : ℕ) (l : List Simplex) (p : ℕ) (n : Numbering) : Type 0 where
+  pub within : n.limit ≡ limit
+  pub noted : Numbered limit n.table n.keys n.count (noted_all eqb [] (map f (all_faces k (take p l))))
+
+module _ {limit : ℕ} {f : Simplex → ℕ} {k : ℕ} {l : List Simplex} where
+  pub none_noted : {n : Numbering} → n.limit ≡ limit → Numbered limit n.table n.keys n.count [] → FacesNoted limit f k l 0 n
+  unfolding noted_all all_faces flat_map
+  none_noted same none = record { within = same; noted = none }
+
+  pub more_noted : {p : ℕ} {n n' : Numbering} → FacesNoted limit f k l p n → p < length l → n'.limit ≡ n.limit
+      → ((m : List ℕ) → Numbered n.limit n.table n.keys n.count m → Numbered n'.limit n'.table n'.keys n'.count (noted_all eqb m (map f (choose k (sorted (get_or l p []))))))
+      → FacesNoted limit f k l (p + 1) n'
+  more_noted {p} h more same next =
+      let one = rw (same, h.within) at next in
+      record { within = same ∙ h.within; noted = rw (faces_next f k l p more) (one _ h.noted) }
+
+  pub all_noted : {p : ℕ} {n : Numbering} → FacesNoted limit f k l p n → length l ≤ p → Numbered limit n.table n.keys n.count (firsts eqb (map f (all_faces k l)))
+  unfolding firsts
+  all_noted {p} h past = rw (take_all p l past) at h.noted
 
 -- each pentachoron, sorted, rises below n
 abbrev pub Rises : ℕ → List ℕ → Type 0

@@ -1,16 +1,22 @@
 -- The faces of pentachora as the code keeps and writes them.
-use Rattle.std.specs.Prelude.{ℕ, ◌*◌, ◌/◌, ◌%◌, ◌≤◌, ◌≡◌, get_or, length, take, Result, IfOk}
+use Rattle.std.specs.Prelude.{ℕ, ◌*◌, ◌/◌, ◌%◌, ◌≤◌, ◌≡◌, get_or, length, take, ⊤, Result, IfOk}
 use mathlib.Core.List.{List, [], ◌∷◌, ◌++◌, map, flat_map}
 use Rattle.answers.specs.Refusal.{judged}
 use Rattle.answers.specs.declared.refusal.Refusal.{Refusal}
 use Rattle.mathematics.specs.Lists.{choose}
 use Rattle.complex.specs.Complex.{Simplex}
+use Rattle.complex.specs.Numbering.{Keyed}
 use Rattle.pentachora.specs.Pentachora.{sorted, faces, pentachora_refusal}
 use Rattle.pentachora.specs.declared.Faces.{Faces}
 
 -- the faces of k vertices of some pentachora, each pentachoron's in dictionary order
 unfoldable pub all_faces : ℕ → List Simplex → List Simplex
 all_faces k ps = flat_map (λ p. choose k (sorted p)) ps
+
+-- some triangles are keyed by a table of the edges
+abbrev pub AllKeyed : List ℕ → List Simplex → Type 0
+AllKeyed table [] = ⊤
+AllKeyed table (s ∷ l) = Keyed table s × AllKeyed table l
 
 -- the edge of a key; the first remainder changes no key below 4096
 unfoldable pub edge_of : ℕ → Simplex

@@ -8,7 +8,6 @@ use Rattle.gauss_law.proofs.Spanned.{accepted_searchable, searched_spanned}
 use Rattle.loops.specs.Loops.{loops_call}
 use Rattle.loops.proofs.AcceptedLoops.{loops_fundamental}
 use Rattle.loops.proofs.LoopsTold.{long_enough, room_told, lists_are}
-use Rattle.loops.proofs.Noting.{spanned_orderly, noted_parented}
 use Rattle.loops.proofs.fundamental.fundamental_loops.Goals as goal
 
 pub returns-in_err-accept : goal.returns-in_err-accept
@@ -21,32 +20,30 @@ search-tree-requires c = accepted_searchable _ (sym c.in_ok-accept.ensures)
 pub free_edges-free-requires : goal.free_edges-free-requires
 free_edges-free-requires c = searched_spanned _ _ (sym c.in_ok-accept.ensures) c.search-tree.ensures
 
-pub tree_parents-parents-requires : goal.tree_parents-parents-requires
-tree_parents-parents-requires c = spanned_orderly _ _ (searched_spanned _ _ (sym c.in_ok-accept.ensures) c.search-tree.ensures)
+pub new-rooted-requires : goal.new-rooted-requires
+new-rooted-requires c = searched_spanned _ _ (sym c.in_ok-accept.ensures) c.search-tree.ensures
 
 pub total_steps-total-requires : goal.total_steps-total-requires
-total_steps-total-requires c =
-    let spanned = searched_spanned _ _ (sym c.in_ok-accept.ensures) c.search-tree.ensures in
-    (noted_parented _ _ spanned _ c.tree_parents-parents.ensures, c.free_edges-free.ensures)
+total_steps-total-requires c = rw c.new-rooted.ensures c.free_edges-free.ensures
 
 pub returns-then-starts-count : goal.returns-then-starts-count
 unfolding loops_call
 returns-then-starts-count c =
-    let told = room_told _ _ c.free_edges-free.ensures _ c.total_steps-total.ensures _ _ _ in
+    let told = room_told _ _ c.free_edges-free.ensures _ (rw c.new-rooted.ensures at c.total_steps-total.ensures) _ _ _ in
     refuses (loops_call _ _ _ _) (past_record _ (sym c.in_ok-accept.ensures) (here (told ∙ rw c.len-count.ensures at c.if-starts-count.true))) refl
 
 pub write_loops-requires : goal.write_loops-requires
 write_loops-requires c =
-    let spanned = searched_spanned _ _ (sym c.in_ok-accept.ensures) c.search-tree.ensures in
     let of = c.free_edges-free.ensures in
-    let room = long_enough _ _ of _ c.total_steps-total.ensures c.args.starts.now c.args.edges.now c.args.directions.now (rw c.len-count.ensures at c.if-starts-count.false) in
-    (noted_parented _ _ spanned _ c.tree_parents-parents.ensures, of, room.0, room.1)
+    let total = rw c.new-rooted.ensures at c.total_steps-total.ensures in
+    let room = long_enough _ _ of _ total c.args.starts.now c.args.edges.now c.args.directions.now (rw c.len-count.ensures at c.if-starts-count.false) in
+    rw c.new-rooted.ensures (of, room.0, room.1)
 
 pub returns : goal.returns
 unfolding loops_call
 returns c =
     let of = c.free_edges-free.ensures in
     let whole = sym c.in_ok-accept.ensures in
-    let told = room_told _ _ of _ c.total_steps-total.ensures _ _ _ in
-    ends (loops_call _ _ _ _) (past_record _ whole (past (told ∙ rw c.len-count.ensures at c.if-starts-count.false) none)) (c.len-count.ensures ∙ of.count) (lists_are c.write_loops.ensures)
+    let told = room_told _ _ of _ (rw c.new-rooted.ensures at c.total_steps-total.ensures) _ _ _ in
+    ends (loops_call _ _ _ _) (past_record _ whole (past (told ∙ rw c.len-count.ensures at c.if-starts-count.false) none)) (c.len-count.ensures ∙ of.count) (lists_are (rw c.new-rooted.ensures at c.write_loops.ensures))
     (record { few = rw (← of.count) of.few; each = loops_fundamental _ ((accepting.accepted _).0 whole) })

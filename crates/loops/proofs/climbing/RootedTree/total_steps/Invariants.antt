@@ -1,7 +1,7 @@
 use Rattle.std.proofs.Common.{◌≡◌, length}
 use Rattle.complex.specs.Complex.{complex_of}
 use Rattle.loops.specs.Loops.{loop_steps}
-use Rattle.loops.proofs.fundamental.total_steps.Given as goal
+use Rattle.loops.proofs.climbing.RootedTree.total_steps.Given as goal
 
 abbrev pub invariant-loop-f : goal.invariant-loop-f
-invariant-loop-f l = l.total ≡ length (loop_steps (complex_of l.c) l.f-index)
+invariant-loop-f l = l.total ≡ length (loop_steps (complex_of l.self.complex) l.f-index)
