@@ -12,7 +12,7 @@ use numbers::sizes::INPUT_ROOM;
 use pages::{Filled, fill_begin, fill_more};
 use std::env::{Env, FillError};
 use std::io::{Error, ErrorKind, Result, Write};
-use streams::{Input, Output, read_input, write_output};
+use streams::{read_input, write_output};
 
 // How a run came out. The exit status is made of it.
 #[derive(Clone, Copy)]
@@ -23,14 +23,11 @@ enum Status {
     Failed,
 }
 
-// How many words the command line has, the program's name among them.
+// How many words the command line has, the program's name among them: the first that is absent tells.
 fn word_count(env: &impl Env) -> usize {
-    for number in 0..usize::MAX {
-        if let Err(FillError::NotPresent) = env.arg(number, &mut []) {
-            return number;
-        }
-    }
-    usize::MAX
+    (0..usize::MAX)
+        .find(|number| matches!(env.arg(*number, &mut []), Err(FillError::NotPresent)))
+        .unwrap_or(usize::MAX)
 }
 
 // Whether a word of the command line is the text, of at most 16 bytes.
@@ -86,12 +83,18 @@ fn buffer() -> [u8; 32768]
     [0; 32768]
 }
 
-// Why not all was written. A write that takes nothing does not say why.
-fn unwritten(written: Output) -> Error {
-    match written.why {
-        Some(why) => why,
-        None => Error::from(ErrorKind::WriteZero),
+// All bytes go out, or why not all of them could be written. A write that takes nothing does not say why.
+fn put<W: Write>(output: &mut W, bytes: &[u8]) -> Result<()>
+    ensures { OnOk result (Appends (W.contents output.old) (W.contents output.new) bytes.now) }
+{
+    let written = write_output(output, bytes);
+    if written.n < bytes.len() {
+        return Err(match written.why {
+            Some(why) => why,
+            None => Error::from(ErrorKind::WriteZero),
+        });
     }
+    Ok(())
 }
 
 // What stands in the list goes out, and then all that is to come, piece by piece. Or why not all of it could be written: nothing follows a piece that could not.
@@ -100,17 +103,13 @@ fn print<W: Write>(output: &mut W, out: &mut [u8], first: Filled) -> Result<()>
     ensures { OnOk result ((text : List ℕ) → Piece text 0 out.old first → Appends (W.contents output.old) (W.contents output.new) text) }
 {
     let mut piece = first;
-    loop {
-        let len = piece.len;
-        let written = write_output(output, &out[..len]);
-        if written.n < len {
-            return Err(unwritten(written));
-        }
-        let Some(page) = piece.next else {
-            return output.flush();
-        };
+    put(output, &out[..piece.len])?;
+    // By a while: a piece tells where the next one begins.
+    while let Some(page) = piece.next {
         piece = fill_more(out, page);
+        put(output, &out[..piece.len])?;
     }
+    output.flush()
 }
 
 // The answer to the bytes of a sheet. Where it is not told that it failed, all of the text went out.
@@ -141,8 +140,8 @@ fn list(rt: &HostRuntime) -> Status {
     // one byte more than the longest sheet has
     let mut input = [0u8; INPUT_ROOM];
     match read_input(&mut rt.stdin(), &mut input) {
-        Input::Bytes(n) => answer(rt, &mut rt.stdout(), &input[..n]),
-        Input::Unread(why) => {
+        Ok(n) => answer(rt, &mut rt.stdout(), &input[..n]),
+        Err(why) => {
             fail(
                 rt,
                 b"basis: the sheet could not be read from standard input",
@@ -155,16 +154,17 @@ fn list(rt: &HostRuntime) -> Status {
 
 // A text on standard output.
 fn tell(rt: &HostRuntime, text: &[u8]) -> Status {
-    let written = write_output(&mut rt.stdout(), text);
-    if written.n < text.len() {
-        fail(
-            rt,
-            b"basis: the text could not be written to standard output",
-            unwritten(written),
-        );
-        return Status::Failed;
+    match put(&mut rt.stdout(), text) {
+        Ok(()) => Status::Answered,
+        Err(why) => {
+            fail(
+                rt,
+                b"basis: the text could not be written to standard output",
+                why,
+            );
+            Status::Failed
+        }
     }
-    Status::Answered
 }
 
 // A word of the command line goes to standard error, of a long one the beginning.

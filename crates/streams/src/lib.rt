@@ -2,94 +2,45 @@
 // writer whose bytes are known the contracts say which.
 #![tactic(auto)]
 
-ghost use Rattle.std.specs.Prelude.{◌≡◌, true, ◌+◌, ◌^◌, ◌<◌, ◌≤◌, IsSome, length, take};
+ghost use Rattle.std.specs.Prelude.{◌≡◌, ◌+◌, ◌<◌, ◌≤◌, IsSome, IfOk, IfErr, length, take};
+ghost use Rattle.std.specs.IoError.{error_kind};
 ghost use Rattle.std.specs.Io.KnownBytes.{Appends};
-ghost use Rattle.streams.specs.Moving.{Moved, InputFits, InputTaken};
+ghost use Rattle.streams.specs.Moving.{InputFits, InputTaken};
 
-use std::io::{Error, ErrorKind, Read, Write};
+use std::io::{Error, ErrorKind, Read, Result, Write};
 
 // How often in all a call is tried again that a signal interrupted.
 const TRIES: usize = 1000000;
 
-// How many bytes were moved, how many tries are left, whether it goes on, and whether a call failed.
-#[derive(Clone, Copy)]
-pub struct Moving {
-    pub n: usize,
-    pub tries: usize,
-    pub going: bool,
-    pub failed: bool,
-}
-
-fn start() -> Moving
-    ensures n { result.n ≡ 0 }
-    ensures going { result.going ≡ true }
+// The tries that are left after a call that a signal interrupted, or why a call failed otherwise.
+fn retry(tries: usize, why: Error) -> Result<usize>
+    ensures left { IfOk result (λ left. (left + 1 ≡ tries) × (error_kind why ≡ ErrorKind.Interrupted)) }
+    ensures failed { IfErr result (λ e. e ≡ why) }
 {
-    Moving {
-        n: 0,
-        tries: TRIES,
-        going: true,
-        failed: false,
-    }
-}
-
-// After one call more, which moved so many bytes or failed, a signal having interrupted it or not. A call that did neither is at the end.
-fn after(m: Moving, moved: usize, failed: bool, interrupted: bool) -> Moving
-    requires { m.n + moved < 2 ^ 64 }
-    ensures moved { Moved moved failed m result }
-    ensures tried { moved ≡ 0 → result.going ≡ true → interrupted ≡ true }
-{
-    if 0 < moved {
-        return Moving {
-            n: m.n + moved,
-            tries: m.tries,
-            going: true,
-            failed: false,
-        };
-    }
-    if failed & interrupted {
-        if 0 < m.tries {
-            return Moving {
-                n: m.n,
-                tries: m.tries - 1,
-                going: true,
-                failed: false,
-            };
+    if why.kind() == ErrorKind::Interrupted {
+        if 0 < tries {
+            return Ok(tries - 1);
         }
     }
-    Moving {
-        n: m.n,
-        tries: m.tries,
-        going: false,
-        failed: failed,
-    }
+    Err(why)
 }
 
-// How many bytes were read, or why reading failed.
-#[derive(Clone, Copy)]
-pub enum Input {
-    Bytes(usize),
-    Unread(Error),
-}
-
-// Reads until the list is full or the input ends.
-pub fn read_input<R: Read>(input: &mut R, list: &mut [u8]) -> Input
+// Reads until the list is full or the input ends: how many bytes were read, or why reading failed. By a while: only the call tells how many bytes
+// it read.
+pub fn read_input<R: Read>(input: &mut R, list: &mut [u8]) -> Result<usize>
     ensures fits { InputFits (length list.old) result }
     ensures taken { InputTaken (R.remaining input.old) (R.remaining input.new) list.new result }
 {
-    let mut m = start();
-    while m.going & (m.n < list.len()) {
-        let n = m.n;
+    let mut n = 0;
+    let mut tries = TRIES;
+    while n < list.len() {
         match input.read(&mut list[n..]) {
-            Ok(moved) => m = after(m, moved, false, false),
-            Err(why) => {
-                m = after(m, 0, true, why.kind() == ErrorKind::Interrupted);
-                if m.failed {
-                    return Input::Unread(why);
-                }
-            }
+            Ok(0) => return Ok(n),
+            Ok(read) => n += read,
+            Err(why) => tries = retry(tries, why)?,
         }
     }
-    Input::Bytes(m.n)
+    Ok(n)
 }
 
 // How many bytes were written, and why a write failed, where one did.
@@ -99,27 +50,23 @@ pub struct Output {
     pub why: Option<Error>,
 }
 
-// Writes all bytes, or stops at the first write that takes nothing or fails.
+// Writes all bytes, or stops at the first write that takes nothing or fails. By a while: only the call tells how many bytes it took.
 pub fn write_output<W: Write>(output: &mut W, bytes: &[u8]) -> Output
     ensures fits { result.n ≤ length bytes.now }
     ensures why { IsSome result.why → result.n < length bytes.now }
     ensures given { Appends (W.contents output.old) (W.contents output.new) (take result.n bytes.now) }
 {
-    let mut m = start();
-    while m.going & (m.n < bytes.len()) {
-        let n = m.n;
+    let mut n = 0;
+    let mut tries = TRIES;
+    while n < bytes.len() {
         match output.write(&bytes[n..]) {
-            Ok(moved) => m = after(m, moved, false, false),
-            Err(why) => {
-                m = after(m, 0, true, why.kind() == ErrorKind::Interrupted);
-                if m.failed {
-                    return Output {
-                        n: m.n,
-                        why: Some(why),
-                    };
-                }
-            }
+            Ok(0) => return Output { n, why: None },
+            Ok(written) => n += written,
+            Err(why) => match retry(tries, why) {
+                Ok(left) => tries = left,
+                Err(why) => return Output { n, why: Some(why) },
+            },
         }
     }
-    Output { n: m.n, why: None }
+    Output { n, why: None }
 }

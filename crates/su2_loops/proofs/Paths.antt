@@ -2,23 +2,25 @@
 use Prim.Native.Nat.{ℕ, zero, suc, ◌+◌, ◌*◌, ◌<◌, ◌/◌, ◌%◌, ◌^◌, ◌≤◌, max}
 use mathlib.Core.List.{List, [], ◌∷◌, ◌++◌}
 use mathlib.Core.Bool.{Bool, true, false, ◌||◌, cond}
-use mathlib.Core.Path.{◌≡◌, refl, sym, ap, ap₂, ◌∙◌}
+use mathlib.Core.Path.{◌≡◌, refl, ap, ◌∙◌}
 use native.Mathlib.Decide.{ℕ_discrete}
-use native.Mathlib.Numerals.{add-one}
 use native.Mathlib.Omega.{arith}
 use borrow.Author.Tests.{eq-eqb, ne_eqb}
 use lib.Bits.{bit_or, bit_xor, or_step}
 use lib.Dec.{eqb}
 use lib.ListN.{get_or, length, take, length-append}
-use lib.Seq.{take-suc, take-length}
+use lib.Pow.{pow_mono}
+use native.Mathlib.Nat.{lt_of_le_of_lt}
+use Rattle.std.proofs.lemmas.Fn.{FoldsTo-push, chained_keeps}
 use Rattle.mathematics.specs.Bits.{bit}
 use Rattle.mathematics.specs.Counting.{keep}
 use Rattle.mathematics.specs.Lists.{listed}
+use Rattle.mathematics.proofs.Front.{take_next}
 use Rattle.mathematics.proofs.Lists.{listed_last}
 use Rattle.mathematics.proofs.Below.{keep_append}
 use Rattle.mathematics.proofs.Bits.{power_shifted, bit_of_zero, bit_power, bit_power_other, bit_xor_lem}
 use Rattle.su2_even_sets.specs.EvenSets.{chosen}
-use Rattle.su2_loops.specs.Loop.{names, passes, passes_oddly, counting, path_mask, passes_mask, mask_by}
+use Rattle.su2_loops.specs.Loop.{names, passes, passes_oddly, EdgePut, MaskMade, Counts}
 
 -- ---- bit by bit
 or_half : (x y : ℕ) → bit_or x y / 2 ≡ bit_or (x / 2) (y / 2)
@@ -39,16 +41,10 @@ power_bit a e = go (ℕ_discrete e a)
     go (yes p) = rw (eq-eqb e a p) (ap (bit (2 ^ a)) p ∙ bit_power a)
     go (no p) = rw (ne_eqb e a p) (bit_power_other a e p)
 
--- ---- one turn of the loop
-pub mask_more : (path : List ℕ) (k : ℕ) → path_mask path (k + 1) ≡ bit_or (path_mask path k) (2 ^ get_or path k 0)
-unfolding path_mask
-mask_more path k = ap (path_mask path) (add-one k)
-
-pub passes_more : (path : List ℕ) (k : ℕ) → passes_mask path (k + 1) ≡ bit_xor (passes_mask path k) (2 ^ get_or path k 0)
-unfolding passes_mask
-passes_more path k = ap (passes_mask path) (add-one k)
-
 -- ---- one edge more
+power_below : (a : ℕ) → a < 64 → 2 ^ a < 2 ^ 64
+power_below a h = let low : a ≤ 63 = omega arith in lt_of_le_of_lt (pow_mono low) (omega arith)
+
 either : (p q : Bool) → max (cond p 1 0) (cond q 1 0) ≡ cond (p || q) 1 0
 either true true = refl
 either true false = refl
@@ -72,47 +68,38 @@ passes_one x e = go (eqb e x)
     go false = refl
 
 -- ---- the mask of a path
-module _ (path : List ℕ) (e : ℕ) where
-  named_bit : (k : ℕ) → k ≤ length path → bit (path_mask path k) e ≡ cond (listed eqb e (take k path)) 1 0
-  unfolding path_mask listed
-  named_bit zero h = bit_of_zero e
-  named_bit (suc k) h =
-      let one : listed eqb e (take (suc k) path) ≡ (listed eqb e (take k path) || eqb e (get_or path k 0)) = ap (listed eqb e) (take-suc path k 0 h) ∙ listed_last eqb e (take k path) (get_or path k 0) in
-      bit_or_lem (path_mask path k) (2 ^ get_or path k 0) e
-      ∙ ap₂ max (named_bit k (omega arith)) (power_bit (get_or path k 0) e)
-      ∙ either (listed eqb e (take k path)) (eqb e (get_or path k 0))
-      ∙ ap (λ (b : Bool). cond b 1 0) (sym one)
+-- one step more
+pub put_more : (puts : ℕ → ℕ → ℕ → Type 0) (path : List ℕ) (k mask next : ℕ) → k < length path → get_or path k 0 < 64 → mask < 2 ^ 64 → MaskMade puts (take k path) mask → puts mask (1 * 2 ^ get_or path k 0 % 2 ^ 64) next
+    → MaskMade puts (take (k + 1) path) next
+put_more puts path k mask next inside low small made put =
+    rw (take_next path k 0 inside) (FoldsTo-push (EdgePut puts) 0 (take k path) mask (get_or path k 0) next made (small, low, rw (power_shifted (get_or path k 0) low) at put))
 
-  passed_bit : (k : ℕ) → k ≤ length path → bit (passes_mask path k) e ≡ passes (take k path) e % 2
-  unfolding passes_mask passes keep
-  passed_bit zero h = bit_of_zero e
-  passed_bit (suc k) h =
-      let one : passes (take (suc k) path) e ≡ passes (take k path) e + passes (get_or path k 0 ∷ []) e = ap (λ (l : List ℕ). passes l e) (take-suc path k 0 h) ∙ passes_append (take k path) (get_or path k 0 ∷ []) e in
-      omega (arith, one, bit_xor_lem (passes_mask path k) (2 ^ get_or path k 0) e, passed_bit k (omega arith), power_bit (get_or path k 0) e, passes_one (get_or path k 0) e)
+module _ {puts : ℕ → ℕ → ℕ → Type 0} (path : List ℕ) where
+  -- where an edge is put by or, the edges that the path names
+  module _ (by_or : (m e next : ℕ) → m < 2 ^ 64 → e < 2 ^ 64 → puts m e next → next ≡ bit_or m e) where
+    named_step : (e : ℕ) (l : List ℕ) (m a next : ℕ) → bit m e ≡ cond (listed eqb e l) 1 0 → EdgePut puts m a next → bit next e ≡ cond (listed eqb e (l ++ (a ∷ []))) 1 0
+    named_step e l m a next so_far put =
+        rw (by_or m (2 ^ a) next put.0 (power_below a put.1) put.2, bit_or_lem m (2 ^ a) e, so_far, power_bit a e, either (listed eqb e l) (eqb e a), listed_last eqb e l a) refl
 
-  counted_edge : (by_passes : Bool) → chosen (mask_by by_passes path) e ≡ counting by_passes path e
-  unfolding mask_by chosen counting names passes_oddly
-  counted_edge false =
-      ap (λ (b : ℕ). eqb b 1) (named_bit (length path) (omega arith))
-      ∙ ap (λ (l : List ℕ). eqb (cond (listed eqb e l) 1 0) 1) (take-length path)
-      ∙ is_one (listed eqb e path)
-  counted_edge true =
-      ap (λ (b : ℕ). eqb b 1) (passed_bit (length path) (omega arith))
-      ∙ ap (λ (l : List ℕ). eqb (passes l e % 2) 1) (take-length path)
+    pub named_count : Counts puts path (names path)
+    unfolding chosen names listed
+    named_count =
+        record {
+          counted = λ mask made i e.
+              (ap (λ (b : ℕ). eqb b 1) (chained_keeps (EdgePut puts) (λ l m. bit m e ≡ cond (listed eqb e l) 1 0) (λ l m a next. named_step e l m a next) path 0 mask (bit_of_zero e) made) ∙ is_one (listed eqb e path)) i;
+        }
 
--- the mask has the edges that count
-pub counted_mask : (by_passes : Bool) (path : List ℕ) {mask : ℕ} → mask ≡ mask_by by_passes path → chosen mask ≡ counting by_passes path
-counted_mask by_passes path is = ap chosen is ∙ (λ i e. counted_edge path e by_passes i)
+  -- where it is put by xor, those that it passes an odd number of times
+  module _ (by_xor : (m e next : ℕ) → m < 2 ^ 64 → e < 2 ^ 64 → puts m e next → next ≡ bit_xor m e) where
+    passed_step : (e : ℕ) (l : List ℕ) (m a next : ℕ) → bit m e ≡ passes l e % 2 → EdgePut puts m a next → bit next e ≡ passes (l ++ (a ∷ [])) e % 2
+    passed_step e l m a next so_far put =
+        let is = by_xor m (2 ^ a) next put.0 (power_below a put.1) put.2 in
+        rw is (omega (arith, bit_xor_lem m (2 ^ a) e, so_far, power_bit a e, passes_append l (a ∷ []) e, passes_one a e))
 
--- ---- one step more, and no step
-pub mask_none : (by_passes : Bool) (path : List ℕ) → 0 ≡ cond by_passes (passes_mask path 0) (path_mask path 0)
-unfolding path_mask passes_mask
-mask_none true path = refl
-mask_none false path = refl
-
-module _ (path : List ℕ) (k mask : ℕ) (low : get_or path k 0 < 64) where
-  pub step_named : mask ≡ path_mask path k → bit_or mask (1 * 2 ^ get_or path k 0 % 2 ^ 64) ≡ path_mask path (k + 1)
-  step_named is = ap₂ bit_or is (power_shifted (get_or path k 0) low) ∙ sym (mask_more path k)
-
-  pub step_passed : mask ≡ passes_mask path k → bit_xor mask (1 * 2 ^ get_or path k 0 % 2 ^ 64) ≡ passes_mask path (k + 1)
-  step_passed is = ap₂ bit_xor is (power_shifted (get_or path k 0) low) ∙ sym (passes_more path k)
+    pub passed_count : Counts puts path (passes_oddly path)
+    unfolding chosen passes_oddly passes keep
+    passed_count =
+        record {
+          counted = λ mask made i e.
+              ap (λ (b : ℕ). eqb b 1) (chained_keeps (EdgePut puts) (λ l m. bit m e ≡ passes l e % 2) (λ l m a next. passed_step e l m a next) path 0 mask (bit_of_zero e) made) i;
+        }

@@ -1,7 +1,8 @@
 -- The expectation of a Wilson loop in the two-valued mode: a sign for each state, and a sum over all states in a fixed order, with one rounding an
 -- operation. Two calls read a path: one takes the set of its edges, the other counts each edge by its number of passes modulo two.
-use Rattle.std.specs.Prelude.{ℕ, zero, suc, ◌%◌, ◌^◌, ◌≤◌, List, [], ◌∷◌, ◌++◌, Bool, not, ◌&&◌, cond, eqb, ltb, Float, get_or, length}
-use Rattle.std.specs.Int.Bits.{bit_and, bit_or, bit_xor}
+use Rattle.std.specs.Prelude.{ℕ, zero, suc, ◌%◌, ◌^◌, ◌<◌, ◌≤◌, List, [], ◌∷◌, ◌++◌, Bool, not, ◌&&◌, cond, ◌≡◌, eqb, ltb, Float, get_or, length}
+use Rattle.std.specs.List.{FoldsTo}
+use Rattle.std.specs.Int.Bits.{bit_and}
 use Rattle.std.specs.Int.Count.{ones}
 use Rattle.std.specs.Float.{binary64, nan}
 use Rattle.std.specs.Float.Ieee.{neg, add, mul}
@@ -104,23 +105,17 @@ unfoldable pub su2_passes_call : Complex → List Float → List ℕ → List �
 su2_passes_call c vector path work = expectation_call c vector path (passes_oddly path) work
 
 -- ---- as the code keeps it
--- which edges count, by passes or not
-unfoldable pub counting : Bool → List ℕ → ℕ → Bool
-counting by_passes path = cond by_passes (passes_oddly path) (names path)
+-- One step of a path more: its edge is put into the mask by a rule, which makes of a mask and an edge the next mask.
+abbrev pub EdgePut : (ℕ → ℕ → ℕ → Type 0) → ℕ → ℕ → ℕ → Type 0
+EdgePut puts mask edge next = (mask < 2 ^ 64) × (edge < 64) × puts mask (2 ^ edge) next
 
--- the first n edges of a path as a mask
-unfoldable pub path_mask : List ℕ → ℕ → ℕ
-path_mask path zero = 0
-path_mask path (suc k) = bit_or (path_mask path k) (2 ^ get_or path k 0)
+-- the mask of a path by a rule, step by step from the empty one
+abbrev pub MaskMade : (ℕ → ℕ → ℕ → Type 0) → List ℕ → ℕ → Type 0
+MaskMade puts path mask = FoldsTo (EdgePut puts) 0 path mask
 
--- the edges that the first n steps of a path pass an odd number of times, as a mask
-unfoldable pub passes_mask : List ℕ → ℕ → ℕ
-passes_mask path zero = 0
-passes_mask path (suc k) = bit_xor (passes_mask path k) (2 ^ get_or path k 0)
-
--- the edges of a path that count, as a mask
-unfoldable pub mask_by : Bool → List ℕ → ℕ
-mask_by by_passes path = cond by_passes (passes_mask path (length path)) (path_mask path (length path))
+-- just these edges are in the mask of a path by a rule
+pub record Counts (puts : ℕ → ℕ → ℕ → Type 0) (path : List ℕ) (counts : ℕ → Bool) : Type 0 where
+  pub counted : (mask : ℕ) → MaskMade puts path mask → chosen mask ≡ counts
 
 -- the sum, by the list of states and the mask of the path
 unfoldable pub mask_sum : List Float → List ℕ → ℕ → ℕ → Float

@@ -9,7 +9,7 @@ ghost use Rattle.mathematics.specs.Calls.{Answered};
 ghost use Rattle.answers.specs.Refusal.{answer_of, judged};
 ghost use Rattle.complex.specs.Complex.{complex_of};
 ghost use Rattle.matrices.specs.Coupling.{float_of};
-ghost use Rattle.su2_loops.specs.Loop.{path_right, loop_tests, expectation_call, su2_loop_call, su2_passes_call, counting, mask_by, mask_sum};
+ghost use Rattle.su2_loops.specs.Loop.{path_right, loop_tests, expectation_call, su2_loop_call, su2_passes_call, MaskMade, Counts, mask_sum};
 ghost use Rattle.su2_loops.specs.Parity.{parity_sign, ExactlyWhereOdd};
 
 use answers::refusal::Refusal;
@@ -46,15 +46,15 @@ fn accept_loop(n_states: usize, n_edges: usize, vector: &[f64], path: &[u8]) -> 
     Ok(())
 }
 
-// The edges of a path that count, as a mask: each that it names or, by passes, each that it passes an odd number of times.
-fn counted_mask(path: &[u8], by_passes: bool) -> u64
-    requires { (k : ℕ) → k < length path.now → get_or path.now k 0 < 64 }
-    ensures { result ≡ mask_by by_passes path.now }
+// The edges of a path that count, as a mask: each step puts its edge into it.
+fn counted_mask<F: Fn(u64, u64) -> u64>(path: &[u8], put: F) -> u64
+    requires low { (k : ℕ) → k < length path.now → get_or path.now k 0 < 64 }
+    requires callable { F.IsAlwaysCallable put }
+    ensures { MaskMade (F.post put) path.now result }
 {
     let mut mask = 0;
     for step in path {
-        let bit = 1 << *step;
-        mask = if by_passes { mask ^ bit } else { mask | bit };
+        mask = put(mask, 1 << *step);
     }
     mask
 }
@@ -82,16 +82,17 @@ fn mask_sum(vector: &[f64], states: &[u64], mask: u64) -> f64
     sum
 }
 
-// All even edge sets of a record go to the beginning of the list, and the expectation of a path's loop on them is told, by passes or by the
-// set of the path's edges. All is judged first.
-fn loop_expectation(
+// All even edge sets of a record go to the beginning of the list, and the expectation of a path's loop on them is told, by the edges that count:
+// a step puts its edge into their mask. All is judged first.
+fn loop_expectation<F: Fn(u64, u64) -> u64>(
     c: SimplicialComplex,
     vector: &[f64],
     path: &[u8],
-    by_passes: bool,
+    put: F,
     states: &mut [u64],
 ) -> Result<f64, Refusal>
-    ensures { Answered (expectation_call (complex_of c) vector.now path.now (counting by_passes path.now) states.old) (answer_of result) states.new }
+    requires callable { F.IsAlwaysCallable put }
+    ensures { (counts : _) → Counts (F.post put) path.now counts → Answered (expectation_call (complex_of c) vector.now path.now counts states.old) (answer_of result) states.new }
 {
     let f = accepted_loops(c)?;
     let n = 1 << f.count;
@@ -100,7 +101,7 @@ fn loop_expectation(
         return Err(Refusal::NoRoom);
     }
     write_masks(states, &f.loops, f.count);
-    Ok(mask_sum(vector, states, counted_mask(path, by_passes)))
+    Ok(mask_sum(vector, states, counted_mask(path, put)))
 }
 
 // The expectation of the loop of a path's edge set: an edge that is named twice counts once. The list then begins with all even edge sets. All
@@ -113,7 +114,7 @@ pub fn su2_wilson_loop(
 ) -> Result<f64, Refusal>
     ensures { Answered (su2_loop_call (complex_of c) vector.now path.now states.old) (answer_of result) states.new }
 {
-    loop_expectation(c, vector, path, false, states)
+    loop_expectation(c, vector, path, |mask, edge| mask | edge, states)
 }
 
 // The same by passes: each edge counts by its number of passes modulo two, so an edge that is passed twice does not count.
@@ -125,5 +126,5 @@ pub fn su2_wilson_passes(
 ) -> Result<f64, Refusal>
     ensures { Answered (su2_passes_call (complex_of c) vector.now path.now states.old) (answer_of result) states.new }
 {
-    loop_expectation(c, vector, path, true, states)
+    loop_expectation(c, vector, path, |mask, edge| mask ^ edge, states)
 }

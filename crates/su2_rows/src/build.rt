@@ -1,4 +1,4 @@
-// The two-valued Hamiltonian as row lists.
+// The two-valued Hamiltonian as row lists. Each list is lent by a caller of the C interface, and stays a parameter of its own.
 ghost use Rattle.std.specs.Prelude.{◌≡◌, List, ◌++◌, ℕ, ◌+◌, ◌-◌, ◌*◌, ◌^◌, ◌<◌, ◌≤◌, length};
 ghost use Rattle.mathematics.specs.Calls.{Answered};
 ghost use Rattle.answers.specs.Refusal.{answer_of};

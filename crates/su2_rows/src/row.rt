@@ -1,4 +1,5 @@
-// A row of the two-valued Hamiltonian, made of the columns and the terms of all triangles.
+// A row of the two-valued Hamiltonian, made of the columns and the terms of all triangles. Columns and values stand apart, as in the lists of the
+// exported functions: rows/src/row.rt says so.
 ghost use Rattle.std.specs.Prelude.{◌≡◌, ◌+◌, ◌^◌, ◌<◌, ◌≤◌, length, take};
 ghost use Rattle.rows.specs.Entries.{pairs};
 ghost use Rattle.rows.specs.Row.{diagonal_first, ColumnsDiffer};
@@ -17,7 +18,7 @@ fn collect_row(
     diagonal: f64,
     flips: &Flips,
 ) -> usize
-    requires { (i < 2 ^ 20) × (flips.now.count ≤ 256) × (flips.now.count < length row_columns.old) × (length row_columns.old ≡ length row_values.old) }
+    requires { (i < 2 ^ 20) × (flips.now.count ≤ length flips.now.places) × (flips.now.count < length row_columns.old) × (length row_columns.old ≡ length row_values.old) }
     ensures { (take result (pairs row_columns.new row_values.new) ≡ diagonal_first i diagonal (flips_in flips.now)) × (result ≤ flips.now.count + 1) }
 {
     let column = i as u32;
@@ -42,7 +43,7 @@ pub fn add_row(
     columns: &mut [u32],
     values: &mut [f64],
 ) -> usize
-    requires { (i < 2 ^ 20) × (flips.now.count ≤ 256) × (flips.now.count < length row_columns.old) × (length row_columns.old ≡ length row_values.old) × (i + 1 < length starts.old) × ColumnsDiffer (diagonal_first i diagonal (flips_in flips.now)) × RowFits (diagonal_first i diagonal (flips_in flips.now)) at (length columns.old) (length values.old) }
+    requires { (i < 2 ^ 20) × (flips.now.count ≤ length flips.now.places) × (flips.now.count < length row_columns.old) × (length row_columns.old ≡ length row_values.old) × (i + 1 < length starts.old) × ColumnsDiffer (diagonal_first i diagonal (flips_in flips.now)) × RowFits (diagonal_first i diagonal (flips_in flips.now)) at (length columns.old) (length values.old) }
     ensures { RowAdded (diagonal_first i diagonal (flips_in flips.now)) i at starts.old columns.old values.old result starts.new columns.new values.new }
 {
     let found = collect_row(row_columns, row_values, i, diagonal, flips);

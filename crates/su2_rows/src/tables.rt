@@ -17,6 +17,7 @@ use su2_masks::flip::triangle_place;
 use triangles::{all_sides, sides_at};
 
 // Of each triangle the place of its edges, and its magnetic factor × weight. The two lists begin with them: they are two, as sort_row takes them.
+// There is no heap: both have room for the most triangles, and the count says how many there are.
 #[derive(Drop)]
 pub struct Flips {
     pub places: [u32; MOST_TRIANGLES],
@@ -42,6 +43,7 @@ impl Flips {
         let all = all_sides(c);
         let mut places = [0; MOST_TRIANGLES];
         let mut terms = [0.0; MOST_TRIANGLES];
+        // By number: triangle t has its sides, its weight and its place in two tables.
         for t in 0..c.n_triangles {
             let place = triangle_place(f, sides_at(&all, t));
             places[t] = place as u32;
@@ -56,8 +58,8 @@ impl Flips {
 
     // The entries of the triangles in one row become those in another, and are sorted. From a row to the next few change their order.
     pub fn flip(&mut self, by: u32)
-        requires { (self.old.count ≤ 256) × ColumnsDiffer (flips_in self.old) }
-        ensures { Sorted (flipped_entries by (flips_in self.old)) (flips_in self.new) × (self.new.count ≡ self.old.count) }
+        requires { (self.old.count ≤ length self.old.places) × ColumnsDiffer (flips_in self.old) }
+        ensures { Sorted (flipped_entries by (flips_in self.old)) (flips_in self.new) × (self.new.count ≡ self.old.count) × (length self.new.places ≡ length self.old.places) }
     {
         flip_columns(&mut self.places[..self.count], by);
         sort_row(&mut self.places, &mut self.terms, self.count);

@@ -1,5 +1,5 @@
 -- Each piece leaves less to come, and the next one stands in the list. What was written and the piece are the beginning of a text.
-use Rattle.std.proofs.Common.{◌≡◌, ℕ, ◌+◌, ◌<◌, List, Some, refl, ap, ◌∙◌, arith, length, subst}
+use Rattle.std.proofs.Common.{◌≡◌, ℕ, ◌+◌, ◌<◌, List, Some, refl, sym, ap, ◌∙◌, arith, length, length-take-le, subst}
 use Rattle.std.specs.Io.KnownBytes.{Appends}
 use lib.ListN.{length-drop}
 use Rattle.std.proofs.KnownBytes.{Appends-nil, Appends-kept}
@@ -25,9 +25,8 @@ pub loop-piece-init : goal.loop-piece-init
 loop-piece-init g c =
     record {
       long = refl;
-      inside = c.requires.1;
       ready = c.requires.2;
-      given = λ text first. (0, first, Appends-nil (g.W.Write.contents c.args.output.now));
+      given = λ text first. (0, first, written _ _ _ text _ 0 c.args.first first (Appends-nil (g.W.Write.contents c.args.output.now)) c.in_ok-put.ensures);
     }
 
 pub fill_more-piece-requires : goal.fill_more-piece-requires
@@ -43,22 +42,24 @@ pub loop-piece-preserved : goal.loop-piece-preserved
 loop-piece-preserved g c =
     let piece : Piece (to_come c.in-Some.page) 0 c.fill_more-piece.new.out c.fill_more-piece.result =
     next _ _ _ c.fill_more-piece.ensures in
-    let out = c.write_output-written in
     record {
       long = c.fill_more-piece.auto.out ∙ c.loop-piece.invariant.long;
-      inside = piece.fits;
       ready = piece.ready;
       given = λ text first.
           let (place, at, before) = c.loop-piece.invariant.given text first in
-          (place + c.loop-piece.piece.len, c.fill_more-piece.ensures text (place + c.loop-piece.piece.len) (behind text _ place c.loop-piece.piece c.in-Some.page at c.in-Some.is), written _ _ _ text _ place _ _ at before c.if-written-len.false out.ensures.fits out.ensures.given);
+          let more = c.fill_more-piece.ensures text (place + c.loop-piece.piece.len) (behind text _ place c.loop-piece.piece c.in-Some.page at c.in-Some.is) in
+          (place + c.loop-piece.piece.len, more, written _ _ _ text _ _ c.fill_more-piece.result more before c.in_ok-put-2.ensures);
     }
 
-pub returns-in_default : goal.returns-in_default
-returns-in_default g c =
-    let text_written : (text : List ℕ) → Piece text 0 c.args.out.now c.args.first → Appends (g.W.Write.contents c.args.output.now) (g.W.Write.contents c.flush.new.self) text =
-    λ text first.
-    let (place, at, before) = c.loop-piece.invariant.given text first in
-    let out = c.write_output-written in
-    let all = written _ _ _ text _ place _ _ at before c.if-written-len.false out.ensures.fits out.ensures.given in
-    subst (Appends _ _) (to_the_end text _ place _ at (ap follows c.in_default.is)) (Appends-kept _ _ _ _ all c.flush.ensures.bytes) in
-    on_ok _ c.flush.result text_written
+pub slice_bounds-put-end-in-Some : goal.slice_bounds-put-end-in-Some
+slice_bounds-put-end-in-Some g c = (next _ _ _ c.fill_more-piece.ensures).fits
+
+pub slice_bounds-put-end-in-Some-2 : goal.slice_bounds-put-end-in-Some-2
+slice_bounds-put-end-in-Some-2 g c = sym (length-take-le _ _ (next _ _ _ c.fill_more-piece.ensures).fits)
+
+pub returns : goal.returns
+returns g c =
+    on_ok _ c.flush.result
+    (λ text first.
+    let (place, at, all) = c.loop-piece.invariant.given text first in
+    subst (Appends _ _) (to_the_end text _ place _ at (ap follows c.in_default.is)) (Appends-kept _ _ _ _ all c.flush.ensures.bytes))

@@ -1,5 +1,5 @@
--- A piece stands in the list, and each leaves less to come. Of a text that the first piece begins, all before the piece was written.
-use Rattle.std.proofs.Common.{ℕ, List, length, take, ◌≡◌, ◌≤◌}
+-- A piece was written, and each leaves less to come. Of a text that the first piece begins, all up to the end of the piece was written.
+use Rattle.std.proofs.Common.{ℕ, List, length, take, ◌≡◌, ◌+◌}
 use Rattle.std.specs.Prelude.{IfSome}
 use Rattle.std.specs.Io.KnownBytes.{Appends}
 use Rattle.pages.specs.Pages.{rest_of, PageReady, Piece}
@@ -9,10 +9,9 @@ abbrev pub invariant-loop-piece : goal.invariant-loop-piece
 invariant-loop-piece g l =
     record {
       long : length l.out ≡ length l.initial.out;
-      inside : l.piece.len ≤ length l.out;
       ready : IfSome l.piece.next PageReady;
       given : (text : List ℕ) → Piece text 0 l.initial.out l.initial.piece → (place : ℕ) × (Piece text place l.out l.piece)
-          × (Appends (g.W.Write.contents l.initial.output) (g.W.Write.contents l.output) (take place text));
+          × (Appends (g.W.Write.contents l.fn.output) (g.W.Write.contents l.output) (take (place + l.piece.len) text));
     }
 
 abbrev pub decreases-loop-piece : goal.decreases-loop-piece

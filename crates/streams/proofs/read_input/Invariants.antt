@@ -1,17 +1,15 @@
--- What was read stands in the list, and each call that goes on leaves less to do. Where none is made any more the reader is at its end.
-use Rattle.std.proofs.Common.{length, take, ◌≡◌, ◌≤◌, false}
-use Rattle.std.specs.Io.KnownBytes.{Consumes, IsAtEnd}
-use Rattle.streams.proofs.Movings.{left}
+-- What was read stands in the list, and each call leaves fewer bytes to read or fewer tries.
+use Rattle.std.proofs.Common.{length, take, ◌≡◌, ◌≤◌, ◌+◌, ◌-◌}
+use Rattle.std.specs.Io.KnownBytes.{Consumes}
 use Rattle.streams.proofs.read_input.Given as goal
 
-abbrev pub invariant-loop-m : goal.invariant-loop-m
-invariant-loop-m g l =
+abbrev pub invariant-loop-n : goal.invariant-loop-n
+invariant-loop-n g l =
     record {
       long : length l.list ≡ length l.initial.list;
-      inside : l.m.n ≤ length l.list;
-      taken : Consumes (g.R.Read.remaining l.initial.input) (g.R.Read.remaining l.input) (take l.m.n l.list);
-      ended : l.m.going ≡ false → IsAtEnd (g.R.Read.remaining l.input);
+      inside : l.n ≤ length l.list;
+      taken : Consumes (g.R.Read.remaining l.initial.input) (g.R.Read.remaining l.input) (take l.n l.list);
     }
 
-abbrev pub decreases-loop-m : goal.decreases-loop-m
-decreases-loop-m g l = left (length l.initial.list) l.m
+abbrev pub decreases-loop-n : goal.decreases-loop-n
+decreases-loop-n g l = length l.list - l.n + l.tries

@@ -1,6 +1,8 @@
-use Rattle.su2_loops.specs.Loop.{su2_passes_call, counting}
+use Rattle.std.proofs.Common.{rules}
+use Rattle.su2_loops.specs.Loop.{su2_passes_call}
+use Rattle.su2_loops.proofs.Paths.{passed_count}
 use Rattle.su2_loops.proofs.su2_wilson_passes.Goals as goal
 
 pub returns : goal.returns
-unfolding su2_passes_call counting
-returns c = c.loop_expectation.ensures
+unfolding su2_passes_call
+returns c = c.loop_expectation.ensures _ (passed_count c.args.path.now (λ m e next low small put. search rules))

@@ -23,6 +23,7 @@ loop-i-init c =
       begins = refl;
       written = λ old h w. w;
       count = refl;
+      long = omega arith;
       same = rw are (same_itself _);
       differ = λ some. rw are (others_differ 0 _ _ (c.requires.fit.differ 0 some));
     }
@@ -36,7 +37,7 @@ add_row-at-requires c =
     let differ = rw (← energy) at (c.requires.fit.differ c.loop-i.i inside) in
     let fits = rw (← energy, ← c.loop-i.auto.columns, ← c.loop-i.auto.values) at (fits_at c.requires.fit c.loop-i.i c.loop-i.at inside inv.begins) in (
       omega (arith, c.requires.few),
-      omega (arith, inv.count, c.requires.few_triangles),
+      omega (arith, inv.count, inv.long, c.requires.few_triangles),
       omega (arith, inv.count, inv.columns_long, c.requires.few_triangles),
       rw (inv.columns_long, inv.values_long) refl,
       omega (arith, length-set c.args.starts.now 0 0, c.requires.starts_fit),
@@ -60,6 +61,7 @@ loop-i-preserved c =
           added_written c.requires.fit c.loop-i.i c.loop-i.at inside inv.begins _ row.is _ _ _ _ _ _ _ row.appended old c.args.columns.now c.args.values.now
           (omega (arith, long, length-set c.args.starts.now 0 0, c.requires.starts_fit)) refl refl (inv.written old long none);
       count = c.flip.ensures.1 ∙ inv.count;
+      long = c.flip.ensures.2 ∙ inv.long;
       same = flips_next first.places first.terms first.count c.loop-i.i (c.loop-i.i + 1) inv.same c.flip.ensures.0;
       differ = λ more. sorted_differ c.flip.ensures.0;
     }

@@ -13,4 +13,4 @@ pub returns : goal.returns
 returns c =
     let room : c.args.self.now.count ≤ length c.args.self.now.places = omega arith in
     let long : length c.args.self.now.places ≡ length c.args.self.now.terms = omega arith in
-    (rw (flipped_front c.args.self.now.places c.flip_columns.new.columns c.args.self.now.terms _ c.args.by room c.flip_columns.auto.columns long c.flip_columns.ensures) at c.sort_row.ensures.sorted, refl)
+    (rw (flipped_front c.args.self.now.places c.flip_columns.new.columns c.args.self.now.terms _ c.args.by room c.flip_columns.auto.columns long c.flip_columns.ensures) at c.sort_row.ensures.sorted, refl, omega arith)
