@@ -9,7 +9,6 @@ ghost use Rattle.su2_even_sets.specs.Forest.{Keeps, Sized, Joined, Grows};
 
 use complex::SimplicialComplex;
 use numbers::sizes::{MOST_EDGES, MOST_VERTICES};
-use numbers::{edge_end, edge_start};
 
 // The part of each vertex, named after one vertex of it, the edges on the way there, and the first count closing edges and loops.
 #[derive(Clone, Copy)]
@@ -79,8 +78,7 @@ pub fn closing_loops(c: SimplicialComplex) -> Forest
 {
     let mut forest = Forest::separate();
     for e in 0..c.n_edges {
-        let a = edge_start(&c.edges, e);
-        let b = edge_end(&c.edges, e);
+        let (a, b) = c.edge(e);
         forest.grow(c.n_vertices, a, b, e);
     }
     forest

@@ -34,7 +34,7 @@ module _ (s z now : List ℤ) (t : ℤ) (e : ℕ) (can : Addable s t z) where
           (front_more s (with_cycle s t z) now e (pos 0) (added_length s t z) so_far_is r here (is ∙ rw (value_back, times_back, sign_back (get_or z e (pos 0)) (can.signs e)) (sym (added_at s t z e can.sized))))
 
 -- what can be added no times can be added a few times
-pub may_times : (s z : List ℤ) (n : ℕ) → Addable s (pos 0) z → n < 2 ^ 20 → Addable s (pos n) z
+pub may_times : (s z : List ℤ) (n : ℕ) → Addable s (pos 0) z → n ≤ 2 ^ 20 → Addable s (pos n) z
 may_times s z n may few = record { sized = may.sized; values = may.values; times = omega arith; signs = may.signs }
 
 -- the same where the sums stand in another list

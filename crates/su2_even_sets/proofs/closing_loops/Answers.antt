@@ -11,11 +11,8 @@ pub loop-e-init : goal.loop-e-init
 unfolding grown separate
 loop-e-init c = let none = c.separate-forest.ensures.closing.count in record { few = omega arith; keeps = c.separate-forest.ensures }
 
-pub edge_start-a-requires : goal.edge_start-a-requires
-edge_start-a-requires c = omega (arith, (accepted_searchable c.args.c c.requires).edges_fit)
-
-pub edge_end-b-requires : goal.edge_end-b-requires
-edge_end-b-requires c = omega (arith, (accepted_searchable c.args.c c.requires).edges_fit)
+pub edge-a-requires : goal.edge-a-requires
+edge-a-requires c = omega (arith, (accepted_searchable c.args.c c.requires).edges_fit)
 
 pub grow-requires : goal.grow-requires
 unfolding entries
@@ -27,8 +24,8 @@ grow-requires c =
       keeps_sized _ _ c.loop-e.invariant.keeps,
       c.loop-e.invariant.few,
       omega (arith, searchable.edges_fit),
-      rw c.edge_start-a.ensures (omega (arith, ends.0, ends.1)),
-      rw c.edge_end-b.ensures ends.1,
+      rw c.edge-a.ensures.first (omega (arith, ends.0, ends.1)),
+      rw c.edge-a.ensures.second ends.1,
       searchable.vertices_fit,
     )
 
@@ -39,7 +36,7 @@ loop-e-preserved c =
     let r = c.args.c in
     let e = c.loop-e.e in
     let es = simplices 2 r.edges r.n_edges in
-    let one : get_or es e [] ≡ c.edge_start-a.result ∷ c.edge_end-b.result ∷ [] = simplex_at 2 r.edges r.n_edges e (omega arith) ∙ rw (c.edge_start-a.ensures, c.edge_end-b.ensures) in
+    let one : get_or es e [] ≡ c.edge-a.result.0 ∷ c.edge-a.result.1 ∷ [] = simplex_at 2 r.edges r.n_edges e (omega arith) ∙ rw (c.edge-a.ensures.first, c.edge-a.ensures.second) in
     let within = grown_within r.n_vertices es searchable.ends e (rw (simplices_length 2 r.edges r.n_edges) (omega arith)) in
     record {
       few = omega (arith, c.grow.ensures.few, c.loop-e.invariant.few);
