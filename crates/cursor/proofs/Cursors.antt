@@ -3,7 +3,7 @@ use Prim.Native.Nat.{ℕ, zero, suc, ◌+◌, ◌-◌, ◌^◌, ◌≤◌, ◌<�
 use mathlib.Core.List.{List, [], ◌∷◌, ◌++◌, map, map-append}
 use mathlib.Core.Path.{◌≡◌, refl, sym, ap, ◌∙◌}
 use native.Mathlib.Omega.{arith}
-use native.Mathlib.Nat.{sub-zero, add-zero}
+use native.Mathlib.Nat.{add-zero}
 use lib.IntN.{ℤ, pos}
 use lib.ListN.{length, take, drop, length-append, length-drop}
 use Rattle.mathematics.specs.Counting.{below, applied}
@@ -21,7 +21,7 @@ use Rattle.cursor.specs.Cursor.{states_left}
 
 -- ---- the first row of a block
 map_first : {A : Type 0} (f : ℕ → A) (k : ℕ) → map f (below (suc k)) ≡ f 0 ∷ map (λ i. f (suc i)) (below k)
-unfolding below map
+unfolding below
 map_first f zero = refl
 map_first f (suc k) =
     map-append f (below (suc k)) (suc k ∷ [])
@@ -61,18 +61,14 @@ module _ (free : List ℕ) (cycles : List ℤ) (L n : ℕ) (s : List ℤ) (left 
   one_more : left ≡ suc (left - 1)
   one_more = omega arith
 
-  -- the first cycle as a part of the table
-  pub first_part : take (length s - 0) cycles ≡ cycle 0
-  first_part = rw (sub-zero (length s))
-
   small : Small (2 ^ 20) s
   small e = rw (walked_none free cycle L n s) at (fit.values 0 more e)
 
-  pub ready : (length (take (length s - 0) cycles) ≡ length s) × Small (2 ^ 20) s × Small 1 (take (length s - 0) cycles) × (L ≤ 1000)
+  pub ready : (length (take (length s) cycles) ≡ length s) × Small (2 ^ 20) s × Small 1 (take (length s) cycles) × (L ≤ 1000)
   ready = (
-    ap length first_part ∙ cycle_long (length s) n L cycles fit.cycles_fit 0 (omega arith),
+    cycle_long (length s) n L cycles fit.cycles_fit 0 (omega arith),
     small,
-    (λ e. rw first_part (cycle_signs (length s) n L cycles fit.cycles_fit 0 (omega arith) e)),
+    cycle_signs (length s) n L cycles fit.cycles_fit 0 (omega arith),
     fit.cycles_fit.truncation,
   )
 
@@ -80,11 +76,8 @@ module _ (free : List ℕ) (cycles : List ℤ) (L n : ℕ) (s : List ℤ) (left 
   step_may = (fit.cycles_fit, fit.free_fit, small)
 
   -- the first cycle can be added
-  pub row_ready : Addable s (pos 0) (take (length s - 0) cycles)
+  pub row_ready : Addable s (pos 0) (take (length s) cycles)
   row_ready = let r = ready in record { sized = r.0; values = λ e. omega (arith, r.1 e); times = omega arith; signs = r.2 }
-
-  pub row_is : (d : ℕ) → with_cycle s (pos d) (take (length s - 0) cycles) ≡ with_cycle s (pos d) (cycle 0)
-  row_is d = ap (with_cycle s (pos d)) first_part
 
   -- the states from a place of the block on
   pub from_here : (d to : ℕ) → states_left free cycle L n s left d to ≡ block_rows s (cycle 0) d to ++ walked_states free cycle L n (next free cycle L n s) (left - 1)
@@ -125,16 +118,16 @@ module _ (free : List ℕ) (cycles : List ℤ) (L n : ℕ) (s : List ℤ) (left 
   more_rows d to low = from_here d to ∙ rw (rows_first s (cycle 0) d to low) (ap (λ l. with_cycle s (pos d) (cycle 0) ∷ l) (sym (from_here (d + 1) to)))
 
   -- ---- the interval
-  module _ (w : ℕ) (wide : w ≡ width L n) (r : Span) (spans : SpanOfBlock L w s (take (length s - 0) cycles) r) where
+  module _ (w : ℕ) (wide : w ≡ width L n) (r : Span) (spans : SpanOfBlock L w s (take (length s) cycles) r) where
     rows_here : block_rows s (cycle 0) r.from r.to ≡ block L (width L n) s (cycle 0)
-    rows_here = (rw first_part at spans.is) ∙ rw wide
+    rows_here = spans.is ∙ rw wide
 
     pub few_here : r.to ≤ 2001
     few_here = omega (arith, spans.bound, wide, width_bound L n fit.cycles_fit.truncation)
 
     pub small_here : (d : ℕ) → r.from ≤ d → d < r.to → Small L (with_cycle s (pos d) (cycle 0))
     small_here d h k e =
-        rw first_part at (row_small L w s (take (length s - 0) cycles) ready.2 ready.0 r.from r.to spans.is d h k e)
+        row_small L w s (take (length s) cycles) ready.2 ready.0 r.from r.to spans.is d h k e
 
     pub states_here : states_left free cycle L n s left r.from r.to ≡ walked_states free cycle L n s left
     states_here =
@@ -173,5 +166,5 @@ pub few_states : (free : List ℕ) (cycles : List ℤ) (L n : ℕ) (s : List ℤ
 few_states free cycles L n s k walkable = omega (arith, states_counted free cycles L n s k walkable)
 
 -- a part of a list of 63 that was written anew
-pub anew_long : (s list : List ℤ) (m : ℕ) → length s ≡ m → m ≤ 63 → length list ≡ 63 → length (s ++ drop (m - 0) list) ≡ 63
-anew_long s list m e h all = rw (sub-zero m, length-append s (drop m list), length-drop m list, e) (omega arith)
+pub anew_long : (s list : List ℤ) (m : ℕ) → length s ≡ m → m ≤ 63 → length list ≡ 63 → length (s ++ drop m list) ≡ 63
+anew_long s list m e h all = rw (length-append s (drop m list), length-drop m list, e) (omega arith)

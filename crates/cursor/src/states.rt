@@ -4,29 +4,20 @@ ghost use Rattle.cycles.specs.Cycles.{row};
 ghost use Rattle.walker.specs.Walker.{walked_states};
 ghost use Rattle.walker.specs.Steps.{Walkable};
 
-use crate::{first_state, next_block};
-use numbers::sizes::MOST_EDGES;
-use numbers::usize_to_i32;
+use crate::Cursor;
 use walker::steps::add;
+use walker::tables::Walker;
 
-// From the first candidate to the state with a number.
-pub fn find_state(
-    config: &mut [i32],
-    free: &[u8; MOST_EDGES],
-    n_free: usize,
-    cycles: &[i8],
-    lambda: usize,
-    blocks: usize,
-    place: usize,
-)
-    requires { Walkable free.now cycles.now lambda n_free config.old blocks × (place < length (walked_states free.now (row (length config.old) cycles.now) lambda n_free config.old blocks)) }
-    ensures { config.new ≡ get_or (walked_states free.now (row (length config.old) cycles.now) lambda n_free config.old blocks) place [] }
+// From the first candidate to the state with a number. How many blocks are before it shows only as they are passed.
+pub fn find_state(config: &mut [i32], w: &Walker, lambda: usize, blocks: usize, place: usize)
+    requires { Walkable w.now.free w.now.cycles lambda w.now.n_free config.old blocks × (place < length (walked_states w.now.free (row (length config.old) w.now.cycles) lambda w.now.n_free config.old blocks)) }
+    ensures { config.new ≡ get_or (walked_states w.now.free (row (length config.old) w.now.cycles) lambda w.now.n_free config.old blocks) place [] }
 {
-    let mut c = first_state(config, free, n_free, cycles, lambda, blocks, 0);
+    let mut c = Cursor::first(config, w, lambda, blocks, 0);
     while c.to - c.d <= place - c.number {
-        c = next_block(c, config, free, n_free, cycles, lambda);
+        c = c.next_block(config, w, lambda);
     }
     let m = config.len();
-    let times = usize_to_i32(c.d + (place - c.number));
-    add(config, &cycles[0..m], times);
+    let times = c.d + (place - c.number);
+    add(config, &w.cycles[..m], times as i32);
 }

@@ -7,15 +7,11 @@ use numbers::sizes::MOST_EDGES;
 use walker::tables::Walker;
 
 // The state with a number stands in the first n_edges entries.
-pub fn state_at(w: Walker, lambda: usize, blocks: usize, place: usize) -> [i32; MOST_EDGES]
-    requires { Fit w lambda blocks × (place < length (states_of w lambda blocks)) }
-    ensures { (length result ≡ 63) × (take w.n_edges result ≡ get_or (states_of w lambda blocks) place []) }
+pub fn state_at(w: &Walker, lambda: usize, blocks: usize, place: usize) -> [i32; MOST_EDGES]
+    requires { Fit w.now lambda blocks × (place < length (states_of w.now lambda blocks)) }
+    ensures { (length result ≡ 63) × (take w.now.n_edges result ≡ get_or (states_of w.now lambda blocks) place []) }
 {
-    let free = w.free;
-    let n_free = w.n_free;
     let mut space = w.first;
-    let m = w.n_edges;
-    let config = &mut space[0..m];
-    find_state(config, &free, n_free, &w.cycles, lambda, blocks, place);
+    find_state(&mut space[..w.n_edges], w, lambda, blocks, place);
     space
 }

@@ -46,9 +46,17 @@ module _ (f : List ℤ → ℕ) where
   unfolding over_states
   over_next ss k h = rw (take_next ss k [] h) (over_append (take k ss) (get_or ss k [] ∷ []) ∙ omega arith)
 
-  pub over_none : 0 ≡ over_states f []
-  unfolding over_states
-  over_none = refl
+  -- counted up to a state, and up to the next
+  module _ (ss : List (List ℤ)) where
+    pub counted_none : (k : ℕ) → k ≡ 0 → 0 ≡ over_states f (take k ss)
+    unfolding over_states
+    counted_none k none = rw none
+
+    pub counted_more : (k next total r : ℕ) (s : List ℤ) → total ≡ over_states f (take k ss) → r ≡ f s → s ≡ get_or ss k [] → k < length ss → next ≡ k + 1 → total + r ≡ over_states f (take next ss)
+    counted_more k next total r s so_far here is there on = ap₂ (λ a b. a + b) so_far (here ∙ ap f is) ∙ sym (over_next ss k there) ∙ ap (λ n. over_states f (take n ss)) (sym on)
+
+    pub counted_all : (k total : ℕ) → total ≡ over_states f (take k ss) → k ≡ length ss → total ≡ over_states f ss
+    counted_all k total so_far end = so_far ∙ ap (over_states f) (take_all k ss (omega (arith, end)))
 
 -- the same of each state
 pub over_same : (f g : List ℤ → ℕ) (ss : List (List ℤ)) → ((i : ℕ) → i < length ss → f (get_or ss i []) ≡ g (get_or ss i [])) → over_states f ss ≡ over_states g ss

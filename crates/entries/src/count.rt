@@ -1,14 +1,12 @@
-// How many entries the rows have, counted state by state as a cursor goes over them, without a list.
+// How many entries the rows have, counted state by state as a cursor goes over them, without a list. There is no heap, so the table `all` of the
+// sides of all triangles has room for the most triangles.
 ghost use Rattle.std.specs.Prelude.{◌≡◌, ◌<◌, ◌≤◌, eqb, length};
 ghost use Rattle.matrices.specs.Squares.{squares};
-ghost use Rattle.cycles.specs.Cycles.{row};
-ghost use Rattle.walker.specs.Walker.{walked_states};
-ghost use Rattle.walker.specs.Steps.{Walkable};
 ghost use Rattle.walker.specs.Tables.{states_of};
 ghost use Rattle.plaquettes.specs.Pairs.{three, Movable};
 ghost use Rattle.entries.specs.Count.{over_states, both_stay, moves_stay, row_entries, Countable, AllCountable};
 
-use cursor::{first_state, next_state};
+use cursor::Cursor;
 use enumeration::basis::Basis;
 use numbers::sizes::MOST_EDGES;
 use plaquettes::pairs::stays;
@@ -24,7 +22,7 @@ fn count_both(state: &[i32], sides: Sides, lambda: usize) -> usize
     usize::from(stays(state, sides, 1, lambda)) + usize::from(stays(state, sides, -1, lambda))
 }
 
-// How many moves of the first n triangles do so.
+// How many moves of the first n triangles do so. By number: the three sides of triangle t stand in one flat table.
 fn count_moves(state: &[i32], all: &[u8; 768], n: usize, lambda: usize) -> usize
     requires { Countable lambda state.now all.now n }
     ensures { (result ≡ moves_stay lambda state.now all.now n) × (result ≤ 512) }
@@ -36,70 +34,32 @@ fn count_moves(state: &[i32], all: &[u8; 768], n: usize, lambda: usize) -> usize
     count
 }
 
-// Whether every value of a state is 0.
-fn is_zero(state: &[i32]) -> bool
-    ensures { result ≡ eqb (squares state.now) 0 }
-{
-    for x in state {
-        if *x != 0 {
-            return false;
-        }
-    }
-    true
-}
-
-// How many entries the row of a state has.
+// How many entries the row of a state has: one on the diagonal where some value is not 0, and one for each move.
 fn count_row(state: &[i32], all: &[u8; 768], n: usize, lambda: usize) -> usize
     requires { Countable lambda state.now all.now n }
     ensures { (result ≡ row_entries lambda all.now n state.now) × (result ≤ 513) }
 {
-    usize::from(!is_zero(state)) + count_moves(state, all, n, lambda)
+    usize::from(state.iter().any(|x| *x != 0)) + count_moves(state, all, n, lambda)
 }
 
-// How many entries the rows of the states of some blocks have.
-fn count_walked(
-    config: &mut [i32],
-    free: &[u8; MOST_EDGES],
-    n_free: usize,
-    cycles: &[i8],
-    lambda: usize,
-    blocks: usize,
-    all: &[u8; 768],
-    n: usize,
-) -> usize
-    requires { Walkable free.now cycles.now lambda n_free config.old blocks × AllCountable lambda (walked_states free.now (row (length config.old) cycles.now) lambda n_free config.old blocks) all.now n }
-    ensures { result ≡ over_states (row_entries lambda all.now n) (walked_states free.now (row (length config.old) cycles.now) lambda n_free config.old blocks) }
-{
-    let m = config.len();
-    let mut space = [0i32; MOST_EDGES];
-    let state = &mut space[0..m];
-    let mut total = 0;
-    let mut here = first_state(config, free, n_free, cycles, lambda, blocks, 0);
-    while 0 < here.left {
-        let m = config.len();
-        fill_row(state, config, &cycles[0..m], here.d);
-        total += count_row(state, all, n, lambda);
-        here = next_state(here, config, free, n_free, cycles, lambda);
-    }
-    total
-}
-
-// How many entries the rows of all states of a basis have, n the number of the triangles whose edges are listed.
+// How many entries the rows of all states of a basis have, n the number of the triangles whose edges are listed. The states stand in no list:
+// a cursor goes over them, as long as one is left.
 pub fn count_rows(basis: &Basis, all: &[u8; 768], n: usize) -> usize
     requires { AllCountable basis.now.lambda (states_of basis.now.walker basis.now.lambda basis.now.blocks) all.now n }
     ensures { result ≡ over_states (row_entries basis.now.lambda all.now n) (states_of basis.now.walker basis.now.lambda basis.now.blocks) }
 {
-    let w = basis.walker;
+    let w = &basis.walker;
+    let lambda = basis.lambda;
     let mut space = w.first;
     let config = &mut space[..w.n_edges];
-    count_walked(
-        config,
-        &w.free,
-        w.n_free,
-        &w.cycles,
-        basis.lambda,
-        basis.blocks,
-        all,
-        n,
-    )
+    let mut room = [0i32; MOST_EDGES];
+    let state = &mut room[..config.len()];
+    let mut total = 0;
+    let mut here = Cursor::first(config, w, lambda, basis.blocks, 0);
+    while 0 < here.left {
+        fill_row(state, config, &w.cycles[..config.len()], here.d);
+        total += count_row(state, all, n, lambda);
+        here = here.next(config, w, lambda);
+    }
+    total
 }

@@ -1,5 +1,5 @@
 -- Parts of the text, one line more.
-use Prim.Native.Nat.{ℕ, zero, suc, ◌+◌, ◌≤◌, ◌<◌}
+use Prim.Native.Nat.{ℕ, zero, suc, ◌+◌, ◌-◌, ◌≤◌, ◌<◌}
 use mathlib.Core.List.{List, [], ◌∷◌, ◌++◌, append_assoc}
 use mathlib.Core.Path.{◌≡◌, refl, sym, ap, ◌∙◌}
 use native.Mathlib.Omega.{arith}
@@ -51,7 +51,7 @@ line_more text out new len next number after s row states more room so_far is sa
     ∙ rw (← same, ← (add-one number), ← follows) (ap (λ l. l ++ state_lines after more) (sym (put_take (state_line number row) out new len next room written)))
 
 -- no line has more than 400 bytes
-pub line_short : (free : List ℕ) (cycles : List ℤ) (L n : ℕ) (s : List ℤ) (c : Cursor) → Standing free cycles L n s c → 0 < c.left → length (state_line c.number (state_here cycles s c)) ≤ 400
+line_short : (free : List ℕ) (cycles : List ℤ) (L n : ℕ) (s : List ℤ) (c : Cursor) → Standing free cycles L n s c → 0 < c.left → length (state_line c.number (state_here cycles s c)) ≤ 400
 line_short free cycles L n s c standing more =
     let fit = standing.walkable.cycles_fit in
     let edges = fit.edges_few in
@@ -59,6 +59,11 @@ line_short free cycles L n s c standing more =
     let numbers = standing.numbers in
     let long = added_length s (pos c.d) (row (length s) cycles 0) in
     omega (arith, state_line_long c.number (state_here cycles s c) (omega arith) (λ k h. omega (arith, standing.small c.d (omega arith) (standing.some more) k)))
+
+-- so where 400 are left there is room for the line of the state
+pub line_room : (free : List ℕ) (cycles : List ℤ) (L n : ℕ) (s : List ℤ) (c : Cursor) → Standing free cycles L n s c → 0 < c.left → (row : List ℤ) → row ≡ state_here cycles s c
+    → (len room : ℕ) → len ≤ room → 400 ≤ room - len → len + length (state_line c.number row) ≤ room
+line_room free cycles L n s c standing more row is len room inside left = omega (arith, ap (λ r. length (state_line c.number r)) is, line_short free cycles L n s c standing more)
 
 -- once a line was written, the place is not the front
 pub some_written : (len left first : ℕ) → (len ≡ 0 → left ≡ first) → left ≡ 0 → 0 < first → 0 < len

@@ -1,9 +1,8 @@
 -- From one page to the next.
-use Prim.Native.Nat.{ℕ, ◌+◌, ◌-◌, ◌^◌, ◌≤◌, ◌<◌}
+use Prim.Native.Nat.{ℕ, ◌+◌, ◌^◌, ◌≤◌, ◌<◌}
 use mathlib.Core.List.{List, [], ◌∷◌, ◌++◌, append-nil}
-use mathlib.Core.Path.{◌≡◌, ap, ◌∙◌}
+use mathlib.Core.Path.{◌≡◌, refl, ap, ◌∙◌}
 use native.Mathlib.Omega.{arith}
-use native.Mathlib.Nat.{sub-zero}
 use lib.IntN.{ℤ}
 use lib.ListN.{length, take, drop, length-append}
 use lib.Seq.{take_at, length-take-le}
@@ -65,15 +64,21 @@ module _ (w : Walker) (L : ℕ) (c : Cursor) (s rest : List ℤ) (long : length 
       record { edges = few; long = all; standing = rw (take_at s rest w.n_edges long) standing; some = some }
 
 -- ---- the first page
-module _ (w : Walker) (L k : ℕ) (fit : Fit w L k) (old : List ℤ) (is : old ≡ begin_of w) where
+module _ (w : Walker) (L k : ℕ) (fit : Fit w L k) where
+  abbrev old : List ℤ
+  old = take w.n_edges w.first
+
   pub first_ready : Walkable w.free w.cycles L w.n_free old k × (0 + length (walked_states w.free (row (length old) w.cycles) L w.n_free old k) ≤ 2 ^ 40)
-  first_ready =
-      let walkable : Walkable w.free w.cycles L w.n_free old k = rw is fit.walkable in
-      (walkable, few_states w.free w.cycles L w.n_free old k walkable)
+  unfolding begin_of
+  first_ready = (fit.walkable, few_states w.free w.cycles L w.n_free old k fit.walkable)
 
   pub first_lines : (new : List ℤ) (c : Cursor) → First w.free w.cycles L w.n_free old k 0 new c → lines_from w.free w.cycles L w.n_free new c ≡ state_lines 0 (states_of w L k)
-  unfolding lines_from states_of
-  first_lines new c made = rw (made.states, made.numbered, is, fit.sized)
+  unfolding lines_from states_of begin_of
+  first_lines new c made = rw (made.states, made.numbered, fit.sized)
+
+  pub first_long : (new : List ℤ) → length new ≡ length old → length new ≡ w.n_edges
+  unfolding begin_of
+  first_long new same = same ∙ fit.sized
 
 -- ---- the next page
 module _ (p : Page) (ready : PageReady p) where
@@ -81,19 +86,16 @@ module _ (p : Page) (ready : PageReady p) where
   m = p.walker.n_edges
 
   abbrev config : List ℤ
-  config = take (m - 0) p.config
+  config = take m p.config
 
   config_long : length config ≡ m
-  config_long = let h = ready.edges in rw (sub-zero m) (length-take-le m p.config (omega (arith, ready.long)))
-
-  pub turn_ready : Standing p.walker.free p.walker.cycles p.lambda p.walker.n_free config p.cursor
-  turn_ready = rw (sub-zero m) ready.standing
+  config_long = let h = ready.edges in length-take-le m p.config (omega (arith, ready.long))
 
   lines_here : lines_from p.walker.free p.walker.cycles p.lambda p.walker.n_free config p.cursor ≡ to_come p
   unfolding to_come
-  lines_here = rw (sub-zero m)
+  lines_here = refl
 
-  pub turned : (out : List ℕ) (new rest : List ℤ) (r : Lines) → length new ≡ length config → rest ≡ drop (m - 0) p.config → LinesFilled p.walker.free p.walker.cycles p.lambda p.walker.n_free config p.cursor out new r
+  pub turned : (out : List ℕ) (new rest : List ℤ) (r : Lines) → length new ≡ length config → rest ≡ drop m p.config → LinesFilled p.walker.free p.walker.cycles p.lambda p.walker.n_free config p.cursor out new r
       → (q : Option Page) → MatchOption q (r.cursor.left ≡ 0) (λ n. (n ≡ record { lambda = p.lambda; walker = p.walker; cursor = r.cursor; config = new ++ rest }) × (0 < r.cursor.left))
       → Fills (to_come p) out (record { len = r.len; next = q })
   turned out new rest r same is filled q told =

@@ -15,7 +15,7 @@ ghost use Rattle.pages.specs.Text.{told};
 ghost use Rattle.pages.specs.Pages.{to_come, PageReady, Told, Begins, Continues};
 
 use answers::refusal::Refusal;
-use cursor::{Cursor, first_state};
+use cursor::Cursor;
 use enumeration::{count_of_blocks, too_many};
 use lines::{write_first_line, write_refused_line};
 use numbers::sizes::MOST_EDGES;
@@ -51,11 +51,7 @@ pub struct Begun {
 fn while_left(page: Page) -> Option<Page>
     ensures { MatchOption result (page.cursor.left ≡ 0) (λ next. (next ≡ page) × (0 < page.cursor.left)) }
 {
-    if 0 < page.cursor.left {
-        Some(page)
-    } else {
-        None
-    }
+    (0 < page.cursor.left).then_some(page)
 }
 
 // All states are to come.
@@ -63,18 +59,13 @@ fn first_page(w: Walker, lambda: usize, blocks: usize) -> Page
     requires { Fit w lambda blocks }
     ensures { (to_come result ≡ state_lines 0 (states_of w lambda blocks)) × (0 < result.cursor.left → PageReady result) }
 {
-    let free = w.free;
-    let cycles = w.cycles;
-    let n_free = w.n_free;
-    let mut space = w.first;
-    let m = w.n_edges;
-    let config = &mut space[0..m];
-    let cursor = first_state(config, &free, n_free, &cycles, lambda, blocks, 0);
+    let mut config = w.first;
+    let cursor = Cursor::first(&mut config[..w.n_edges], &w, lambda, blocks, 0);
     Page {
-        lambda: lambda,
+        lambda,
         walker: w,
-        cursor: cursor,
-        config: space,
+        cursor,
+        config,
     }
 }
 
@@ -126,21 +117,18 @@ pub fn fill_more(out: &mut [u8], page: Page) -> Filled
     requires { (400 ≤ length out.old) × PageReady page }
     ensures { Continues out.new page result }
 {
-    let w = page.walker;
-    let free = w.free;
-    let cycles = w.cycles;
-    let n_free = w.n_free;
-    let lambda = page.lambda;
-    let cursor = page.cursor;
-    let mut space = page.config;
-    let m = w.n_edges;
-    let config = &mut space[0..m];
-    let lines = write_lines(out, cursor, config, &free, n_free, &cycles, lambda);
+    let mut config = page.config;
+    let lines = write_lines(
+        out,
+        page.cursor,
+        &mut config[..page.walker.n_edges],
+        &page.walker,
+        page.lambda,
+    );
     let turned = Page {
-        lambda: lambda,
-        walker: w,
         cursor: lines.cursor,
-        config: space,
+        config,
+        ..page
     };
     Filled {
         len: lines.len,

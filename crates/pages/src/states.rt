@@ -3,10 +3,11 @@ ghost use Rattle.std.specs.Prelude.{◌≤◌, ◌<◌, length};
 ghost use Rattle.cursor.specs.Cursor.{Standing};
 ghost use Rattle.pages.specs.Pages.{LinesFilled};
 
-use cursor::{Cursor, next_state};
+use cursor::Cursor;
 use lines::write_state_line;
 use numbers::sizes::MOST_EDGES;
 use walker::row::fill_row;
+use walker::tables::Walker;
 
 // How long they are, and where the cursor stands after them.
 #[derive(Clone, Copy)]
@@ -15,38 +16,25 @@ pub struct Lines {
     pub cursor: Cursor,
 }
 
-// No line has more than 400 bytes.
+// No line has more than 400 bytes. How many lines there is room for shows only as they are written.
 pub fn write_lines(
     out: &mut [u8],
     c: Cursor,
     config: &mut [i32],
-    free: &[u8; MOST_EDGES],
-    n_free: usize,
-    cycles: &[i8],
+    w: &Walker,
     lambda: usize,
 ) -> Lines
-    requires { (400 ≤ length out.old) × Standing free.now cycles.now lambda n_free config.old c × (0 < c.left) }
-    ensures { LinesFilled free.now cycles.now lambda n_free config.old c out.new config.new result }
+    requires { (400 ≤ length out.old) × Standing w.now.free w.now.cycles lambda w.now.n_free config.old c × (0 < c.left) }
+    ensures { LinesFilled w.now.free w.now.cycles lambda w.now.n_free config.old c out.new config.new result }
 {
-    let m = config.len();
     let mut space = [0i32; MOST_EDGES];
-    let row = &mut space[0..m];
+    let row = &mut space[..config.len()];
     let mut len = 0;
     let mut here = c;
-    while 0 < here.left {
-        if out.len() - len < 400 {
-            return Lines {
-                len: len,
-                cursor: here,
-            };
-        }
-        let n = config.len();
-        fill_row(row, config, &cycles[0..n], here.d);
+    while 0 < here.left && 400 <= out.len() - len {
+        fill_row(row, config, &w.cycles[..config.len()], here.d);
         len = write_state_line(out, len, here.number, row);
-        here = next_state(here, config, free, n_free, cycles, lambda);
+        here = here.next(config, w, lambda);
     }
-    Lines {
-        len: len,
-        cursor: here,
-    }
+    Lines { len, cursor: here }
 }

@@ -67,7 +67,7 @@ pub fn apply_triangle_shift(
         return Err(Refusal::NoRoom);
     }
     let sides = triangle_sides(c, triangle);
-    let mut row = state_at(basis.walker, lambda, basis.blocks, state);
+    let mut row = state_at(&basis.walker, lambda, basis.blocks, state);
     shift_row(&mut row, sides);
     if !three_within(&row, sides, lambda) {
         return Err(Refusal::OutOfBand);

@@ -33,15 +33,19 @@ module _ (s z now : List ℤ) (t : ℤ) (e : ℕ) (can : Addable s t z) where
           rw (back32 r fits, times_back)
           (front_more s (with_cycle s t z) now e (pos 0) (added_length s t z) so_far_is r here (is ∙ rw (value_back, times_back, sign_back (get_or z e (pos 0)) (can.signs e)) (sym (added_at s t z e can.sized))))
 
+-- what can be added no times can be added a few times
+pub may_times : (s z : List ℤ) (n : ℕ) → Addable s (pos 0) z → n < 2 ^ 20 → Addable s (pos n) z
+may_times s z n may few = record { sized = may.sized; values = may.values; times = omega arith; signs = may.signs }
+
 -- the same where the sums stand in another list
-module _ (s z old now : List ℤ) (t u : ℤ) (e : ℕ) (can : Addable s t z) (back : to_z w32 (of_z w32 u) ≡ t) (long : length old ≡ length s) (so_far : now ≡ take e (with_cycle s t z) ++ drop e old) where
+module _ (s z old now : List ℤ) (t u : ℤ) (e : ℕ) (can : Addable s t z) (back : u ≡ t) (long : length old ≡ length s) (so_far : now ≡ take e (with_cycle s t z) ++ drop e old) where
   same : length (with_cycle s t z) ≡ length old
   same = added_length s t z ∙ sym long
 
   pub filled_end : length old ≤ e → now ≡ with_cycle s t z
   filled_end h = front_end old (with_cycle s t z) now e (pos 0) same so_far h
 
-  pub filled_more : e < length old → (r : ℤ) → mag r < 2 ^ 31 → r ≡ to_z w32 (of_z w32 (get_or s e (pos 0))) +ℤ to_z w32 (of_z w32 u) *ℤ to_z w8 (of_z w8 (get_or z e (pos 0)))
+  pub filled_more : e < length old → (r : ℤ) → mag r < 2 ^ 31 → r ≡ to_z w32 (of_z w32 (get_or s e (pos 0))) +ℤ u *ℤ to_z w8 (of_z w8 (get_or z e (pos 0)))
       → set now e (to_z w32 (of_z w32 r)) ≡ take (e + 1) (with_cycle s t z) ++ drop (e + 1) old
   filled_more here r fits is =
       rw (back32 r fits)

@@ -18,10 +18,6 @@ module _ (s z : List ℤ) (from : ℕ) where
   unfolding block_rows below
   rows_none to h = rw h
 
-  pub rows_same : (to to' : ℕ) → to - from ≡ to' - from → block_rows s z from to ≡ block_rows s z from to'
-  unfolding block_rows
-  rows_same to to' h = rw h
-
   pub rows_more : (d : ℕ) → from ≤ d → block_rows s z from (d + 1) ≡ block_rows s z from d ++ (with_cycle s (pos d) z ∷ [])
   unfolding block_rows below
   rows_more d h =

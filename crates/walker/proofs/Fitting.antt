@@ -3,7 +3,7 @@ use Prim.Native.Nat.{ℕ, ◌+◌, ◌-◌, ◌*◌, ◌^◌, ◌≤◌, ◌<◌
 use mathlib.Core.List.{List, ◌++◌}
 use mathlib.Core.Path.{◌≡◌, refl, sym, ◌∙◌, ap}
 use native.Mathlib.Omega.{arith}
-use native.Mathlib.Nat.{sub-zero, mul-le-mul}
+use native.Mathlib.Nat.{mul-le-mul}
 use lib.IntN.{ℤ, pos, nat_abs}
 use lib.ListN.{get_or, length, take, drop, replicate, length-replicate, length-append, length-drop}
 use lib.Seq.{take_at}
@@ -33,10 +33,10 @@ use Rattle.cycles.proofs.CycleTables.{free_listed}
 -- ---- where the walk begins
 module _ (m n L : ℕ) (cycles : List ℤ) (fit : CyclesFit m n L cycles) where
   abbrev space : List ℤ
-  space = take (m - 0) (replicate 63 (pos 0))
+  space = take m (replicate 63 (pos 0))
 
   space_zeros : space ≡ replicate m (pos 0)
-  space_zeros = rw (sub-zero m) (zero_row 63 m 0 fit.edges_few (omega (arith, fit.edges_few)))
+  space_zeros = zero_row 63 m 0 fit.edges_few (omega (arith, fit.edges_few))
 
   space_long : length space ≡ m
   space_long = ap length space_zeros ∙ length-replicate m (pos 0)
@@ -48,29 +48,28 @@ module _ (m n L : ℕ) (cycles : List ℤ) (fit : CyclesFit m n L cycles) where
     begun : (rest : List ℤ) → take m (new ++ rest) ≡ lowest_candidate (row m cycles) L (replicate m (pos 0)) n
     begun rest = take_at new rest m (same ∙ space_long) ∙ (rw (space_long, space_zeros) at is)
 
-    begun_room : length (new ++ drop (m - 0) (replicate 63 (pos 0))) ≡ 63
-    begun_room = rw (sub-zero m, length-append new (drop m (replicate 63 (pos 0))), length-drop m (replicate 63 (pos 0))) (omega (arith, same, space_long, fit.edges_few))
-
--- the walk's beginning, as the code has it
-pub begin_part : (w : Walker) → take (w.n_edges - 0) w.first ≡ begin_of w
-unfolding begin_of
-begin_part w = rw (sub-zero w.n_edges)
+    begun_room : length (new ++ drop m (replicate 63 (pos 0))) ≡ 63
+    begun_room = rw (length-append new (drop m (replicate 63 (pos 0))), length-drop m (replicate 63 (pos 0))) (omega (arith, same, space_long, fit.edges_few))
 
 -- ---- the tables are those of the record
+pub few_edges : (c : SimplicialComplex) → refusal (complex_of c) ≡ 0 → c.n_edges ≤ 63
+unfolding complex_of
+few_edges c good = rw (edges_long c) at ((accepted c).0 good).few_edges
+
 module _ (c : SimplicialComplex) (good : refusal (complex_of c) ≡ 0) (L : ℕ) (truncation : L ≤ 1000) (free : EdgeList) (is : FreeOf (complex_of c) free) (cycles : List ℤ) (table : CycleTable (complex_of c) (length (free_edges (complex_of c))) cycles) where
   pub cycles_may : CyclesFit c.n_edges free.count L cycles
   cycles_may =
       record {
-        edges_few = rw (edges_long c) at ((accepted c).0 good).few_edges;
+        edges_few = few_edges c good;
         free_few = is.few;
         truncation = truncation;
         long = table.long;
         signs = table.signs;
       }
 
-  pub tables_walk : (new : List ℤ) → length new ≡ length (take (c.n_edges - 0) (replicate 63 (pos 0)))
-      → new ≡ lowest_candidate (row (length (take (c.n_edges - 0) (replicate 63 (pos 0)))) cycles) L (take (c.n_edges - 0) (replicate 63 (pos 0))) free.count
-      → Walks (complex_of c) L (record { n_edges = c.n_edges; n_free = free.count; free = free.list; cycles = cycles; first = new ++ drop (c.n_edges - 0) (replicate 63 (pos 0)) })
+  pub tables_walk : (new : List ℤ) → length new ≡ length (take c.n_edges (replicate 63 (pos 0)))
+      → new ≡ lowest_candidate (row (length (take c.n_edges (replicate 63 (pos 0)))) cycles) L (take c.n_edges (replicate 63 (pos 0))) free.count
+      → Walks (complex_of c) L (record { n_edges = c.n_edges; n_free = free.count; free = free.list; cycles = cycles; first = new ++ drop c.n_edges (replicate 63 (pos 0)) })
   unfolding complex_of begin_of
   tables_walk new same made =
       record {
@@ -85,7 +84,7 @@ module _ (c : SimplicialComplex) (good : refusal (complex_of c) ≡ 0) (L : ℕ)
         space = begun_room c.n_edges free.count L cycles cycles_may new same made;
         start = replicate c.n_edges (pos 0);
         starts = rw (edges_long c) at (zeros_start (complex_of c) refl);
-        begins = begun c.n_edges free.count L cycles cycles_may new same made (drop (c.n_edges - 0) (replicate 63 (pos 0)));
+        begins = begun c.n_edges free.count L cycles cycles_may new same made (drop c.n_edges (replicate 63 (pos 0)));
       }
 
 -- ---- all states

@@ -11,9 +11,6 @@ module _ (x t s : ℤ) (small : nat_abs x ≤ 2 ^ 24) (few : nat_abs t ≤ 2 ^ 2
   product_fits : nat_abs (t *ℤ s) ≤ 2 ^ 24
   product_fits = omega (arith, size_sign t s sign)
 
-  pub product_small : SFits w32 (t *ℤ s)
-  product_small = size_fits w32 (t *ℤ s) (omega (arith, product_fits))
-
   pub product_back : to_z w32 (of_z w32 (t *ℤ s)) ≡ t *ℤ s
   product_back = small_back (t *ℤ s) (omega (arith, product_fits))
 

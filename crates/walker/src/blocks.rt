@@ -1,14 +1,13 @@
 // A block: the candidates that agree on all free edges but the first. Those within the bounds are an interval.
-ghost use Rattle.std.specs.Prelude.{◌≡◌, ◌-◌, ◌^◌, ◌≤◌, ◌↔◌, IsTrue, length, leb, pos, nat_abs, ◌*ℤ◌};
-ghost use Rattle.mathematics.specs.Integers.{equal};
+ghost use Rattle.std.specs.Prelude.{◌≡◌, ◌-◌, ◌^◌, ◌≤◌, ◌↔◌, IsTrue, length, leb, nat_abs, ◌*ℤ◌};
 ghost use Rattle.walker.specs.Walker.{width, excess};
 ghost use Rattle.walker.specs.Steps.{Small};
 ghost use Rattle.walker.specs.Blocks.{Narrowed, SpanOfBlock};
 
 use crate::steps::negative;
-use numbers::usize_to_i32;
 
 // The number of candidates in a block.
+#[tactic(auto, using(crate::proofs::BlockStates::width_none, crate::proofs::BlockStates::width_some))]
 pub fn width(n_free: usize, lambda: usize) -> usize
     requires { lambda ≤ 1000 }
     ensures { result ≡ width lambda n_free }
@@ -29,12 +28,6 @@ pub fn within(x: i32, lambda: usize) -> bool
     ensures { result ≡ leb (nat_abs x) lambda }
 {
     x.unsigned_abs() as usize <= lambda
-}
-
-pub fn is_zero(sign: i8) -> bool
-    ensures { result ≡ equal sign (pos 0) }
-{
-    sign == 0
 }
 
 // A sign times a value.
@@ -71,7 +64,7 @@ impl Span {
         requires { (self.to ≤ width) × (nat_abs x ≤ 2 ^ 20) × (nat_abs sign ≤ 1) × (lambda ≤ 1000) }
         ensures { Narrowed lambda width x sign self result }
     {
-        if is_zero(sign) {
+        if sign == 0 {
             if within(x, lambda) {
                 return self;
             }
@@ -83,7 +76,7 @@ impl Span {
         let y = turn(sign, x);
         Span {
             from: self.from.max(excess(negative(lambda), y)),
-            to: self.to.min(excess(usize_to_i32(lambda + 1), y)),
+            to: self.to.min(excess((lambda + 1) as i32, y)),
         }
     }
 }

@@ -5,13 +5,12 @@ ghost use Rattle.walker.specs.Walker.{lowest_candidate};
 ghost use Rattle.walker.specs.Steps.{Small, Addable, CyclesFit};
 
 use numbers::sizes::MOST_EDGES;
-use numbers::usize_to_i32;
 
 pub fn negative(x: usize) -> i32
     requires { x ≤ 2 ^ 20 }
     ensures { result ≡ neg_ℤ (pos x) }
 {
-    -usize_to_i32(x)
+    -(x as i32)
 }
 
 // A sign added to a value a number of times.
@@ -32,7 +31,8 @@ pub fn add(config: &mut [i32], cycle: &[i8], times: i32)
     }
 }
 
-// From an assignment with 0 on every free edge to the candidate with -lambda on each.
+// From an assignment with 0 on every free edge to the candidate with -lambda on each. By number: rows of a flat table, of which no more are
+// full than there are free edges.
 pub fn begin(config: &mut [i32], cycles: &[i8], n_free: usize, lambda: usize)
     requires { Small (2 ^ 13) config.old × CyclesFit (length config.old) n_free lambda cycles.now }
     ensures { config.new ≡ lowest_candidate (row (length config.old) cycles.now) lambda config.old n_free }

@@ -11,7 +11,8 @@ use cycles::{CYCLE_ENTRIES, fundamental_cycles, tree_paths};
 use gauss_law::spanning::free_edges;
 use numbers::sizes::MOST_EDGES;
 
-// The first n_free entries of free are the free edges; row j of cycles is the cycle of the j-th; first begins with the first candidate.
+// The first n_free entries of free are the free edges; row j of cycles is the cycle of the j-th; first begins with the first candidate. There is no
+// heap, so each table has room for the most edges.
 #[derive(Clone, Copy)]
 pub struct Walker {
     pub n_edges: usize,
@@ -22,6 +23,7 @@ pub struct Walker {
 }
 
 // The tables of an accepted record, and where its walk begins.
+#[tactic(auto, using(crate::proofs::Fitting::few_edges))]
 pub fn prepare(c: SimplicialComplex, lambda: usize) -> Walker
     requires { (refusal (complex_of c) ≡ 0) × (lambda ≤ 1000) }
     ensures { Walks (complex_of c) lambda result }
@@ -31,16 +33,14 @@ pub fn prepare(c: SimplicialComplex, lambda: usize) -> Walker
     let paths = tree_paths(c, tree);
     let cycles = fundamental_cycles(c, &paths, free);
     let list = free.list;
-    let n_free = free.count;
-    let m = c.n_edges;
     let mut first = [0i32; MOST_EDGES];
-    begin(&mut first[0..m], &cycles, n_free, lambda);
+    begin(&mut first[..c.n_edges], &cycles, free.count, lambda);
     Walker {
-        n_edges: m,
-        n_free: n_free,
+        n_edges: c.n_edges,
+        n_free: free.count,
         free: list,
-        cycles: cycles,
-        first: first,
+        cycles,
+        first,
     }
 }
 

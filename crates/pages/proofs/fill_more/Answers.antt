@@ -1,10 +1,10 @@
 use Rattle.std.proofs.Common.{refl}
-use Rattle.pages.proofs.Turning.{turn_ready, turned}
+use Rattle.pages.proofs.Turning.{turned}
 use Rattle.pages.proofs.Whole.{placed}
 use Rattle.pages.proofs.fill_more.Goals as goal
 
 pub write_lines-lines-requires : goal.write_lines-lines-requires
-write_lines-lines-requires c = (c.requires.0, turn_ready c.args.page c.requires.1, c.requires.1.some)
+write_lines-lines-requires c = (c.requires.0, c.requires.1.standing, c.requires.1.some)
 
 pub returns : goal.returns
 returns c text place at =
