@@ -1,4 +1,5 @@
-// How many entries the rows have, counted state by state as a cursor goes over them, without a list.
+// How many entries the rows have, counted state by state as a cursor goes over them, without a list. There is no heap, so the table `all` of the
+// sides of all triangles has room for the most triangles.
 ghost use Rattle.std.specs.Prelude.{◌≡◌, ◌<◌, ◌≤◌, eqb, length};
 ghost use Rattle.matrices.specs.Squares.{squares};
 ghost use Rattle.walker.specs.Tables.{states_of};
@@ -33,24 +34,12 @@ fn count_moves(state: &[i32], all: &[u8; 768], n: usize, lambda: usize) -> usize
     count
 }
 
-// Whether every value of a state is 0.
-fn is_zero(state: &[i32]) -> bool
-    ensures { result ≡ eqb (squares state.now) 0 }
-{
-    for x in state {
-        if *x != 0 {
-            return false;
-        }
-    }
-    true
-}
-
-// How many entries the row of a state has.
+// How many entries the row of a state has: one on the diagonal where some value is not 0, and one for each move.
 fn count_row(state: &[i32], all: &[u8; 768], n: usize, lambda: usize) -> usize
     requires { Countable lambda state.now all.now n }
     ensures { (result ≡ row_entries lambda all.now n state.now) × (result ≤ 513) }
 {
-    usize::from(!is_zero(state)) + count_moves(state, all, n, lambda)
+    usize::from(state.iter().any(|x| *x != 0)) + count_moves(state, all, n, lambda)
 }
 
 // How many entries the rows of all states of a basis have, n the number of the triangles whose edges are listed. The states stand in no list:

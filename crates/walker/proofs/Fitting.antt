@@ -3,7 +3,7 @@ use Prim.Native.Nat.{ℕ, ◌+◌, ◌-◌, ◌*◌, ◌^◌, ◌≤◌, ◌<◌
 use mathlib.Core.List.{List, ◌++◌}
 use mathlib.Core.Path.{◌≡◌, refl, sym, ◌∙◌, ap}
 use native.Mathlib.Omega.{arith}
-use native.Mathlib.Nat.{sub-zero, mul-le-mul}
+use native.Mathlib.Nat.{mul-le-mul}
 use lib.IntN.{ℤ, pos, nat_abs}
 use lib.ListN.{get_or, length, take, drop, replicate, length-replicate, length-append, length-drop}
 use lib.Seq.{take_at}
@@ -50,11 +50,6 @@ module _ (m n L : ℕ) (cycles : List ℤ) (fit : CyclesFit m n L cycles) where
 
     begun_room : length (new ++ drop m (replicate 63 (pos 0))) ≡ 63
     begun_room = rw (length-append new (drop m (replicate 63 (pos 0))), length-drop m (replicate 63 (pos 0))) (omega (arith, same, space_long, fit.edges_few))
-
--- the walk's beginning, as the code has it
-pub begin_part : (w : Walker) → take (w.n_edges - 0) w.first ≡ begin_of w
-unfolding begin_of
-begin_part w = rw (sub-zero w.n_edges)
 
 -- ---- the tables are those of the record
 pub few_edges : (c : SimplicialComplex) → refusal (complex_of c) ≡ 0 → c.n_edges ≤ 63

@@ -10,14 +10,16 @@ use lib.Dec.{T, leb}
 use lib.IntN.{ℤ, pos, negsuc, neg_ℤ, nat_abs, ◌-ℤ◌, ◌*ℤ◌}
 use lib.Signed.{lt_z, non_neg}
 use lib.ListN.{get_or, length}
-use mir.Syntax.{w32, w64}
+use mir.Syntax.{w8, w32, w64}
 use mir.Val.{SFits, Fits, to_z, of_z}
 use Rattle.mathematics.specs.Integers.{equal}
 use Rattle.mathematics.proofs.Integers.{negative, parts, one_part, the, ◌⊟◌, test_less}
 use Rattle.mathematics.proofs.Signed.{size_difference, size_fits, small_back}
 use Rattle.walker.specs.declared.blocks.Span.{Span}
 use Rattle.walker.specs.Walker.{excess, entry_start, entry_stop, first_within, end_within, block}
+use Rattle.walker.specs.Steps.{Small}
 use Rattle.walker.specs.Blocks.{Narrowed, SpanTo, SpanOfBlock}
+use Rattle.walker.proofs.Adding.{sign_back}
 use Rattle.walker.proofs.Interval.{stop_bound}
 use Rattle.walker.proofs.BlockRows.{rows_none}
 
@@ -64,6 +66,11 @@ module _ (L n : ℕ) (x s : ℤ) (span : Span) (bound : span.to ≤ n) where
   narrow_signed z a b e f = record { from = rw z e; to = rw (z, ← (add-one L)) f }
 
 -- ---- entry after entry
+-- an entry and its sign, as the machine has them
+pub entries_back : (s z : List ℤ) → Small (2 ^ 20) s → Small 1 z → (k : ℕ) (x y : ℤ) → x ≡ get_or s k (pos 0) → y ≡ get_or z k (pos 0)
+    → (to_z w32 (of_z w32 x) ≡ get_or s k (pos 0)) × (to_z w8 (of_z w8 y) ≡ get_or z k (pos 0))
+entries_back s z values signs k x y is of = rw (is, of) (small_back (get_or s k (pos 0)) (omega (arith, values k)), sign_back (get_or z k (pos 0)) (signs k))
+
 pub span_none : (L n : ℕ) (s z : List ℤ) → SpanTo L n s z 0 (record { from = 0; to = n })
 unfolding first_within end_within
 span_none L n s z = record { from = refl; to = refl }

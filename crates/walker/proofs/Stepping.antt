@@ -2,14 +2,17 @@
 use Prim.Native.Nat.{ℕ, zero, suc, ◌+◌, ◌-◌, ◌*◌, ◌^◌, ◌≤◌, ◌<◌}
 use mathlib.Core.List.{List}
 use mathlib.Core.Bool.{true, false}
-use mathlib.Core.Path.{◌≡◌, sym, ◌∙◌}
+use mathlib.Core.Path.{◌≡◌, sym, ap, ap₂, ◌∙◌}
 use native.Mathlib.Omega.{arith}
 use native.Mathlib.Numerals.{add-one}
 use native.Mathlib.Decide.{dec_lt}
 use lib.IntN.{ℤ, pos, neg_ℤ, nat_abs, ◌*ℤ◌}
 use lib.Signed.{lt_z}
 use lib.ListN.{get_or, length, get_or-eq_default}
-use Rattle.mathematics.proofs.Signed.{size_sum, size_sign, size_neg}
+use mir.Syntax.{w32}
+use mir.Val.{to_z, of_z}
+use Rattle.std.proofs.lemmas.Int.{to_z_pos}
+use Rattle.mathematics.proofs.Signed.{size_sum, size_sign, size_neg, small_back}
 use Rattle.cycles.specs.Cycles.{row, with_cycle}
 use Rattle.walker.specs.Walker.{sum_of_cycles, counted_up, stepped}
 use Rattle.walker.specs.Steps.{Small, Addable, CyclesFit}
@@ -53,6 +56,10 @@ unfolding sum_of_cycles
 combined_next cycle x p j = rw (add-one j)
 
 -- ---- one digit of a step
+-- whether a value is below L, as the machine compares them
+pub below_top : (s : List ℤ) (L i e : ℕ) → i ≡ e → nat_abs (get_or s i (pos 0)) < 2 ^ 31 → L ≤ 1000 → lt_z (to_z w32 (of_z w32 (get_or s i (pos 0)))) (to_z w32 L) ≡ lt_z (get_or s e (pos 0)) (pos L)
+below_top s L i e is small few = ap₂ lt_z (small_back (get_or s i (pos 0)) small ∙ ap (λ k. get_or s k (pos 0)) is) (to_z_pos w32 L (omega (arith, few)))
+
 module _ (free : List ℕ) (cycle : ℕ → List ℤ) (L n j : ℕ) (s : List ℤ) where
   pub step_here : j < n → lt_z (get_or s (get_or free j 0) (pos 0)) (pos L) ≡ true → stepped free cycle L (n - j) j s ≡ with_cycle s (pos 1) (cycle j)
   unfolding stepped counted_up

@@ -11,7 +11,8 @@ use cycles::{CYCLE_ENTRIES, fundamental_cycles, tree_paths};
 use gauss_law::spanning::free_edges;
 use numbers::sizes::MOST_EDGES;
 
-// The first n_free entries of free are the free edges; row j of cycles is the cycle of the j-th; first begins with the first candidate.
+// The first n_free entries of free are the free edges; row j of cycles is the cycle of the j-th; first begins with the first candidate. There is no
+// heap, so each table has room for the most edges.
 #[derive(Clone, Copy)]
 pub struct Walker {
     pub n_edges: usize,

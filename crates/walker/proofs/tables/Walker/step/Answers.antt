@@ -1,20 +1,17 @@
-use Rattle.std.proofs.Common.{◌≡◌, ◌+◌, ◌*◌, ◌-◌, ◌^◌, ◌≤◌, ◌<◌, pos, neg_ℤ, nat_abs, get_or, length, to_z, of_z, w32, arith, sym, ap, ap₂, ◌∙◌}
-use Rattle.std.proofs.lemmas.Int.{to_z_pos}
-use Rattle.std.specs.Int.Signed.{lt_z}
-use Rattle.mathematics.proofs.Signed.{back32, small_back}
+use Rattle.std.proofs.Common.{◌≡◌, ◌+◌, ◌*◌, ◌-◌, ◌^◌, ◌≤◌, ◌<◌, pos, neg_ℤ, nat_abs, length, to_z, of_z, w32, arith, sym, ap, ◌∙◌}
+use Rattle.mathematics.proofs.Signed.{back32}
 use Rattle.cycles.specs.Cycles.{row, with_cycle}
 use Rattle.walker.specs.Walker.{stepped}
-use Rattle.walker.proofs.Stepping.{cycle_long, cycle_signs, cycle_addable, added_small, step_here, step_on, step_end, row_part, back_small}
+use Rattle.walker.proofs.Stepping.{cycle_long, cycle_signs, cycle_addable, added_small, step_here, step_on, step_end, row_part, back_small, below_top}
 use Rattle.walker.proofs.tables.Walker.step.Goals as goal
 
 pub returns-then-config-from : goal.returns-then-config-from
 returns-then-config-from c =
     let fit = c.requires.0 in
     let z = row (length c.args.config.now) c.args.self.now.cycles in
-    let value = small_back (get_or c.loop-j.config c.from.result (pos 0)) (omega (arith, c.loop-j.invariant.small c.from.result, fit.free_few)) ∙ ap (λ i. get_or c.loop-j.config i (pos 0)) c.from.ensures in
-    let top : to_z w32 c.args.lambda ≡ pos c.args.lambda = to_z_pos w32 _ (omega (arith, fit.truncation)) in
+    let test = below_top c.loop-j.config c.args.lambda c.from.result _ c.from.ensures (omega (arith, c.loop-j.invariant.small c.from.result, fit.free_few)) fit.truncation in
     (rw (row_part c.loop-j.j (length c.args.config.now)) at c.add.ensures)
-    ∙ sym (step_here c.args.self.now.free z c.args.lambda c.args.self.now.n_free c.loop-j.j c.loop-j.config (omega arith) (sym (ap₂ lt_z value top) ∙ c.if-config-from.true))
+    ∙ sym (step_here c.args.self.now.free z c.args.lambda c.args.self.now.n_free c.loop-j.j c.loop-j.config (omega arith) (sym test ∙ c.if-config-from.true))
     ∙ c.loop-j.invariant.to_come
 
 pub add-requires-in-loop-j : goal.add-requires-in-loop-j
@@ -34,14 +31,13 @@ loop-j-preserved c =
     let z = row m c.args.self.now.cycles in
     let inside : j < 63 = omega (arith, fit.free_few) in
     let back : to_z w32 (of_z w32 c.negative-back.result) ≡ neg_ℤ (pos (2 * L)) = back32 c.negative-back.result c.negative-back.type_inv ∙ c.negative-back.ensures in
-    let value = small_back (get_or c.loop-j.config c.from.result (pos 0)) (omega (arith, c.loop-j.invariant.small c.from.result, fit.free_few)) ∙ ap (λ i. get_or c.loop-j.config i (pos 0)) c.from.ensures in
-    let top : to_z w32 c.args.lambda ≡ pos c.args.lambda = to_z_pos w32 _ (omega (arith, fit.truncation)) in
+    let test = below_top c.loop-j.config c.args.lambda c.from.result _ c.from.ensures (omega (arith, c.loop-j.invariant.small c.from.result, fit.free_few)) fit.truncation in
     let made : c.add-in-loop-j.new.config ≡ with_cycle c.loop-j.config (neg_ℤ (pos (2 * L))) (z j) = rw (row_part j m, back) at c.add-in-loop-j.ensures in
     record {
       sized = c.add-in-loop-j.auto.config ∙ c.loop-j.invariant.sized;
       to_come =
           ap (stepped c.args.self.now.free z L (c.args.self.now.n_free - (j + 1)) (j + 1)) made
-          ∙ sym (step_on c.args.self.now.free z L c.args.self.now.n_free j c.loop-j.config (omega arith) (sym (ap₂ lt_z value top) ∙ c.if-config-from.false))
+          ∙ sym (step_on c.args.self.now.free z L c.args.self.now.n_free j c.loop-j.config (omega arith) (sym test ∙ c.if-config-from.false))
           ∙ c.loop-j.invariant.to_come;
       small =
           λ e.
