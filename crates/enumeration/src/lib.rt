@@ -15,7 +15,8 @@ use answers::refusal::Refusal;
 use complex::SimplicialComplex;
 use numbers::sizes::MOST_CANDIDATES;
 
-// A power, or any number above the limit where the power is above it.
+// A power, or any number above the limit where the power is above it. Multiplied out here: the library's powers take a u32, and an exponent
+// may be any number.
 fn power(base: usize, exponent: usize) -> usize
     requires { (1 ≤ base) × (base ≤ 2001) }
     ensures { Limited (base ^ exponent) result }

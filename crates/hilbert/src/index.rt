@@ -18,7 +18,8 @@ use enumeration::basis::Basis;
 use law_check::find_unlawful;
 use walker::blocks::within;
 
-// Whether every value is within -lambda to lambda.
+// Whether every value is within -lambda to lambda. A loop: the chain with `all` was tried, and its proof did not close, since it tells of its
+// answer by cases over the values and not by an equation.
 fn in_band(configuration: &[i32], lambda: usize) -> bool
     requires { lambda ≤ 1000 }
     ensures { result ≡ every_entry (within lambda) configuration.now }

@@ -6,7 +6,9 @@ ghost use Rattle.hilbert.specs.Search.{row, Rows, Ranked};
 
 use numbers::sizes::MOST_EDGES;
 
-// Whether a row has the smaller value on the last free edge where it differs from a configuration: from the last free edge down.
+// Whether a row has the smaller value on the last free edge where it differs from a configuration: from the last free edge down, by number.
+// The table and the number of free edges are two parameters here and below: what is known of them (`FreeFit`) is told of the whole table, and
+// `advance` is called with such a table and no walker.
 fn row_before(row: &[i32], config: &[i32], free: &[u8; MOST_EDGES], n_free: usize) -> bool
     requires { (length row.now ≡ length config.now) × (length config.now ≤ 63) × (n_free ≤ 63) × FreeFit (length config.now) n_free free.now }
     ensures { result ≡ smaller free.now row.now config.now n_free }
@@ -64,7 +66,7 @@ pub fn find_place(
     low
 }
 
-// The same from a row on that none of the rows before it comes after: one row after the other.
+// The same from a row on that none of the rows before it comes after: one row after the other. By number: a row may have no values here too.
 pub fn advance(
     states: &[i32],
     n: usize,
