@@ -22,7 +22,7 @@ use plaquettes::rows::row_energy;
 use plaquettes::target::{Sizes, list_states};
 use triangles::{all_sides, sides_at};
 
-// A factor times each row's sum of squares is added on the diagonal.
+// A factor times each row's sum of squares is added on the diagonal. By number: state i has row i and entry (i, i).
 fn add_electric(list: &[i32], n: usize, m: usize, factor: f64, h: &mut [f64])
     requires { SmallRows list.now n m × (n * n ≤ length h.old) }
     ensures { (f : ℕ → ℕ → Float) (old : List Float) → Matrix f n old h.old → Matrix (passed f (λ i. i) (electric_term factor m list.now) n) n old h.new }
@@ -32,7 +32,7 @@ fn add_electric(list: &[i32], n: usize, m: usize, factor: f64, h: &mut [f64])
     }
 }
 
-// The triangles of a record add their plaquettes, one after the other.
+// The triangles of a record add their plaquettes, one after the other. By number: triangle t has weight t and its own three edges.
 fn add_magnetic(
     c: SimplicialComplex,
     p: KSParams,

@@ -24,7 +24,7 @@ fn add_hit(h: &mut [f64], n: usize, i: usize, j: usize, from: usize, x: f64) -> 
     j + 1
 }
 
-// What the plaquette of a triangle adds is added to both entries of each hit.
+// What the plaquette of a triangle adds is added to both entries of each hit. By number: a hit is an entry, and so two states by their numbers.
 pub fn add_plaquette(list: &[i32], s: Sizes, sides: Sides, x: f64, h: &mut [f64])
     requires { MovableRows list.now s sides × (s.states * s.states ≤ length h.old) }
     ensures { (c : Complex) (t : ℕ) (free : List ℕ) → BasisList c list.now s free → SidesOf c t sides → PlaquetteAdded c s.lambda t s.states x h.old h.new }

@@ -69,9 +69,6 @@ room_still L x s small fits none most h =
 
 -- ---- the edges of a cycle, one after the other
 module _ (L : ℕ) (row z : List ℤ) (edges : List ℕ) (most : ℕ) where
-  pub run_none : 1 ≤ most → CycleRun L row z edges 0 most most
-  run_none h = record { some = h; limited = omega arith; inside = λ q l. absurd (omega arith) }
-
   pub run_more : (q r : ℕ) → CycleRun L row z edges q most r → (r' : ℕ) → Room L (get_or row (get_or edges q 0) (pos 0)) (get_or z (get_or edges q 0) (pos 0)) r r' → CycleRun L row z edges (q + 1) most r'
   run_more q r run r' room = record { some = room.some; limited = omega (arith, run.limited, room.limited); inside = λ p l d k. go p l d k (ℕ_discrete p q) }
     where

@@ -28,13 +28,12 @@ fn write_electric(list: &[i32], n: usize, m: usize, factor: f64, vector: &[f64],
     requires { SmallRows list.now n m × (n ≤ length vector.now) × (n ≤ length res.old) }
     ensures { res.new ≡ front (electric_parts factor m list.now vector.now n) res.old }
 {
-    for i in 0..n {
-        let x = vector[i];
-        res[i] = 0.0 + row_energy(list, m, i, factor) * x;
+    for (i, sum) in res[..n].iter_mut().enumerate() {
+        *sum = 0.0 + row_energy(list, m, i, factor) * vector[i];
     }
 }
 
-// The triangles of a record add their plaquettes, one after the other.
+// The triangles of a record add their plaquettes, one after the other. By number: triangle t has weight t and its own three edges.
 fn add_magnetic(
     c: SimplicialComplex,
     p: KSParams,

@@ -120,27 +120,6 @@ pub matrix_same : (f g : ℕ → ℕ → Float) (n : ℕ) (old new : List Float)
 matrix_same f g n old new same m = record { long = m.long; entries = λ i j h k. m.entries i j h k ∙ same i j h k; beyond = m.beyond }
 
 -- ---- zeros
--- the first k entries are zeros
-pub record Cleared (k : ℕ) (old new : List Float) : Type 0 where
-  pub long : length new ≡ length old
-  pub zeros : (i : ℕ) → i < k → get_or new i nan ≡ float_of 0
-  pub beyond : (i : ℕ) → k ≤ i → get_or new i nan ≡ get_or old i nan
-
-pub cleared_none : (old : List Float) → Cleared 0 old old
-cleared_none old = record { long = refl; zeros = λ i h. absurd (omega arith); beyond = λ i h. refl }
-
-pub cleared_more : (k : ℕ) (old new : List Float) → Cleared k old new → k < length old → Cleared (k + 1) old (set new k (float_of 0))
-cleared_more k old new m room =
-    record {
-      long = length-set new k (float_of 0) ∙ m.long;
-      zeros = λ i h. go i h (ℕ_discrete i k);
-      beyond = λ i h. get_or-set_other new k i (float_of 0) nan (λ e. absurd (omega (arith, e))) ∙ m.beyond i (omega arith);
-    }
-  where
-    go : (i : ℕ) → i < k + 1 → Dec (i ≡ k) → get_or (set new k (float_of 0)) i nan ≡ float_of 0
-    go i h (yes e) = rw e (get_or-set_same new k (float_of 0) nan (omega (arith, m.long)))
-    go i h (no e) = get_or-set_other new k i (float_of 0) nan e ∙ m.zeros i (omega arith)
-
 -- a list that begins with as many zeros as the matrix has entries
 pub filled_matrix : (n : ℕ) (h : List Float) → n * n ≤ length h → Matrix (λ i j. float_of 0) n h (replicate (n * n) (float_of 0) ++ drop (n * n) h)
 filled_matrix n h room =

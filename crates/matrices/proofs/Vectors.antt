@@ -15,17 +15,6 @@ use Rattle.mathematics.proofs.Tests.{or_fell}
 use Rattle.mathematics.proofs.Calls.{Tells, among, past_all}
 use Rattle.matrices.specs.Weights.{bounded, weights_tests, vector_tests, Weighed}
 
--- the judge of the weights tells which of its two tests holds
-first_told : (a b : Bool) → eqb (cond {A = ℕ} a 12 (cond b 14 0)) 12 ≡ a
-first_told true b = refl
-first_told false true = refl
-first_told false false = refl
-
-second_told : (a b : Bool) → a ≡ false → not (eqb (cond {A = ℕ} a 12 (cond b 14 0)) 0) ≡ b
-second_told true b h = absurd (true≢false h)
-second_told false true h = refl
-second_told false false h = refl
-
 module _ (n : ℕ) (v : List Float) (triangles : ℕ) (right given : Bool) (weights : List Float) where
   abbrev miscounted : Bool
   miscounted = given && not (eqb (length weights) triangles)
@@ -35,31 +24,6 @@ module _ (n : ℕ) (v : List Float) (triangles : ℕ) (right given : Bool) (weig
 
   abbrev tests : List (ℕ × Bool)
   tests = vector_tests n v triangles right given weights
-
-  module _ (wrong : ℕ) (is : wrong ≡ first (weights_tests triangles right given weights)) where
-    counts : eqb wrong 12 ≡ miscounted
-    unfolding weights_tests first
-    counts = rw is (first_told miscounted unfit)
-
-    pub number_told : (eqb wrong 12 || not (eqb (length v) n)) ≡ true → 12 ≡ first tests
-    unfolding vector_tests first
-    number_told h = let e = rw counts at h in rw e
-
-    module _ (fits : (eqb wrong 12 || not (eqb (length v) n)) ≡ false) where
-      fit : (miscounted || not (eqb (length v) n)) ≡ false
-      fit = rw counts at fits
-
-      ranges : not (eqb wrong 0) ≡ unfit
-      unfolding weights_tests first
-      ranges = rw is (second_told miscounted unfit (or_fell miscounted _ fit).0)
-
-      pub range_told : (not (eqb wrong 0) || not (every_entry bounded v)) ≡ true → 14 ≡ first tests
-      unfolding vector_tests first
-      range_told h = let e = rw ranges at h in rw (fit, e)
-
-      pub right_told : (not (eqb wrong 0) || not (every_entry bounded v)) ≡ false → 0 ≡ first tests
-      unfolding vector_tests first
-      right_told h = let e = rw ranges at h in rw (fit, e)
 
   pub miscounted_told : (miscounted || not (eqb (length v) n)) ≡ true → 12 ≡ first tests
   unfolding vector_tests first

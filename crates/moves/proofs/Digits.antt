@@ -1,6 +1,6 @@
--- The digit of a value.
-use Prim.Native.Nat.{ℕ, zero, suc, ◌+◌, ◌-◌, ◌*◌, ◌^◌, ◌<◌, ◌≤◌}
-use mathlib.Core.Path.{◌≡◌, refl, ◌∙◌}
+-- The digits of a number.
+use Prim.Native.Nat.{ℕ, zero, suc, ◌+◌, ◌-◌, ◌*◌, ◌<◌, ◌≤◌}
+use mathlib.Core.Path.{◌≡◌, ◌∙◌}
 use Rattle.std.proofs.Common.{List, reverse}
 use lib.ListN.{get_or, length, take}
 use lib.Seq.{get_or-take, length-take-le}
@@ -8,38 +8,8 @@ use Rattle.std.proofs.lemmas.List.{get_or-reverse, length-reverse}
 use Rattle.std.proofs.lemmas.Grind.{get_or_default_zero}
 use native.Mathlib.Omega.{arith}
 use native.Mathlib.Nat.{mul-le-mul_left}
-use lib.Dec.{T}
-use lib.IntN.{ℤ, pos, negsuc, nat_abs, ◌+ℤ◌}
-use lib.Signed.{non_neg}
-use mir.Syntax.{w64}
-use mir.Val.{Fits}
 use Rattle.moves.specs.Numbers.{numeral}
-use Rattle.mathematics.proofs.Integers.{positive, negative, one_part, parts_sum, parts_size}
-use Rattle.mathematics.proofs.Signed.{size_sum}
 
-not_negative : (z : ℤ) → negative z ≡ 0 → T (non_neg z)
-unfolding negative
-not_negative (pos n) h = tt
-not_negative (negsuc n) h = absurd (omega arith)
-
-pos_parts : (n : ℕ) → (positive (pos n) ≡ n) × (negative (pos n) ≡ 0)
-unfolding positive negative
-pos_parts n = (refl, refl)
-
-module _ (x : ℤ) (low : ℕ) (small : nat_abs x ≤ low) (few : low ≤ 1000) where
-  pub digit_small : nat_abs (x +ℤ pos low) ≤ 2 ^ 20
-  digit_small = omega (arith, size_sum x (pos low))
-
-  pub digit_casts : T (non_neg (x +ℤ pos low)) × Fits w64 (nat_abs (x +ℤ pos low))
-  digit_casts = (
-    not_negative (x +ℤ pos low) (omega (arith, parts_sum x (pos low), one_part (x +ℤ pos low), parts_size x, low_parts)),
-    record { fits = omega (arith, size_sum x (pos low)) },
-  )
-    where
-      low_parts : (positive (pos low) ≡ low) × (negative (pos low) ≡ 0)
-      low_parts = pos_parts low
-
--- ---- the digits one after the other
 pub numeral_least : (base : ℕ) (x : ℕ → ℕ) (n a : ℕ) → 1 ≤ base → a ≤ numeral base x n a
 unfolding numeral
 numeral_least base x zero a h = omega arith

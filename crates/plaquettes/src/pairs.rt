@@ -40,7 +40,7 @@ fn row_stays(list: &[i32], s: Sizes, sides: Sides, by: i32, place: usize) -> boo
     stays(row_at(list, s.edges, place), sides, by, s.lambda)
 }
 
-// The first state from a place on of which that is so, or the number of states.
+// The first state from a place on of which that is so, or the number of states. By number: the rows are no chunks, as a row may have no values.
 pub fn next_staying(list: &[i32], s: Sizes, sides: Sides, by: i32, from: usize) -> usize
     requires { MovableRows list.now s sides × (nat_abs by ≤ 1) × (from ≤ s.states) }
     ensures { NextStaying list.now s sides by from result }

@@ -1,5 +1,5 @@
--- The value and the rows of a shift.
-use Rattle.std.proofs.Common.{◌≡◌, ℕ, ◌<◌, ◌≤◌, List, ◌++◌, ℤ, ◌+ℤ◌, pos, false, sym, ap, ◌∙◌, arith, length, take, drop, set, get_or, leb, w32, to_z, of_z, FitsSigned}
+-- The value and the rows of a shift, and what is judged of it.
+use Rattle.std.proofs.Common.{◌≡◌, ℕ, ◌<◌, ◌≤◌, List, ◌++◌, ℤ, ◌+ℤ◌, pos, false, sym, ap, ◌∙◌, arith, length, take, drop, set, get_or, leb, ltb, Bool, true, not, ◌||◌, ◌*◌, w32, to_z, of_z, FitsSigned}
 use native.Mathlib.Decide.{dec_lt}
 use lib.IntN.{nat_abs}
 use lib.ListN.{length-set}
@@ -7,6 +7,14 @@ use lib.Seq.{take_at}
 use borrow.Author.Tests.{lt-leb}
 use Rattle.mathematics.specs.Writing.{front}
 use Rattle.mathematics.proofs.Signed.{back32, size_fits}
+use Rattle.complex.specs.declared.SimplicialComplex.{SimplicialComplex}
+use Rattle.complex.specs.Complex.{complex_of}
+use Rattle.walker.specs.Tables.{states_of}
+use Rattle.enumeration.specs.declared.basis.Basis.{Basis}
+use Rattle.enumeration.specs.Basis.{BasisOf}
+use Rattle.enumeration.specs.Enumeration.{short}
+use Rattle.hilbert.proofs.Prepared.{short_by}
+use Rattle.gauss_law.proofs.Spanned.{edges_long}
 use Rattle.gauss_law.specs.Gauss.{within}
 use Rattle.gauss_law.specs.Shifts.{raised, shifted}
 
@@ -35,3 +43,30 @@ module _ (s : List ℤ) (e : ℕ) (d : ℤ) where
   unfolding shifted
   begins_shifted v old new value h =
       h ∙ rw value (ap (λ n. set s e (raised s e d) ++ drop n old) (sym (length-set s e (raised s e d))))
+
+-- ---- a shift whose configuration, edge and lists pass
+module _ (c : SimplicialComplex) (L : ℕ) (b : Basis) (of : BasisOf (complex_of c) L b) (s : List ℤ) (e states res : ℕ) (sized : length s ≡ c.n_edges) (below : e < c.n_edges)
+    (tight : Bool) (tight_is : tight ≡ ltb states (length (states_of b.walker b.lambda b.blocks) * b.walker.n_edges)) (roomy : (tight || ltb res c.n_edges) ≡ false) where
+  pub shift_long : length s ≡ length (complex_of c).edges
+  shift_long = sized ∙ sym (edges_long c)
+
+  pub shift_inside : leb (length (complex_of c).edges) e ≡ false
+  shift_inside = rw (edges_long c) (lt-leb _ _ below)
+
+  pub shift_room : (short (complex_of c) L states || ltb res (length (complex_of c).edges)) ≡ false
+  shift_room = rw (short_by of states, ← tight_is, edges_long c) roomy
+
+-- and whose value stays within the band
+module _ (L : ℕ) (s : List ℤ) (e : ℕ) (d : ℤ) (x : FitsSigned w32 (get_or s e (pos 0))) (y : FitsSigned w32 d) (v : ℤ) (fits : FitsSigned w32 v)
+    (told : (v ≡ to_z w32 (of_z w32 (get_or s e (pos 0))) +ℤ to_z w32 (of_z w32 d)) × (within L v ≡ true)) where
+  is : v ≡ raised s e d
+  is = told.0 ∙ raised_is s e d x y
+
+  pub shift_value : to_z w32 (of_z w32 v) ≡ raised s e d
+  shift_value = back32 v fits.sfits ∙ is
+
+  pub shift_band : not (within L (raised s e d)) ≡ false
+  shift_band = rw (← is, told.1)
+
+  pub shift_row : (m : ℕ) (rest row : List ℤ) → length s ≡ m → row ≡ set s e (to_z w32 (of_z w32 v)) ++ rest → take m row ≡ shifted s e d
+  shift_row m rest row sized written = row_is s e d m _ rest row sized shift_value written

@@ -1,21 +1,19 @@
-use Rattle.std.proofs.Common.{◌≡◌, ◌≤◌, sym, ◌∙◌, refl, length, take, false, arith, rules, leb, ltb, ◌||◌, not, pos, get_or, w32, to_z, of_z, FitsSigned}
+use Rattle.std.proofs.Common.{◌≡◌, ◌≤◌, sym, ◌∙◌, refl, length, false, arith, rules, pos, get_or, w32, FitsSigned}
 use borrow.Author.Tests.{eq-eqb, ne_eqb, le-leb, lt-leb}
 use Rattle.mathematics.proofs.Tests.{or_fell}
 use Rattle.mathematics.proofs.Calls.{none, here, past, refuses, ends, both}
 use Rattle.complex.specs.Complex.{complex_of}
 use Rattle.complex.proofs.Accepting.{accepted}
 use Rattle.gauss_law.proofs.Spanned.{edges_long}
-use Rattle.gauss_law.specs.Shifts.{raised, shifted}
+use Rattle.gauss_law.specs.Shifts.{raised}
 use Rattle.gauss_law.proofs.Shifts.{shifted_length}
 use Rattle.answers.proofs.Passing.{answer_passed}
 use Rattle.enumeration.proofs.Bases.{basis_refused, basis_passed}
 use Rattle.hilbert.proofs.Order.{in_basis_at}
 use Rattle.hilbert.proofs.Prepared.{told_refused, short_by}
 use Rattle.shifts.specs.Shift.{shift_call}
-use Rattle.shifts.proofs.Shifting.{raised_is, row_is, begins_shifted}
-use Rattle.enumeration.specs.Enumeration.{short}
+use Rattle.shifts.proofs.Shifting.{raised_is, begins_shifted, shift_inside, shift_room, shift_value, shift_band, shift_row}
 use Rattle.gauss_law.specs.Gauss.{within}
-use Rattle.mathematics.proofs.Signed.{back32}
 use Rattle.shifts.proofs.apply_shift.Goals as goal
 
 pub returns-in_err-basis : goal.returns-in_err-basis
@@ -47,15 +45,12 @@ returns-then-is_too_short-res c =
 pub returns-in_default : goal.returns-in_default
 unfolding shift_call
 returns-in_default c =
-    let prepared = c.in_ok-basis.ensures in
-    let basis = prepared.basis in
-    let edges = edges_long c.args.c in
-    let long = c.if-configuration-m.false ∙ sym edges in
-    let inside : leb (length (complex_of c.args.c).edges) c.args.edge ≡ false = rw edges (lt-leb _ _ c.if-m-edge.false) in
-    let room : (short (complex_of c.args.c) c.args.lambda (length c.args.states.now) || ltb (length c.args.res.now) (length (complex_of c.args.c).edges)) ≡ false = rw (short_by basis (length c.args.states.now), ← c.is_too_short.ensures, edges) c.if-is_too_short-res.false in
+    let long = c.if-configuration-m.false ∙ sym (edges_long c.args.c) in
+    let inside = shift_inside c.args.c c.args.lambda _ c.in_ok-basis.ensures.basis c.args.configuration.now c.args.edge (length c.args.states.now) (length c.args.res.now) c.if-configuration-m.false c.if-m-edge.false _ c.is_too_short.ensures c.if-is_too_short-res.false in
+    let room = shift_room c.args.c c.args.lambda _ c.in_ok-basis.ensures.basis c.args.configuration.now c.args.edge (length c.args.states.now) (length c.args.res.now) c.if-configuration-m.false c.if-m-edge.false _ c.is_too_short.ensures c.if-is_too_short-res.false in
     let x : FitsSigned w32 (get_or c.args.configuration.now c.args.edge (pos 0)) = search rules in
     let left : within c.args.lambda (raised c.args.configuration.now c.args.edge c.args.delta) ≡ false = rw (← raised_is c.args.configuration.now c.args.edge c.args.delta x c.ranges.delta) c.in_default.ensures in
-    refuses _ (basis_passed prepared (past (rw (eq-eqb _ _ long)) (past inside (past room (here (rw left)))))) refl
+    refuses _ (basis_passed c.in_ok-basis.ensures (past (rw (eq-eqb _ _ long)) (past inside (past room (here (rw left)))))) refl
 
 pub shifted_row-shifted-requires : goal.shifted_row-shifted-requires
 shifted_row-shifted-requires c =
@@ -67,46 +62,32 @@ in_basis-requires c =
     let walks = c.in_ok-basis.ensures.basis.walks in
     let x : FitsSigned w32 (get_or c.args.configuration.now c.args.edge (pos 0)) = search rules in
     let fits : FitsSigned w32 c.in-Some.value = search rules in
-    let is : c.in-Some.value ≡ raised c.args.configuration.now c.args.edge c.args.delta = c.in-Some.ensures.0 ∙ raised_is c.args.configuration.now c.args.edge c.args.delta x c.ranges.delta in
-    let value : to_z w32 (of_z w32 c.in-Some.value) ≡ raised c.args.configuration.now c.args.edge c.args.delta = back32 _ fits.sfits ∙ is in
-    let row : take c.args.c.n_edges c.shifted_row-shifted.result ≡ shifted c.args.configuration.now c.args.edge c.args.delta = row_is c.args.configuration.now c.args.edge c.args.delta c.args.c.n_edges _ _ _ c.if-configuration-m.false value c.shifted_row-shifted.ensures in
+    let row = shift_row c.args.lambda c.args.configuration.now c.args.edge c.args.delta x c.ranges.delta c.in-Some.value fits c.in-Some.ensures c.args.c.n_edges _ _ c.if-configuration-m.false c.shifted_row-shifted.ensures in
     ((accepted _).1 walks.walks.accepted, walks.truncation, rw row (shifted_length c.args.configuration.now c.args.edge c.args.delta ∙ c.if-configuration-m.false))
 
 pub returns-then-not-in_basis : goal.returns-then-not-in_basis
 unfolding shift_call
 returns-then-not-in_basis c =
-    let prepared = c.in_ok-basis.ensures in
-    let basis = prepared.basis in
-    let edges = edges_long c.args.c in
-    let long = c.if-configuration-m.false ∙ sym edges in
-    let inside : leb (length (complex_of c.args.c).edges) c.args.edge ≡ false = rw edges (lt-leb _ _ c.if-m-edge.false) in
-    let room : (short (complex_of c.args.c) c.args.lambda (length c.args.states.now) || ltb (length c.args.res.now) (length (complex_of c.args.c).edges)) ≡ false = rw (short_by basis (length c.args.states.now), ← c.is_too_short.ensures, edges) c.if-is_too_short-res.false in
+    let long = c.if-configuration-m.false ∙ sym (edges_long c.args.c) in
+    let inside = shift_inside c.args.c c.args.lambda _ c.in_ok-basis.ensures.basis c.args.configuration.now c.args.edge (length c.args.states.now) (length c.args.res.now) c.if-configuration-m.false c.if-m-edge.false _ c.is_too_short.ensures c.if-is_too_short-res.false in
+    let room = shift_room c.args.c c.args.lambda _ c.in_ok-basis.ensures.basis c.args.configuration.now c.args.edge (length c.args.states.now) (length c.args.res.now) c.if-configuration-m.false c.if-m-edge.false _ c.is_too_short.ensures c.if-is_too_short-res.false in
     let x : FitsSigned w32 (get_or c.args.configuration.now c.args.edge (pos 0)) = search rules in
     let fits : FitsSigned w32 c.in-Some.value = search rules in
-    let is : c.in-Some.value ≡ raised c.args.configuration.now c.args.edge c.args.delta = c.in-Some.ensures.0 ∙ raised_is c.args.configuration.now c.args.edge c.args.delta x c.ranges.delta in
-    let value : to_z w32 (of_z w32 c.in-Some.value) ≡ raised c.args.configuration.now c.args.edge c.args.delta = back32 _ fits.sfits ∙ is in
-    let row : take c.args.c.n_edges c.shifted_row-shifted.result ≡ shifted c.args.configuration.now c.args.edge c.args.delta = row_is c.args.configuration.now c.args.edge c.args.delta c.args.c.n_edges _ _ _ c.if-configuration-m.false value c.shifted_row-shifted.ensures in
-    let band : not (within c.args.lambda (raised c.args.configuration.now c.args.edge c.args.delta)) ≡ false = rw (← is, c.in-Some.ensures.1) in
+    let row = shift_row c.args.lambda c.args.configuration.now c.args.edge c.args.delta x c.ranges.delta c.in-Some.value fits c.in-Some.ensures c.args.c.n_edges _ _ c.if-configuration-m.false c.shifted_row-shifted.ensures in
     let unlisted = rw row at (sym c.in_basis.ensures ∙ c.if-not-in_basis.true) in
-    refuses _ (basis_passed prepared (past (rw (eq-eqb _ _ long)) (past inside (past room (past band (here (rw unlisted))))))) refl
+    refuses _ (basis_passed c.in_ok-basis.ensures (past (rw (eq-eqb _ _ long)) (past inside (past room (past (shift_band c.args.lambda c.args.configuration.now c.args.edge c.args.delta x c.ranges.delta c.in-Some.value fits c.in-Some.ensures) (here (rw unlisted))))))) refl
 
 pub list_and_seek-requires : goal.list_and_seek-requires
 list_and_seek-requires c =
-    let prepared = c.in_ok-basis.ensures in
-    let basis = prepared.basis in
-    let edges = edges_long c.args.c in
-    let long = c.if-configuration-m.false ∙ sym edges in
-    let inside : leb (length (complex_of c.args.c).edges) c.args.edge ≡ false = rw edges (lt-leb _ _ c.if-m-edge.false) in
-    let room : (short (complex_of c.args.c) c.args.lambda (length c.args.states.now) || ltb (length c.args.res.now) (length (complex_of c.args.c).edges)) ≡ false = rw (short_by basis (length c.args.states.now), ← c.is_too_short.ensures, edges) c.if-is_too_short-res.false in
+    let basis = c.in_ok-basis.ensures.basis in
     let x : FitsSigned w32 (get_or c.args.configuration.now c.args.edge (pos 0)) = search rules in
     let fits : FitsSigned w32 c.in-Some.value = search rules in
-    let is : c.in-Some.value ≡ raised c.args.configuration.now c.args.edge c.args.delta = c.in-Some.ensures.0 ∙ raised_is c.args.configuration.now c.args.edge c.args.delta x c.ranges.delta in
-    let value : to_z w32 (of_z w32 c.in-Some.value) ≡ raised c.args.configuration.now c.args.edge c.args.delta = back32 _ fits.sfits ∙ is in
-    let row : take c.args.c.n_edges c.shifted_row-shifted.result ≡ shifted c.args.configuration.now c.args.edge c.args.delta = row_is c.args.configuration.now c.args.edge c.args.delta c.args.c.n_edges _ _ _ c.if-configuration-m.false value c.shifted_row-shifted.ensures in
+    let row = shift_row c.args.lambda c.args.configuration.now c.args.edge c.args.delta x c.ranges.delta c.in-Some.value fits c.in-Some.ensures c.args.c.n_edges _ _ c.if-configuration-m.false c.shifted_row-shifted.ensures in
+    let room = shift_room c.args.c c.args.lambda _ c.in_ok-basis.ensures.basis c.args.configuration.now c.args.edge (length c.args.states.now) (length c.args.res.now) c.if-configuration-m.false c.if-m-edge.false _ c.is_too_short.ensures c.if-is_too_short-res.false in
     rw (basis.truncated, row) (record {
       complex = complex_of c.args.c;
       basis = basis.walks;
-      sized = shifted_length c.args.configuration.now c.args.edge c.args.delta ∙ long;
+      sized = shifted_length c.args.configuration.now c.args.edge c.args.delta ∙ (c.if-configuration-m.false ∙ sym (edges_long c.args.c));
       listed = rw row at (sym c.in_basis.ensures ∙ c.if-not-in_basis.false);
       long = (or_fell _ _ room).0;
     })
@@ -114,22 +95,17 @@ list_and_seek-requires c =
 pub returns : goal.returns
 unfolding shift_call
 returns c =
-    let prepared = c.in_ok-basis.ensures in
-    let basis = prepared.basis in
-    let edges = edges_long c.args.c in
-    let long = c.if-configuration-m.false ∙ sym edges in
-    let inside : leb (length (complex_of c.args.c).edges) c.args.edge ≡ false = rw edges (lt-leb _ _ c.if-m-edge.false) in
-    let room : (short (complex_of c.args.c) c.args.lambda (length c.args.states.now) || ltb (length c.args.res.now) (length (complex_of c.args.c).edges)) ≡ false = rw (short_by basis (length c.args.states.now), ← c.is_too_short.ensures, edges) c.if-is_too_short-res.false in
+    let basis = c.in_ok-basis.ensures.basis in
+    let long = c.if-configuration-m.false ∙ sym (edges_long c.args.c) in
+    let inside = shift_inside c.args.c c.args.lambda _ c.in_ok-basis.ensures.basis c.args.configuration.now c.args.edge (length c.args.states.now) (length c.args.res.now) c.if-configuration-m.false c.if-m-edge.false _ c.is_too_short.ensures c.if-is_too_short-res.false in
+    let room = shift_room c.args.c c.args.lambda _ c.in_ok-basis.ensures.basis c.args.configuration.now c.args.edge (length c.args.states.now) (length c.args.res.now) c.if-configuration-m.false c.if-m-edge.false _ c.is_too_short.ensures c.if-is_too_short-res.false in
     let x : FitsSigned w32 (get_or c.args.configuration.now c.args.edge (pos 0)) = search rules in
     let fits : FitsSigned w32 c.in-Some.value = search rules in
-    let is : c.in-Some.value ≡ raised c.args.configuration.now c.args.edge c.args.delta = c.in-Some.ensures.0 ∙ raised_is c.args.configuration.now c.args.edge c.args.delta x c.ranges.delta in
-    let value : to_z w32 (of_z w32 c.in-Some.value) ≡ raised c.args.configuration.now c.args.edge c.args.delta = back32 _ fits.sfits ∙ is in
-    let row : take c.args.c.n_edges c.shifted_row-shifted.result ≡ shifted c.args.configuration.now c.args.edge c.args.delta = row_is c.args.configuration.now c.args.edge c.args.delta c.args.c.n_edges _ _ _ c.if-configuration-m.false value c.shifted_row-shifted.ensures in
-    let band : not (within c.args.lambda (raised c.args.configuration.now c.args.edge c.args.delta)) ≡ false = rw (← is, c.in-Some.ensures.1) in
+    let row = shift_row c.args.lambda c.args.configuration.now c.args.edge c.args.delta x c.ranges.delta c.in-Some.value fits c.in-Some.ensures c.args.c.n_edges _ _ c.if-configuration-m.false c.shifted_row-shifted.ensures in
     let listed = rw row at (sym c.in_basis.ensures ∙ c.if-not-in_basis.false) in
     let found = rw row at (c.list_and_seek.ensures _ _ basis) in
     let sized = shifted_length c.args.configuration.now c.args.edge c.args.delta ∙ long in
-    ends _ (basis_passed prepared (past (rw (eq-eqb _ _ long)) (past inside (past room (past band (past (rw listed) none))))))
+    ends _ (basis_passed c.in_ok-basis.ensures (past (rw (eq-eqb _ _ long)) (past inside (past room (past (shift_band c.args.lambda c.args.configuration.now c.args.edge c.args.delta x c.ranges.delta c.in-Some.value fits c.in-Some.ensures) (past (rw listed) none))))))
     (found.found (sized, listed))
-    (both found.list (begins_shifted c.args.configuration.now c.args.edge c.args.delta _ c.args.res.now _ value c.write_shifted.ensures))
+    (both found.list (begins_shifted c.args.configuration.now c.args.edge c.args.delta _ c.args.res.now _ (shift_value c.args.lambda c.args.configuration.now c.args.edge c.args.delta x c.ranges.delta c.in-Some.value fits c.in-Some.ensures) c.write_shifted.ensures))
     (record { found = in_basis_at _ basis.walks.walks.accepted _ _ sized listed; few = basis.walks.few })

@@ -1,11 +1,8 @@
-use Rattle.std.proofs.Common.{◌≡◌, ◌<◌, refl, ap, ◌∙◌, arith, length}
-use Rattle.complex.specs.Complex.{complex_of}
+use Rattle.std.proofs.Common.{◌≡◌, refl, ap, ◌∙◌, arith}
 use Rattle.complex.proofs.Accepting.{accepted}
 use Rattle.matrices.specs.Weights.{weight, is_given, given_list}
 use Rattle.matrices.specs.Terms.{row_plaquette_term}
-use Rattle.matrices.proofs.Weighing.{weight_there}
-use Rattle.triangles.proofs.SidesFound.{triangles_long}
-use Rattle.triangles.proofs.AllSides.{own_sides}
+use Rattle.plaquettes.proofs.Weighed.{triangles_few, triangle_weight, triangle_sides}
 use Rattle.lanczos.specs.Matvec.{triangles_added}
 use Rattle.lanczos.proofs.Folds.{triangle_more}
 use Rattle.lanczos.proofs.Running.{run_rows}
@@ -22,23 +19,19 @@ unfolding triangles_added
 loop-t-init c = refl
 
 pub weight_at-requires : goal.weight_at-requires
-weight_at-requires c =
-    let there : c.loop-t.t < length (complex_of c.args.c).triangles = rw (triangles_long c.args.c) c.loop-t-test.true in
-    weight_there _ _ _ c.requires.2 _ there
+weight_at-requires c = triangle_weight _ _ c.loop-t-test.true _ _ c.requires.2
 
 pub sides_at-requires : goal.sides_at-requires
-sides_at-requires c = omega (arith, triangles_long c.args.c, c.requires.1.accepted.few_triangles)
+sides_at-requires c = omega (arith, triangles_few c.args.c c.requires.1.accepted)
 
 pub add_plaquette-requires : goal.add_plaquette-requires
 add_plaquette-requires c =
-    let there : c.loop-t.t < length (complex_of c.args.c).triangles = rw (triangles_long c.args.c) c.loop-t-test.true in
-    let of = own_sides _ _ c.all_sides-all.ensures _ _ there c.sides_at.ensures in
+    let of = triangle_sides _ _ c.loop-t-test.true _ c.all_sides-all.ensures _ c.sides_at.ensures in
     (run_rows _ _ _ _ c.requires.1 _ _ of _ _ _ c.requires.5 c.cycle_edges-edges.ensures, c.requires.3, rw c.loop-t.auto.res c.requires.4)
 
 pub loop-t-preserved : goal.loop-t-preserved
 loop-t-preserved c =
-    let there : c.loop-t.t < length (complex_of c.args.c).triangles = rw (triangles_long c.args.c) c.loop-t-test.true in
-    let of = own_sides _ _ c.all_sides-all.ensures _ _ there c.sides_at.ensures in
+    let of = triangle_sides _ _ c.loop-t-test.true _ c.all_sides-all.ensures _ c.sides_at.ensures in
     let w = weight (is_given c.args.weights) (given_list c.args.weights) in
     let value = c.row_plaquette_term-x.ensures ∙ ap (row_plaquette_term c.args.p) c.weight_at.ensures in
     triangle_more _ _ c.args.p w c.args.vector.now _ _ _ _ _ _ c.requires.1.count value c.loop-t.invariant (c.add_plaquette.ensures _ _ _ c.requires.1 of c.requires.5)

@@ -3,4 +3,4 @@ use Rattle.lanczos.specs.Walk.{electric_parts}
 use Rattle.lanczos.proofs.matvec.write_electric.Given as goal
 
 abbrev pub invariant-loop-i : goal.invariant-loop-i
-invariant-loop-i l = l.res ≡ electric_parts l.factor l.m l.list l.vector l.i ++ drop l.i l.fn.res
+invariant-loop-i l = l.sum-items ≡ electric_parts l.factor l.m l.list l.vector l.i ++ drop l.i l.initial.sum-items

@@ -12,6 +12,7 @@ pub loop-edge-init : goal.loop-edge-init
 loop-edge-init c =
     walk_begins _ c.args.m (take c.args.m c.args.row.now) _ c.args.row.now c.told-row refl (λ e h. rw (get_or-take c.args.m c.args.row.now e (pos 0) h) (c.requires.4 e h))
 
+-- A step is read alike at the next three goals. A lemma of that would name the types of the loop's iterator, which std keeps to itself.
 pub take_step-requires : goal.take_step-requires
 take_step-requires c =
     let turn = zip_turn c.args.self.edges.now c.args.self.directions.now c.loop-edge.yielded c.into_iter-edge-iterator.result c.loop-edge.edge-iterator c.next.new.self c.next.result (search rules) (search rules) c.loop-edge.yielded_by (c.in-Some.edge, c.in-Some.direction) c.in-Some.is c.next.ensures.steps in
