@@ -26,9 +26,6 @@ pub record Filling {A : Type 0} (f : Step → A) (l : List Step) (at : ℕ) (fir
   pub same : put out front (map f m) ≡ put first at (map f l)
 
 module _ {A : Type 0} (f : Step → A) (l : List Step) (at : ℕ) (first : List A) where
-  pub nothing_filled : at + length l ≤ length first → Filling f l at first l at first
-  nothing_filled room = record { long = refl; room = room; same = refl }
-
   -- x is f of the first or of the last of them
   module _ (m : List Step) (front : ℕ) (out : List A) (s : Step) (x : A) (own : x ≡ f s) where
     pub front_filled : Filling f l at first (s ∷ m) front out → Filling f l at first m (front + 1) (set out front x)

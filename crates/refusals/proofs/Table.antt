@@ -23,15 +23,6 @@ pub numbers_in_order : numbers refusals ≡ map suc (below 17)
 unfolding numbers refusals below
 numbers_in_order = refl
 
--- so no other number is in the table
-pub table_range : (n : ℕ) → in_table n ≡ true → (1 ≤ n) × (n ≤ 17)
-unfolding in_table below
-table_range n is =
-    let at = listed_at eqb numbers_equal 0 n (map suc (below 17)) (rw numbers_in_order at is) in
-    let inside = at.1 in
-    let e : suc at.0 ≡ n = sym (map_below_at suc 17 at.0 0 inside) ∙ at.2 in
-    (omega arith, omega arith)
-
 -- the test of a sentence
 printable : ℕ → Bool
 printable b = leb 32 b && leb b 126

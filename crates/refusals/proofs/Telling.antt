@@ -82,12 +82,3 @@ none_told n others room = here (go (in_table n) refl)
 -- the number of a reason is not
 pub some_told : (r : Refusal) (n : ℕ) → refusal_number r ≡ n → not (in_table n) ≡ false
 some_told r n is = rw (← is, reason_listed r)
-
--- no sentence that is told has more than 200 bytes
-pub bytes_few : (n k : ℕ) (old l : List ℕ) → Answered (text_call n old) (value k) l → k ≤ 200
-unfolding text_call outcome
-bytes_few n k old l told = go (first (text_tests n (length old))) refl told.answer
-  where
-    go : (m : ℕ) → first (text_tests n (length old)) ≡ m → value k ≡ outcome m (length (sentence n)) → k ≤ 200
-    go zero none is = let e : k ≡ length (sentence n) = cc in omega (arith, (told.known none).few)
-    go (suc m) some is = let z : ◌≡◌ {A = ℕ} 0 1 = cc in absurd (omega arith)
