@@ -69,7 +69,7 @@ pub fn export_read_sheet(
     }
 }
 
-// The edge numbers of a triangle of a sheet: 0.
+// The edge numbers of a triangle of a sheet: 0. Here and above the lists of fixed length are the C interface's.
 pub fn export_tri_edge_indices(sheet: &[u8], triangle: u64, indices: &mut [u64; 3]) -> i64
     ensures { Exported (on_sheet sheet.now (λ c L. stored (indices_call c triangle) in_place indices.old)) result indices.new }
 {

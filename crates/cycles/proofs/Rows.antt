@@ -1,14 +1,13 @@
 -- Tables of rows of 63: what a row holds after another row, or one entry, was written.
 use Prim.Native.Nat.{ℕ, ◌+◌, ◌*◌, ◌-◌, ◌≤◌, ◌<◌}
 use mathlib.Core.List.{List, append_assoc}
-use mathlib.Core.Path.{◌≡◌, sym, ◌∙◌, ap}
+use mathlib.Core.Path.{◌≡◌, sym, ◌∙◌}
 use mathlib.Core.Logic.{◌≢◌, ◌⊎◌, inl, inr}
 use native.Mathlib.Omega.{arith}
-use native.Mathlib.Numerals.{add-one}
 use native.Mathlib.Decide.{ℕ_discrete, dec_lt}
 use lib.IntN.{ℤ, pos}
 use lib.ListN.{get_or, length, take, drop, set, length-set, length-drop, replicate, length-replicate, get_or-replicate}
-use lib.Seq.{paste, paste-suc, take_all, drop-drop, take-take, length-take-le, length-paste, get_or-take, get_or-drop, get_or-set_same, get_or-set_other, ext_get_or}
+use lib.Seq.{paste, take_all, drop-drop, take-take, length-take-le, length-paste, get_or-take, get_or-drop, get_or-set_same, get_or-set_other, ext_get_or}
 use borrow.Rule.Slice.PartMut.{put_mid}
 use Rattle.mathematics.proofs.Pasted.{paste_inside, paste_outside}
 use Rattle.cycles.specs.Cycles.{row}

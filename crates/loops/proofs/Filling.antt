@@ -1,7 +1,7 @@
 -- Steps that are written to a list from both ends.
 use Prim.Native.Nat.{ℕ, suc, ◌+◌, ◌<◌, ◌≤◌}
 use mathlib.Core.List.{List, [], ◌∷◌, ◌++◌, map, map-append, append_assoc}
-use mathlib.Core.Path.{◌≡◌, refl, sym, ap, ◌∙◌}
+use mathlib.Core.Path.{◌≡◌, sym, ap, ◌∙◌}
 use native.Mathlib.Omega.{arith}
 use lib.ListN.{length, length-append, length-map, set, length-set, take, drop}
 use lib.Seq.{take-set-le, drop-set-lt, drop-cons, get_or-set_same, append_snoc}
