@@ -41,7 +41,7 @@ pub fn export_make_sheet(
     ))
 }
 
-// What a sheet holds: 0. Entries of the lists beyond its edges and triangles stay.
+// What a sheet holds: 0. Entries of the lists beyond its edges and triangles stay. Each number has its own place: the C interface.
 #[tactic(auto, using(exports::proofs::OnSheets::few_edges_read, exports::proofs::OnSheets::few_triangles_read))]
 pub fn export_read_sheet(
     sheet: &[u8],
@@ -69,7 +69,7 @@ pub fn export_read_sheet(
     }
 }
 
-// The edge numbers of a triangle of a sheet: 0.
+// The edge numbers of a triangle of a sheet: 0. Here and above the lists of fixed length are the C interface's.
 pub fn export_tri_edge_indices(sheet: &[u8], triangle: u64, indices: &mut [u64; 3]) -> i64
     ensures { Exported (on_sheet sheet.now (λ c L. stored (indices_call c triangle) in_place indices.old)) result indices.new }
 {
@@ -106,7 +106,8 @@ pub fn export_from_pentachorons(
     }
 }
 
-// The tree edges and the free edges of a sheet's complex: the number of free edges.
+// The tree edges and the free edges of a sheet's complex: the number of free edges. This and the next two have one shape: each exported name is
+// a function of its own, and a proof loses what a closure wrote to the lent lists.
 #[tactic(auto, using(crate::proofs::Small::tree_small))]
 pub fn export_spanning_tree(sheet: &[u8], tree: &mut [u32], free: &mut [u32]) -> i64
     ensures { Exported (on_sheet sheet.now (λ c L. tree_call c tree.old free.old)) result (tree.new, free.new) }

@@ -1,14 +1,13 @@
 -- Tables of rows of 63: what a row holds after another row, or one entry, was written.
 use Prim.Native.Nat.{ℕ, ◌+◌, ◌*◌, ◌-◌, ◌≤◌, ◌<◌}
 use mathlib.Core.List.{List, append_assoc}
-use mathlib.Core.Path.{◌≡◌, sym, ◌∙◌, ap}
+use mathlib.Core.Path.{◌≡◌, sym, ◌∙◌}
 use mathlib.Core.Logic.{◌≢◌, ◌⊎◌, inl, inr}
 use native.Mathlib.Omega.{arith}
-use native.Mathlib.Numerals.{add-one}
 use native.Mathlib.Decide.{ℕ_discrete, dec_lt}
 use lib.IntN.{ℤ, pos}
 use lib.ListN.{get_or, length, take, drop, set, length-set, length-drop, replicate, length-replicate, get_or-replicate}
-use lib.Seq.{paste, paste-suc, take_all, drop-drop, take-take, length-take-le, length-paste, get_or-take, get_or-drop, get_or-set_same, get_or-set_other, ext_get_or}
+use lib.Seq.{paste, take_all, drop-drop, take-take, length-take-le, length-paste, get_or-take, get_or-drop, get_or-set_same, get_or-set_other, ext_get_or}
 use borrow.Rule.Slice.PartMut.{put_mid}
 use Rattle.mathematics.proofs.Pasted.{paste_inside, paste_outside}
 use Rattle.cycles.specs.Cycles.{row}
@@ -82,22 +81,6 @@ module _ (m : ℕ) (few : m ≤ 63) (table : List ℤ) (w : ℕ) (room : 63 * w 
         apart : (e : ℕ) → e < m → Dec (r < w) → 63 * r + e ≡ 63 * w + i → ⊥
         apart e k (yes l) q = absurd (omega arith)
         apart e k (no l) q = let d : w < r = omega (arith, n) in absurd (omega arith)
-
--- one entry more of a row is copied to another
-pub copy_more : (m : ℕ) → m ≤ 63 → (table so_far : List ℤ) (from to e : ℕ) (x : ℤ) → 63 * from + m ≤ length table → 63 * to + m ≤ length table → from ≢ to → e < m
-    → so_far ≡ paste table (63 * to) (row m table from) e → x ≡ get_or so_far (63 * from + e) (pos 0)
-    → set so_far (63 * to + e) x ≡ paste table (63 * to) (row m table from) (e + 1)
-copy_more m few table so_far from to e x a b n h q r =
-    let long : length (row m table from) ≡ m = row_length m few table from a in
-    let read : x ≡ get_or (row m table from) e (pos 0) =
-    r ∙ ap (λ t. get_or t (63 * from + e) (pos 0)) q
-    ∙ paste_outside table (63 * to) (row m table from) e (pos 0) (omega arith) (omega arith) (63 * from + e) (apart (dec_lt from to))
-    ∙ sym (row_at m few table from e h) in
-    rw (q, read, add-one e) (paste-suc table (63 * to) (row m table from) e (pos 0) (omega arith) (omega arith))
-  where
-    apart : Dec (from < to) → (63 * from + e < 63 * to) ⊎ (63 * to + e ≤ 63 * from + e)
-    apart (yes k) = inl (omega arith)
-    apart (no k) = inr (omega arith)
 
 -- a row that is copied at once
 pub row_copied : (table : List ℤ) (from to m : ℕ) → paste table to (drop from table) ((from + m) - from) ≡ paste table to (take m (drop from table)) m

@@ -15,7 +15,7 @@ use complex::search::SpanningTree;
 use numbers::edge_list::EdgeList;
 use numbers::sizes::{MOST_EDGES, MOST_VERTICES};
 
-// The table of paths has a row for each vertex.
+// The table of paths has a row for each vertex. Both tables are fixed memory with room for every record: there is no heap.
 pub const PATH_ENTRIES: usize = MOST_VERTICES * MOST_EDGES;
 
 // The table of cycles has a row for each free edge.

@@ -48,7 +48,7 @@ pub fn free_edges(c: SimplicialComplex, tree: SpanningTree) -> EdgeList
     unflagged(&flags[..c.n_edges])
 }
 
-// A list goes to the front of a lent one.
+// A list goes to the front of a lent one. By number: a proof knows nothing of what a loop over a zip with iter_mut wrote.
 fn copy_first(from: &[u8], to: &mut [u32])
     requires { length from.now ≤ length to.old }
     ensures { to.new ≡ from.now ++ drop (length from.now) to.old }

@@ -14,7 +14,7 @@ use answers::refusal::Refusal;
 use complex::SimplicialComplex;
 use numbers::sizes::MOST_VERTICES;
 
-// The value x is taken off the sum at a and added to the sum at b.
+// The value x is taken off the sum at a and added to the sum at b. The sums are fixed memory with one for each vertex: there is no heap.
 fn carry(sums: &mut [i64; MOST_VERTICES], a: usize, b: usize, x: i32)
     requires { EdgeAddable sums.old (a ∷ b ∷ []) × (a ≢ b) }
     ensures { sums.new ≡ sums_with (a ∷ b ∷ []) x sums.old }

@@ -1,7 +1,7 @@
 -- Steps that are written to a list from both ends.
 use Prim.Native.Nat.{ℕ, suc, ◌+◌, ◌<◌, ◌≤◌}
 use mathlib.Core.List.{List, [], ◌∷◌, ◌++◌, map, map-append, append_assoc}
-use mathlib.Core.Path.{◌≡◌, refl, sym, ap, ◌∙◌}
+use mathlib.Core.Path.{◌≡◌, sym, ap, ◌∙◌}
 use native.Mathlib.Omega.{arith}
 use lib.ListN.{length, length-append, length-map, set, length-set, take, drop}
 use lib.Seq.{take-set-le, drop-set-lt, drop-cons, get_or-set_same, append_snoc}
@@ -26,9 +26,6 @@ pub record Filling {A : Type 0} (f : Step → A) (l : List Step) (at : ℕ) (fir
   pub same : put out front (map f m) ≡ put first at (map f l)
 
 module _ {A : Type 0} (f : Step → A) (l : List Step) (at : ℕ) (first : List A) where
-  pub nothing_filled : at + length l ≤ length first → Filling f l at first l at first
-  nothing_filled room = record { long = refl; room = room; same = refl }
-
   -- x is f of the first or of the last of them
   module _ (m : List Step) (front : ℕ) (out : List A) (s : Step) (x : A) (own : x ≡ f s) where
     pub front_filled : Filling f l at first (s ∷ m) front out → Filling f l at first m (front + 1) (set out front x)

@@ -1,10 +1,9 @@
 -- The table of the sentences: its numbers, and what each sentence is.
-use Prim.Native.Nat.{ℕ, suc, ◌≤◌}
+use Prim.Native.Nat.{ℕ, suc}
 use Prim.Native.String.{String}
 use mathlib.Core.List.{List, [], ◌∷◌, map}
-use mathlib.Core.Path.{◌≡◌, refl, sym, ◌∙◌}
+use mathlib.Core.Path.{◌≡◌, refl}
 use mathlib.Core.Bool.{Bool, true, false, ◌&&◌, ◌||◌, cond, false≢true}
-use native.Mathlib.Omega.{arith}
 use borrow.Author.Tests.{leb-true}
 use lib.Dec.{eqb, leb}
 use lib.ListN.{length, get_or}
@@ -12,8 +11,6 @@ use Rattle.mathematics.specs.Tests.{every_entry}
 use Rattle.mathematics.specs.Lists.{listed}
 use Rattle.mathematics.specs.Counting.{below}
 use Rattle.mathematics.proofs.Tests.{and_parts, all_at}
-use Rattle.mathematics.proofs.Lists.{numbers_equal, listed_at}
-use Rattle.mathematics.proofs.Below.{map_below_at}
 use Rattle.std.proofs.Common.{codes}
 use Rattle.answers.specs.Sentences.{refusals, numbers, sentence_in, sentence, in_table}
 use Rattle.refusals.specs.Sentences.{PlainText}
@@ -22,15 +19,6 @@ use Rattle.refusals.specs.Sentences.{PlainText}
 pub numbers_in_order : numbers refusals ≡ map suc (below 17)
 unfolding numbers refusals below
 numbers_in_order = refl
-
--- so no other number is in the table
-pub table_range : (n : ℕ) → in_table n ≡ true → (1 ≤ n) × (n ≤ 17)
-unfolding in_table below
-table_range n is =
-    let at = listed_at eqb numbers_equal 0 n (map suc (below 17)) (rw numbers_in_order at is) in
-    let inside = at.1 in
-    let e : suc at.0 ≡ n = sym (map_below_at suc 17 at.0 0 inside) ∙ at.2 in
-    (omega arith, omega arith)
 
 -- the test of a sentence
 printable : ℕ → Bool

@@ -1,13 +1,10 @@
 -- A sentence is told, or no sentence has the number.
-use Prim.Native.Nat.{ℕ, zero, suc, ◌≤◌}
+use Prim.Native.Nat.{ℕ}
 use mathlib.Core.List.{List, [], ◌∷◌, map}
 use mathlib.Core.Path.{◌≡◌, refl, sym, ◌∙◌}
 use mathlib.Core.Bool.{Bool, true, false, not}
-use native.Mathlib.Omega.{arith}
 use lib.Dec.{eqb}
-use lib.ListN.{length, get_or}
-use Rattle.mathematics.specs.Refusals.{value, first, outcome}
-use Rattle.mathematics.specs.Calls.{Answered}
+use lib.ListN.{get_or}
 use Rattle.mathematics.proofs.Calls.{Tells, here}
 use Rattle.mathematics.specs.Lists.{listed}
 use Rattle.mathematics.proofs.Lists.{numbers_equal, listed_at}
@@ -15,8 +12,8 @@ use Rattle.mathematics.proofs.Below.{map_at}
 use Rattle.answers.specs.declared.refusal.Refusal.{Refusal}
 use Rattle.answers.specs.declared.refusal.Refusal.TheVariants.{ShortSheet, NoMark, OtherVersion, WrongCounts, LargeTruncation, WrongLength, WrongEdge, WrongTriangle, Disconnected, ManyCandidates, WrongPentachoron, WrongListLength, OutOfRange, WrongFloat, NoRoom, OutOfBand, NotInBasis}
 use Rattle.answers.specs.Refusal.{refusal_number}
-use Rattle.answers.specs.Sentences.{refusals, numbers, sentence, in_table}
-use Rattle.refusals.specs.Sentences.{text_tests, text_call}
+use Rattle.answers.specs.Sentences.{refusals, numbers, in_table}
+use Rattle.refusals.specs.Sentences.{text_tests}
 
 -- the number of every reason is in the table
 pub reason_listed : (r : Refusal) → in_table (refusal_number r) ≡ true
@@ -82,12 +79,3 @@ none_told n others room = here (go (in_table n) refl)
 -- the number of a reason is not
 pub some_told : (r : Refusal) (n : ℕ) → refusal_number r ≡ n → not (in_table n) ≡ false
 some_told r n is = rw (← is, reason_listed r)
-
--- no sentence that is told has more than 200 bytes
-pub bytes_few : (n k : ℕ) (old l : List ℕ) → Answered (text_call n old) (value k) l → k ≤ 200
-unfolding text_call outcome
-bytes_few n k old l told = go (first (text_tests n (length old))) refl told.answer
-  where
-    go : (m : ℕ) → first (text_tests n (length old)) ≡ m → value k ≡ outcome m (length (sentence n)) → k ≤ 200
-    go zero none is = let e : k ≡ length (sentence n) = cc in omega (arith, (told.known none).few)
-    go (suc m) some is = let z : ◌≡◌ {A = ℕ} 0 1 = cc in absurd (omega arith)

@@ -20,9 +20,6 @@ module _ (all : List ℕ) (t : ℕ) (s : Sides) where
   abbrev two : List ℕ
   two = set one (3 * t + 1) s.second
 
-  pub with_length : length (with_sides all t s) ≡ length all
-  with_length = length-set two (3 * t + 2) s.third ∙ length-set one (3 * t + 1) s.second ∙ length-set all (3 * t) s.first
-
   -- entries of other triangles stay
   entry_kept : (i : ℕ) → i ≢ 3 * t → i ≢ 3 * t + 1 → i ≢ 3 * t + 2 → get_or (with_sides all t s) i 0 ≡ get_or all i 0
   entry_kept i a b d = get_or-set_other two (3 * t + 2) i s.third 0 d ∙ get_or-set_other one (3 * t + 1) i s.second 0 b ∙ get_or-set_other all (3 * t) i s.first 0 a

@@ -53,7 +53,7 @@ pub fn triangle_sides(c: SimplicialComplex, triangle: usize) -> Sides
     sides_of(&c, &table, triangle)
 }
 
-// The edges of triangle t go to its places in a list.
+// The edges of triangle t go to its places in a list. The list is fixed memory with room for every triangle, here and below: there is no heap.
 fn write_sides(all: &mut [u8; 768], t: usize, s: Sides)
     requires { (t < 256) × (s.first < 256) × (s.second < 256) × (s.third < 256) }
     ensures { all.new ≡ with_sides all.old t s }
@@ -63,7 +63,8 @@ fn write_sides(all: &mut [u8; 768], t: usize, s: Sides)
     all[3 * t + 2] = s.third as u8;
 }
 
-// The edges of all triangles of an accepted record, which is not judged again: those of triangle t from place 3t on.
+// The edges of all triangles of an accepted record, which is not judged again: those of triangle t from place 3t on. By number: triangle
+// t is asked of the record.
 pub fn all_sides(c: SimplicialComplex) -> [u8; 768]
     requires { refusal (complex_of c) ≡ 0 }
     ensures { AllSides (complex_of c) result }
