@@ -1,4 +1,6 @@
 // The calls on complexes, sheets, trees, loops and row lists, held against recorded answers: the number that each tells and the lists that it leaves.
+// Functions differ in the call and in its lists, and take what was recorded of it. One for several would take the call as a closure over lent lists,
+// with a contract that is longer than these bodies.
 #![tactic(auto)]
 
 pub mod complex_cases;
@@ -16,6 +18,7 @@ use numbers::sizes::{EDGE_ENTRIES, TRIANGLE_ENTRIES};
 use recorded::list::same;
 use rows_exports::export_matvec;
 
+#[tactic(auto, using(recorded::proofs::Agreeing::agrees_by), unfolding(crate::specs::Agreement::pentachora_agrees))]
 pub fn from_pentachorons_same(
     n_vertices: u64,
     pentachora: &[u64],
@@ -41,21 +44,16 @@ pub fn from_pentachorons_same(
             & (same(&made_triangles, triangles) & same(&[counted], n_triangles)))
 }
 
-// Three numbers as a list.
-fn same_three(list: &[u64; 3], bytes: &[u8]) -> bool
-    ensures { result ≡ holds_u64s list.now bytes.now }
-{
-    same(list, bytes)
-}
-
+#[tactic(auto, using(recorded::proofs::Agreeing::agrees_by), unfolding(crate::specs::Agreement::indices_agrees))]
 pub fn tri_edge_indices_same(sheet: &[u8], triangle: u64, told: i64, indices: &[u8]) -> bool
     ensures { result ≡ indices_agrees sheet.now triangle told indices.now }
 {
     let mut found = [0u64; 3];
     let answer = export_tri_edge_indices(sheet, triangle, &mut found);
-    (answer == told) & same_three(&found, indices)
+    (answer == told) & same(&found, indices)
 }
 
+#[tactic(auto, using(recorded::proofs::Agreeing::agrees_by), unfolding(crate::specs::Agreement::tree_agrees))]
 pub fn spanning_tree_same(sheet: &[u8], told: i64, tree: &[u8], free: &[u8]) -> bool
     ensures { result ≡ tree_agrees sheet.now told tree.now free.now }
 {
@@ -65,6 +63,7 @@ pub fn spanning_tree_same(sheet: &[u8], told: i64, tree: &[u8], free: &[u8]) -> 
     (answer == told) & (same(&made_tree, tree) & same(&made_free, free))
 }
 
+#[tactic(auto, using(recorded::proofs::Agreeing::agrees_by), unfolding(crate::specs::Agreement::loops_agrees))]
 pub fn fundamental_loops_same(
     sheet: &[u8],
     told: i64,
@@ -88,6 +87,7 @@ pub fn fundamental_loops_same(
             & (same(&made_edges, edges) & same(&made_directions, directions)))
 }
 
+#[tactic(auto, using(recorded::proofs::Agreeing::agrees_by), unfolding(crate::specs::Agreement::su2_loops_agrees))]
 pub fn su2_fundamental_loops_same(sheet: &[u8], told: i64, starts: &[u8], edges: &[u8]) -> bool
     ensures { result ≡ su2_loops_agrees sheet.now told starts.now edges.now }
 {
@@ -97,6 +97,7 @@ pub fn su2_fundamental_loops_same(sheet: &[u8], told: i64, starts: &[u8], edges:
     (answer == told) & (same(&made_starts, starts) & same(&made_edges, edges))
 }
 
+#[tactic(auto, using(recorded::proofs::Agreeing::agrees_by), unfolding(crate::specs::Agreement::matvec_agrees))]
 pub fn matvec_same(
     starts: &[u32],
     columns: &[u32],

@@ -14,6 +14,9 @@ use Rattle.mathematics.specs.Refusals.{Outcome, value, refused, outcome}
 use Rattle.mathematics.specs.Calls.{Call, Answered}
 use Rattle.exports.specs.Exports.{signed, yes_of, zero_of, Exported}
 
+pub plain : (n : ℕ) → n < 2 ^ 31 → to_z w64 n ≡ pos n
+plain n h = to_z_pos w64 (omega arith)
+
 pub small_mag : (n : ℕ) → n < 256 → mag (neg_ℤ (pos n)) < 2 ^ 63
 small_mag zero h = omega arith
 small_mag (suc n) h = omega arith

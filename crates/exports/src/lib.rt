@@ -11,6 +11,8 @@ ghost use Rattle.exports.specs.Exports.{signed, zero_of, value_or, stored, three
 use answers::refusal::Refusal;
 use matrices::coupling::KSParams;
 
+// A usize as an i64, which `i64::from` does not take.
+#[tactic(auto, using(crate::proofs::Signs::plain))]
 pub fn value(number: usize) -> i64
     requires { number < 2 ^ 31 }
     ensures { result ≡ pos number }

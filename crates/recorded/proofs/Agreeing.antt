@@ -6,27 +6,15 @@ use lib.Dec.{eqb}
 use lib.IntN.{ℤ}
 use lib.Signed.{mag}
 use mir.Syntax.{w64}
-use mir.Val.{SFits, to_z, of_z}
-use Rattle.mathematics.specs.Integers.{equal}
+use mir.Val.{SFits, of_z}
 use Rattle.mathematics.specs.Calls.{Call}
-use Rattle.mathematics.proofs.Signed.{back64}
 use Rattle.exports.specs.Exports.{Exported}
 use Rattle.recorded.specs.Answers.{tells, leaves, agrees}
 use Rattle.recorded.proofs.Numbers.{equal_bits}
 
--- both numbers are compared as the machine holds them
+-- the numbers are compared by their bits
 module _ {B : Type 0} {call : Call ℕ B} {r : ℤ} {l : B} (h : Exported call r l) (ok : mag r < 2 ^ 63) {told : ℤ} (fits : SFits w64 told) where
   -- the number alone
-  pub told_as : {number : Bool} → number ≡ equal (to_z w64 (of_z w64 r)) (to_z w64 (of_z w64 told)) → number ≡ tells call told
-  unfolding tells
-  told_as e = e ∙ rw (back64 r ok, back64 told fits.sfits, h.answer)
-
-  -- the number, and a test of the lists
-  pub agrees_as : {number lists : Bool} (test : B → Bool) → number ≡ equal (to_z w64 (of_z w64 r)) (to_z w64 (of_z w64 told)) → lists ≡ test l → (number && lists) ≡ agrees call told test
-  unfolding leaves agrees
-  agrees_as test e f = rw (told_as e, f ∙ ap test h.lists)
-
-  -- the same where they are compared by their bits
   pub told_by : eqb (of_z w64 r) (of_z w64 told) ≡ tells call told
   unfolding tells
   told_by = equal_bits w64 r told (record { sfits = ok }) fits ∙ rw h.answer

@@ -6,7 +6,7 @@ ghost use Rattle.std.proofs.Common.{to_z, rules};
 ghost use Rattle.mathematics.specs.Integers.{equal};
 ghost use Rattle.recorded.specs.Bytes.{number_at, float_of, float_is};
 
-use crate::number::{float_at, i8_at, i32_at, u8_at, u32_at, u64_at};
+use crate::number::{byte_at, float_at, u32_at, u64_at};
 
 // A number of a width in bytes: how it is read at a place, and whether it is the one that stands there. A byte past the end counts as 0.
 pub trait Entry: Copy {
@@ -48,12 +48,14 @@ impl Entry for u8 {
 
     const WIDTH: usize = 1;
 
+    #[tactic(auto, using(crate::proofs::Numbers::one_byte))]
     fn at(bytes: &[u8], place: usize) -> u8 {
-        u8_at(bytes, place)
+        byte_at(bytes, place)
     }
 
+    #[tactic(auto, using(crate::proofs::Numbers::one_byte))]
     fn is_at(self, bytes: &[u8], place: usize) -> bool {
-        self == u8_at(bytes, place)
+        self == byte_at(bytes, place)
     }
 }
 
@@ -72,12 +74,14 @@ impl Entry for i8 {
 
     const WIDTH: usize = 1;
 
+    #[tactic(auto, using(crate::proofs::Numbers::one_byte))]
     fn at(bytes: &[u8], place: usize) -> i8 {
-        i8_at(bytes, place)
+        byte_at(bytes, place).cast_signed()
     }
 
+    #[tactic(auto, using(crate::proofs::Numbers::one_byte, crate::proofs::Numbers::equal_bits))]
     fn is_at(self, bytes: &[u8], place: usize) -> bool {
-        self == i8_at(bytes, place)
+        self == byte_at(bytes, place).cast_signed()
     }
 }
 
@@ -97,11 +101,12 @@ impl Entry for i32 {
     const WIDTH: usize = 4;
 
     fn at(bytes: &[u8], place: usize) -> i32 {
-        i32_at(bytes, place)
+        u32_at(bytes, place).cast_signed()
     }
 
+    #[tactic(auto, using(crate::proofs::Numbers::equal_bits))]
     fn is_at(self, bytes: &[u8], place: usize) -> bool {
-        self == i32_at(bytes, place)
+        self == u32_at(bytes, place).cast_signed()
     }
 }
 

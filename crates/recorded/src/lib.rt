@@ -4,4 +4,3 @@
 pub mod entry;
 pub mod list;
 pub mod number;
-pub mod same;

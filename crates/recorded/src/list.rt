@@ -1,6 +1,6 @@
 // Lists read out of bytes, and lists held against them.
 ghost use Rattle.std.specs.Prelude.{◌≡◌, ◌<◌};
-ghost use Rattle.recorded.specs.Bytes.{numbers_in, i8s, i32s, floats, ReadInto, is_whole, holds};
+ghost use Rattle.recorded.specs.Bytes.{numbers_in, ReadInto, is_whole, holds};
 
 use crate::entry::Entry;
 
@@ -39,22 +39,4 @@ pub fn same<T: Entry>(list: &[T], bytes: &[u8]) -> bool
         so_far = so_far & entry.is_at(bytes, width * i);
     }
     so_far
-}
-
-pub fn i8s(bytes: &[u8], out: &mut [i8]) -> usize
-    ensures { ReadInto (i8s bytes.now) out.old out.new result }
-{
-    read(bytes, out)
-}
-
-pub fn i32s(bytes: &[u8], out: &mut [i32]) -> usize
-    ensures { ReadInto (i32s bytes.now) out.old out.new result }
-{
-    read(bytes, out)
-}
-
-pub fn floats(bytes: &[u8], out: &mut [f64]) -> usize
-    ensures { ReadInto (floats bytes.now) out.old out.new result }
-{
-    read(bytes, out)
 }

@@ -1,13 +1,14 @@
 -- The fields of a case stand one behind the other, within the list where the case ends there.
 use Prim.Native.Nat.{ℕ, zero, suc, ◌+◌, ◌-◌, ◌<◌, ◌≤◌}
 use mathlib.Core.List.{List}
-use mathlib.Core.Path.{◌≡◌, refl}
+use mathlib.Core.Path.{◌≡◌, refl, sym}
 use mathlib.Core.Bool.{true, ◌&&◌}
 use native.Mathlib.Omega.{arith}
 use native.Mathlib.Numerals.{add-one}
 use borrow.Author.Tests.{leb-true}
 use lib.Dec.{leb}
-use lib.ListN.{length, get_or}
+use lib.ListN.{length, take, drop, get_or, length-take, length-drop}
+use lib.Seq.{length-take-le}
 use Rattle.mathematics.proofs.Tests.{and_parts}
 use Rattle.recorded_fields.specs.Layout.{size, place, case_at, well_formed, Whole}
 
@@ -38,6 +39,14 @@ field_inside list at k whole few =
     let e : k + 1 + (14 - k) ≡ 15 = omega arith in
     let r : place list at (k + 1) ≤ place list at 15 = rw e at (rises list at (k + 1) (14 - k)) in
     omega (arith, r, place_next list at k)
+
+-- what follows the two bytes of a field's length has room for its bytes
+pub field_room : (list : List ℕ) (at k begin bytes : ℕ) → begin ≡ place list at k → bytes ≡ size list begin → Whole list at → k < 15 → bytes ≡ length (take bytes (take (length list - (begin + 2)) (drop (begin + 2) list)))
+field_room list at k begin bytes is long whole few =
+    let rest = drop (begin + 2) list in
+    let ends : begin + 2 + size list begin ≤ length list = rw is (field_inside list at k whole few) in
+    let all = length-take (length list - (begin + 2)) rest in
+    sym (length-take-le bytes (take (length list - (begin + 2)) rest) (omega (arith, all, length-drop (begin + 2) list, ends, long)))
 
 -- the case ends further on than it begins
 pub case_inside : (list : List ℕ) (at : ℕ) → Whole list at → at < length list

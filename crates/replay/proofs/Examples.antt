@@ -1,5 +1,6 @@
 -- What short lists tell: a wrong answer is told as differing, and so is every kind of answer.
 use Prim.Native.Nat.{ℕ, ◌*◌}
+use Rattle.std.specs.Prelude.{Ok, Err}
 use mathlib.Core.List.{List, [], ◌∷◌, ◌++◌}
 use mathlib.Core.Path.{◌≡◌, refl}
 use lib.Ieee.{is_nan, nan_bits, of_bits, to_bits, add, mul, neg, le, of_int}
@@ -25,7 +26,6 @@ use Rattle.recorded.specs.Answers.{tells, leaves, agrees}
 use Rattle.enumeration.specs.Enumeration.{counted_call}
 use Rattle.complex_recorded.specs.Agreement.{indices_agrees, matvec_agrees}
 use Rattle.u1_recorded.specs.States.{counted_agrees}
-use Rattle.replay.specs.declared.walk.Replayed.TheVariants.{Cases, Malformed}
 use Rattle.recorded_fields.specs.Layout.{size, place, field, case_at, well_formed}
 use Rattle.recorded_fields.specs.Choosing.{chosen}
 use Rattle.complex_recorded.specs.Cases.{complexes_agreed, rows_agreed}
@@ -79,12 +79,12 @@ listed_cases l = l ++ (0 ∷ [])
 
 -- the number that a call tells, and lists that are none
 record Numbers : Type 0 where
-  same_number : replayed (listed_cases (counting 255)) ≡ Cases 1 0
-  other_number : replayed (listed_cases (counting 254)) ≡ Cases 1 1
-  one_of_two : replayed (listed_cases (counting 254 ++ counting 255)) ≡ Cases 2 1
-  nothing : replayed [] ≡ Malformed 0
-  no_end : replayed (counting 255) ≡ Malformed 39
-  no_kind : replayed (listed_cases (counting 255 ++ (26 ∷ empty 15))) ≡ Malformed 39
+  same_number : replayed (listed_cases (counting 255)) ≡ Ok (record { cases = 1; differ = 0 })
+  other_number : replayed (listed_cases (counting 254)) ≡ Ok (record { cases = 1; differ = 1 })
+  one_of_two : replayed (listed_cases (counting 254 ++ counting 255)) ≡ Ok (record { cases = 2; differ = 1 })
+  nothing : replayed [] ≡ Err (record { at = 0 })
+  no_end : replayed (counting 255) ≡ Err (record { at = 39 })
+  no_kind : replayed (listed_cases (counting 255 ++ (26 ∷ empty 15))) ≡ Err (record { at = 39 })
 
 numbers : Numbers
 unfolding replayed ends behind cases cases_from case_at size place field word well_formed differing keep agreed chosen states_agreed counted_agrees tells on_sheet counted_call header_tests sheet_in padded first outcome signed equal number_at same
@@ -92,8 +92,8 @@ numbers = record { same_number = refl; other_number = refl; one_of_two = refl; n
 
 -- a list that a call leaves
 record Lists : Type 0 where
-  same_list : replayed (listed_cases (indexing 0 1 2)) ≡ Cases 1 0
-  swapped : replayed (listed_cases (indexing 0 2 1)) ≡ Cases 1 1
+  same_list : replayed (listed_cases (indexing 0 1 2)) ≡ Ok (record { cases = 1; differ = 0 })
+  swapped : replayed (listed_cases (indexing 0 2 1)) ≡ Ok (record { cases = 1; differ = 1 })
 
 lists : Lists
 unfolding replayed ends behind cases cases_from case_at size place field word well_formed differing keep agreed chosen complexes_agreed indices_agrees agrees tells leaves written on_sheet stored indices_call header_tests sheet_in padded complex_of simplices entries counts_right simplices_right triangles_right rising sides_listed sides choose listed position distinct every_entry every whole_search served serve scan look touches across connected first outcome signed equal number_at same holds is_whole
@@ -101,8 +101,8 @@ lists = record { same_list = refl; swapped = refl }
 
 -- floats that a call leaves
 record Floats : Type 0 where
-  same_float : replayed (listed_cases (multiplying 24)) ≡ Cases 1 0
-  other_float : replayed (listed_cases (multiplying 28)) ≡ Cases 1 1
+  same_float : replayed (listed_cases (multiplying 24)) ≡ Ok (record { cases = 1; differ = 0 })
+  other_float : replayed (listed_cases (multiplying 28)) ≡ Ok (record { cases = 1; differ = 1 })
 
 floats : Floats
 unfolding replayed ends behind cases cases_from case_at size place field word well_formed differing keep agreed chosen rows_agreed matvec_agrees agrees tells leaves written zero_told product_call product row_sum with_products row_entries pairs starts_right never_falls columns_right value_right bounded whole_float every_entry every below first outcome signed equal number_at float_of numbers_in holds is_whole float_is is_nan nan_bits of_bits to_bits add mul neg le of_int

@@ -1,5 +1,6 @@
 -- The cases of a list, counted one after the other.
 use Prim.Native.Nat.{ℕ, zero, suc, ◌+◌, ◌-◌, ◌<◌, ◌≤◌}
+use Rattle.std.specs.Prelude.{Ok, Err}
 use mathlib.Core.List.{List, [], ◌∷◌}
 use mathlib.Core.Path.{◌≡◌, refl, sym, ◌∙◌}
 use mathlib.Core.Bool.{Bool, true, false, not, cond}
@@ -7,7 +8,6 @@ use native.Mathlib.Omega.{arith}
 use borrow.Author.Tests.{not-true, not-false}
 use lib.ListN.{length}
 use Rattle.mathematics.specs.Counting.{keep}
-use Rattle.replay.specs.declared.walk.Replayed.TheVariants.{Cases, Malformed}
 use Rattle.recorded_fields.specs.Layout.{Case, place, case_at, well_formed}
 use Rattle.replay.specs.Agreement.{agreed}
 use Rattle.replay.specs.Cases.{cases_from, cases, behind, ends, differing, replayed}
@@ -84,7 +84,7 @@ walked_next list at done differ w h next e differ' more =
       end = rw (r, is) at w.end;
     }
 
-pub walked_all : (list : List ℕ) (at done differ : ℕ) → Walked list at done differ → well_formed (length list) (case_at list at) ≡ false → replayed list ≡ cond (ends list at) (Cases done differ) (Malformed at)
+pub walked_all : (list : List ℕ) (at done differ : ℕ) → Walked list at done differ → well_formed (length list) (case_at list at) ≡ false → replayed list ≡ cond (ends list at) (Ok (record { cases = done; differ = differ })) (Err (record { at = at }))
 unfolding replayed behind differing keep
 walked_all list at done differ w h =
     let z = rest_none (length list - done) list at h in

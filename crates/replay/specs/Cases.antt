@@ -1,8 +1,8 @@
 -- The cases of the list of answers, and what the whole list tells.
-use Rattle.std.specs.Prelude.{ℕ, zero, suc, ◌+◌, Bool, not, ◌&&◌, cond, List, [], ◌∷◌, eqb, get_or, length}
+use Rattle.std.specs.Prelude.{ℕ, zero, suc, ◌+◌, Bool, not, ◌&&◌, cond, List, [], ◌∷◌, eqb, get_or, length, Result, Ok, Err}
 use Rattle.mathematics.specs.Counting.{keep}
-use Rattle.replay.specs.declared.walk.Replayed.{Replayed}
-use Rattle.replay.specs.declared.walk.Replayed.TheVariants.{Cases, Malformed}
+use Rattle.replay.specs.declared.walk.Counts.{Counts}
+use Rattle.replay.specs.declared.walk.Malformed.{Malformed}
 use Rattle.recorded_fields.specs.Layout.{Case, case_at, well_formed}
 use Rattle.replay.specs.Agreement.{agreed}
 
@@ -31,8 +31,8 @@ unfoldable pub differing : List Case → List Case
 differing l = keep (λ c. not (agreed c)) l
 
 -- how many cases there are and how many of them differ; or the place behind them, where the list does not end there
-unfoldable pub replayed : List ℕ → Replayed
+unfoldable pub replayed : List ℕ → Result Counts Malformed
 replayed list =
     cond (ends list (behind 0 (cases list)))
-    (Cases (length (cases list)) (length (differing (cases list))))
-    (Malformed (behind 0 (cases list)))
+    (Ok (record { cases = length (cases list); differ = length (differing (cases list)) }))
+    (Err (record { at = behind 0 (cases list) }))

@@ -5,27 +5,22 @@ ghost use Rattle.replay.specs.Agreement.{agreed};
 
 use complex_recorded::complex_cases::complexes_same;
 use complex_recorded::row_cases::rows_same;
-use recorded_fields::case::byte_at;
+use recorded::number::byte_at;
 use su2_recorded::cases::z2_same;
 use u1_recorded::matrix_cases::matrices_same;
 use u1_recorded::state_cases::states_same;
 
+// A kind is a byte of the list, judged by `stands`: an enum of 25 names, each used once, would be no plainer.
+#[tactic(auto, unfolding(crate::specs::Agreement::agreed, recorded_fields::specs::Layout::case_at))]
 pub fn case_same(list: &[u8], at: usize) -> bool
     requires { Whole list.now at }
     ensures { result ≡ agreed (case_at list.now at) }
 {
-    let kind = byte_at(list, at);
-    if kind <= 5 {
-        return complexes_same(list, at);
+    match byte_at(list, at) {
+        0..=5 => complexes_same(list, at),
+        6..=11 => states_same(list, at),
+        12..=17 => matrices_same(list, at),
+        18..=24 => z2_same(list, at),
+        _ => rows_same(list, at),
     }
-    if kind <= 11 {
-        return states_same(list, at);
-    }
-    if kind <= 17 {
-        return matrices_same(list, at);
-    }
-    if kind <= 24 {
-        return z2_same(list, at);
-    }
-    rows_same(list, at)
 }

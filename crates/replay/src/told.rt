@@ -4,7 +4,7 @@ ghost use Rattle.lines.specs.Put.{Put};
 ghost use Rattle.replay.specs.Cases.{replayed};
 ghost use Rattle.replay.specs.Text.{cases_line, malformed_line, replayed_text};
 
-use crate::walk::{Replayed, replay};
+use crate::walk::replay;
 use lines::{write_byte, write_named, write_text};
 
 fn write_cases(out: &mut [u8], cases: usize, differ: usize) -> usize
@@ -25,13 +25,13 @@ fn write_malformed(out: &mut [u8], at: usize) -> usize
 }
 
 // The line for the bytes of a list: the place behind it.
+#[tactic(auto, unfolding(crate::specs::Text::replayed_text))]
 pub fn write_told(out: &mut [u8], list: &[u8]) -> usize
     requires { 65 ≤ length out.old }
     ensures { Put (replayed_text (replayed list.now)) out.old 0 out.new result × (result ≤ length out.new) }
 {
-    let told = replay(list);
-    match told {
-        Replayed::Cases { cases, differ } => write_cases(out, cases, differ),
-        Replayed::Malformed(at) => write_malformed(out, at),
+    match replay(list) {
+        Ok(counts) => write_cases(out, counts.cases, counts.differ),
+        Err(malformed) => write_malformed(out, malformed.at),
     }
 }

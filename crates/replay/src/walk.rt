@@ -4,16 +4,24 @@ ghost use Rattle.recorded_fields.specs.Layout.{case_at, well_formed};
 ghost use Rattle.replay.specs.Cases.{ends, replayed};
 
 use crate::compare::case_same;
-use recorded_fields::case::{FIELDS, byte_at, place};
+use recorded::number::byte_at;
+use recorded_fields::case::{FIELDS, place};
 
-// How many cases there are and how many differ, or where a case or the end of the list is not what the format says.
+// How many cases there are, and how many of them differ.
 #[derive(Clone, Copy)]
-pub enum Replayed {
-    Cases { cases: usize, differ: usize },
-    Malformed(usize),
+pub struct Counts {
+    pub cases: usize,
+    pub differ: usize,
+}
+
+// A case or the end of the list is not what the format says, from a place on.
+#[derive(Clone, Copy)]
+pub struct Malformed {
+    pub at: usize,
 }
 
 // Whether a whole case stands at a place.
+#[tactic(auto, unfolding(recorded_fields::specs::Layout::well_formed, recorded_fields::specs::Layout::case_at))]
 fn stands(list: &[u8], at: usize) -> bool
     requires { at ≤ length list.now }
     ensures { result ≡ well_formed (length list.now) (case_at list.now at) }
@@ -23,6 +31,7 @@ fn stands(list: &[u8], at: usize) -> bool
 }
 
 // Whether the byte 0 stands at a place, and nothing behind it.
+#[tactic(auto, unfolding(crate::specs::Cases::ends))]
 fn ends(list: &[u8], at: usize) -> bool
     requires { at ≤ length list.now }
     ensures { result ≡ ends list.now at }
@@ -30,7 +39,8 @@ fn ends(list: &[u8], at: usize) -> bool
     (at + 1 == list.len()) & (byte_at(list, at) == 0)
 }
 
-pub fn replay(list: &[u8]) -> Replayed
+// A case says by its fields where the next one begins, so the loop goes by the place.
+pub fn replay(list: &[u8]) -> Result<Counts, Malformed>
     ensures { result ≡ replayed list.now }
 {
     let mut at = 0;
@@ -44,7 +54,7 @@ pub fn replay(list: &[u8]) -> Replayed
         at = place(list, at, FIELDS);
     }
     if ends(list, at) {
-        return Replayed::Cases { cases, differ };
+        return Ok(Counts { cases, differ });
     }
-    Replayed::Malformed(at)
+    Err(Malformed { at })
 }

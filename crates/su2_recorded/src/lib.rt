@@ -1,4 +1,6 @@
 // The calls of the two-valued mode, held against what was recorded of them: the number that a call tells, and what its lists then begin with.
+// Functions differ in the call and in its lists, and take what was recorded of it: weights, and whether they are given, as the call takes them.
+// One for several, or for both modes, would take the call as a closure over lent lists, with a contract that is longer than these bodies.
 #![tactic(auto)]
 
 pub mod cases;
@@ -7,27 +9,30 @@ ghost use Rattle.std.specs.Prelude.{◌≡◌};
 ghost use Rattle.su2_recorded.specs.Agreement.{su2_basis_agrees, su2_counted_agrees, su2_dense_agrees, su2_rows_agrees, su2_entries_agrees, su2_product_agrees, su2_loop_agrees, su2_passes_agrees};
 
 use matrices::coupling::KSParams;
-use recorded::same::{same_float, same_floats, same_number, same_u32s, same_u64s};
+use recorded::list::same;
 use su2_exports::{
     export_build_csr_su2, export_build_su2_hamiltonian, export_su2_basis, export_su2_count_entries,
     export_su2_count_states, export_su2_hamiltonian_matvec, export_su2_wilson_loop,
     export_su2_wilson_passes,
 };
 
+#[tactic(auto, using(recorded::proofs::Agreeing::agrees_by), unfolding(crate::specs::Agreement::su2_basis_agrees))]
 pub fn su2_basis_same(sheet: &[u8], told: i64, masks: &[u8]) -> bool
     ensures { result ≡ su2_basis_agrees sheet.now told masks.now }
 {
     let mut states = [0u64; 256];
     let answer = export_su2_basis(sheet, &mut states);
-    same_number(answer, told) & same_u64s(&states, masks)
+    (answer == told) & same(&states, masks)
 }
 
+#[tactic(auto, using(recorded::proofs::Agreeing::told_by), unfolding(crate::specs::Agreement::su2_counted_agrees))]
 pub fn su2_count_states_same(sheet: &[u8], told: i64) -> bool
     ensures { result ≡ su2_counted_agrees sheet.now told }
 {
-    same_number(export_su2_count_states(sheet), told)
+    export_su2_count_states(sheet) == told
 }
 
+#[tactic(auto, using(recorded::proofs::Agreeing::agrees_by), unfolding(crate::specs::Agreement::su2_dense_agrees))]
 pub fn build_su2_hamiltonian_same(
     sheet: &[u8],
     coupling: KSParams,
@@ -51,9 +56,10 @@ pub fn build_su2_hamiltonian_same(
         &mut states,
         &mut result,
     );
-    same_number(answer, told) & (same_u64s(&states, masks) & same_floats(&result, matrix))
+    (answer == told) & (same(&states, masks) & same(&result, matrix))
 }
 
+#[tactic(auto, using(recorded::proofs::Agreeing::agrees_by), unfolding(crate::specs::Agreement::su2_rows_agrees))]
 pub fn build_csr_su2_same(
     sheet: &[u8],
     coupling: KSParams,
@@ -83,18 +89,20 @@ pub fn build_csr_su2_same(
         &mut row_columns,
         &mut row_values,
     );
-    same_number(answer, told)
-        & (same_u64s(&states, masks)
-            & (same_u32s(&row_starts, starts)
-                & (same_u32s(&row_columns, columns) & same_floats(&row_values, values))))
+    (answer == told)
+        & (same(&states, masks)
+            & (same(&row_starts, starts)
+                & (same(&row_columns, columns) & same(&row_values, values))))
 }
 
+#[tactic(auto, using(recorded::proofs::Agreeing::told_by), unfolding(crate::specs::Agreement::su2_entries_agrees))]
 pub fn su2_count_entries_same(sheet: &[u8], told: i64) -> bool
     ensures { result ≡ su2_entries_agrees sheet.now told }
 {
-    same_number(export_su2_count_entries(sheet), told)
+    export_su2_count_entries(sheet) == told
 }
 
+#[tactic(auto, using(recorded::proofs::Agreeing::agrees_by), unfolding(crate::specs::Agreement::su2_product_agrees))]
 pub fn su2_hamiltonian_matvec_same(
     sheet: &[u8],
     coupling: KSParams,
@@ -120,9 +128,10 @@ pub fn su2_hamiltonian_matvec_same(
         &mut states,
         &mut result,
     );
-    same_number(answer, told) & (same_u64s(&states, masks) & same_floats(&result, product))
+    (answer == told) & (same(&states, masks) & same(&result, product))
 }
 
+#[tactic(auto, using(recorded::proofs::Agreeing::agrees_by), unfolding(crate::specs::Agreement::su2_loop_agrees))]
 pub fn su2_wilson_loop_same(
     sheet: &[u8],
     vector: &[f64],
@@ -136,9 +145,10 @@ pub fn su2_wilson_loop_same(
     let mut states = [0u64; 256];
     let mut value = 0.0;
     let answer = export_su2_wilson_loop(sheet, vector, path, &mut states, &mut value);
-    same_number(answer, told) & (same_u64s(&states, masks) & same_float(value, expectation))
+    (answer == told) & (same(&states, masks) & same(&[value], expectation))
 }
 
+#[tactic(auto, using(recorded::proofs::Agreeing::agrees_by), unfolding(crate::specs::Agreement::su2_passes_agrees))]
 pub fn su2_wilson_passes_same(
     sheet: &[u8],
     vector: &[f64],
@@ -152,5 +162,5 @@ pub fn su2_wilson_passes_same(
     let mut states = [0u64; 256];
     let mut value = 0.0;
     let answer = export_su2_wilson_passes(sheet, vector, path, &mut states, &mut value);
-    same_number(answer, told) & (same_u64s(&states, masks) & same_float(value, expectation))
+    (answer == told) & (same(&states, masks) & same(&[value], expectation))
 }

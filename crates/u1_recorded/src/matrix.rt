@@ -4,9 +4,10 @@ ghost use Rattle.u1_recorded.specs.Matrix.{dense_agrees, csr_agrees, entries_agr
 
 use crate::room::{MATRIX_ENTRIES, STARTS, STATE_ENTRIES};
 use matrices::coupling::KSParams;
-use recorded::same::{same_floats, same_i32s, same_number, same_u32s};
+use recorded::list::same;
 use u1_exports::{export_build_csr, export_build_hamiltonian, export_count_entries};
 
+#[tactic(auto, using(recorded::proofs::Agreeing::agrees_by), unfolding(crate::specs::Matrix::dense_agrees))]
 pub fn build_hamiltonian_same(
     sheet: &[u8],
     coupling: KSParams,
@@ -30,10 +31,10 @@ pub fn build_hamiltonian_same(
         &mut made_states,
         &mut made_values,
     );
-    same_number(answer, told)
-        & (same_i32s(&made_states, states) & same_floats(&made_values, values))
+    (answer == told) & (same(&made_states, states) & same(&made_values, values))
 }
 
+#[tactic(auto, using(recorded::proofs::Agreeing::agrees_by), unfolding(crate::specs::Matrix::csr_agrees))]
 pub fn build_csr_same(
     sheet: &[u8],
     coupling: KSParams,
@@ -63,14 +64,15 @@ pub fn build_csr_same(
         &mut made_columns,
         &mut made_values,
     );
-    same_number(answer, told)
-        & (same_i32s(&made_states, states)
-            & (same_u32s(&made_starts, starts)
-                & (same_u32s(&made_columns, columns) & same_floats(&made_values, values))))
+    (answer == told)
+        & (same(&made_states, states)
+            & (same(&made_starts, starts)
+                & (same(&made_columns, columns) & same(&made_values, values))))
 }
 
+#[tactic(auto, using(recorded::proofs::Agreeing::told_by), unfolding(crate::specs::Matrix::entries_agrees))]
 pub fn count_entries_same(sheet: &[u8], told: i64) -> bool
     ensures { result ≡ entries_agrees sheet.now told }
 {
-    same_number(export_count_entries(sheet), told)
+    export_count_entries(sheet) == told
 }

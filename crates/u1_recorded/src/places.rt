@@ -4,15 +4,16 @@ ghost use Rattle.u1_recorded.specs.Places.{index_agrees, shift_agrees, triangle_
 
 use crate::room::STATE_ENTRIES;
 use numbers::sizes::MOST_EDGES;
-use recorded::same::{same_i32s, same_number};
+use recorded::list::same;
 use u1_exports::{export_apply_shift, export_apply_triangle_shift, export_config_to_index};
 
+#[tactic(auto, using(recorded::proofs::Agreeing::agrees_by), unfolding(crate::specs::Places::index_agrees))]
 pub fn config_to_index_same(sheet: &[u8], configuration: &[i32], told: i64, states: &[u8]) -> bool
     ensures { result ≡ index_agrees sheet.now configuration.now told states.now }
 {
     let mut made_states = [0i32; STATE_ENTRIES];
     let answer = export_config_to_index(sheet, configuration, &mut made_states);
-    same_number(answer, told) & same_i32s(&made_states, states)
+    (answer == told) & same(&made_states, states)
 }
 
 pub fn apply_shift_same(
@@ -36,10 +37,10 @@ pub fn apply_shift_same(
         &mut made_states,
         &mut made_shifted,
     );
-    same_number(answer, told)
-        & (same_i32s(&made_states, states) & same_i32s(&made_shifted, shifted))
+    (answer == told) & (same(&made_states, states) & same(&made_shifted, shifted))
 }
 
+#[tactic(auto, using(recorded::proofs::Agreeing::agrees_by), unfolding(crate::specs::Places::triangle_agrees))]
 pub fn apply_triangle_shift_same(
     sheet: &[u8],
     triangle: u64,
@@ -51,5 +52,5 @@ pub fn apply_triangle_shift_same(
 {
     let mut made_states = [0i32; STATE_ENTRIES];
     let answer = export_apply_triangle_shift(sheet, triangle, state, &mut made_states);
-    same_number(answer, told) & same_i32s(&made_states, states)
+    (answer == told) & same(&made_states, states)
 }

@@ -4,9 +4,10 @@ ghost use Rattle.u1_recorded.specs.Products.{product_agrees, electric_agrees, wi
 
 use crate::room::{RESULT, STATE_ENTRIES};
 use matrices::coupling::KSParams;
-use recorded::same::{same_float, same_floats, same_i32s, same_number};
+use recorded::list::same;
 use u1_exports::{export_electric_field_sq, export_hamiltonian_matvec, export_wilson_loop};
 
+#[tactic(auto, using(recorded::proofs::Agreeing::agrees_by), unfolding(crate::specs::Products::product_agrees))]
 pub fn hamiltonian_matvec_same(
     sheet: &[u8],
     coupling: KSParams,
@@ -32,10 +33,10 @@ pub fn hamiltonian_matvec_same(
         &mut made_states,
         &mut made_values,
     );
-    same_number(answer, told)
-        & (same_i32s(&made_states, states) & same_floats(&made_values, values))
+    (answer == told) & (same(&made_states, states) & same(&made_values, values))
 }
 
+#[tactic(auto, using(recorded::proofs::Agreeing::agrees_by), unfolding(crate::specs::Products::electric_agrees))]
 pub fn electric_field_sq_same(
     sheet: &[u8],
     amplitudes: &[f64],
@@ -48,10 +49,10 @@ pub fn electric_field_sq_same(
     let mut made_states = [0i32; STATE_ENTRIES];
     let mut made_values = [0.0f64; RESULT];
     let answer = export_electric_field_sq(sheet, amplitudes, &mut made_states, &mut made_values);
-    same_number(answer, told)
-        & (same_i32s(&made_states, states) & same_floats(&made_values, values))
+    (answer == told) & (same(&made_states, states) & same(&made_values, values))
 }
 
+#[tactic(auto, using(recorded::proofs::Agreeing::agrees_by), unfolding(crate::specs::Products::wilson_agrees))]
 pub fn wilson_loop_same(
     sheet: &[u8],
     amplitudes: &[f64],
@@ -73,5 +74,5 @@ pub fn wilson_loop_same(
         &mut made_states,
         &mut expectation,
     );
-    same_number(answer, told) & (same_i32s(&made_states, states) & same_float(expectation, values))
+    (answer == told) & (same(&made_states, states) & same(&[expectation], values))
 }

@@ -1,4 +1,4 @@
-use Rattle.std.proofs.Common.{arith, min, ◌≡◌, ◌<◌, ◌≤◌, ◌/◌, length, length-take}
+use Rattle.std.proofs.Common.{arith, length-take}
 use Rattle.recorded.proofs.Reading.{length_numbers, read_none, read_next, read_part}
 use Rattle.recorded.proofs.list.read.Goals as goal
 

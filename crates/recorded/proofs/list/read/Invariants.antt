@@ -1,4 +1,4 @@
-use Rattle.std.proofs.Common.{length, take}
+use Rattle.std.proofs.Common.{take}
 use Rattle.recorded.specs.Bytes.{numbers_in}
 use Rattle.recorded.proofs.Reading.{Reading}
 use Rattle.recorded.proofs.list.read.Given as goal

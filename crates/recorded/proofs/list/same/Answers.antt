@@ -1,4 +1,4 @@
-use Rattle.std.proofs.Common.{◌≡◌, arith, get_or, sym, ◌∙◌, ◌<◌, ◌≤◌, ◌/◌, length, length-take, get_or-take}
+use Rattle.std.proofs.Common.{◌≡◌, arith, get_or, sym, ◌∙◌, ◌<◌, ◌/◌, length, length-take, get_or-take}
 use Rattle.std.proofs.lemmas.List.{get_or_default}
 use Rattle.recorded.proofs.Holding.{hold_not, hold_none, hold_next, hold_all}
 use Rattle.recorded.proofs.list.same.Goals as goal
