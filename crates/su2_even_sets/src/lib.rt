@@ -11,7 +11,8 @@ use complex::SimplicialComplex;
 use numbers::sizes::{MOST_EDGES, MOST_VERTICES};
 use numbers::{edge_end, edge_start};
 
-// The part of each vertex, named after one vertex of it, the edges on the way there, and the first count closing edges and loops.
+// The part of each vertex, named after one vertex of it, the edges on the way there, and the first count closing edges and loops. There is no heap:
+// both lists have room for all edges, and the count says how many there are.
 #[derive(Clone, Copy)]
 pub struct Forest {
     pub part: [u8; MOST_VERTICES],
@@ -78,6 +79,7 @@ pub fn closing_loops(c: SimplicialComplex) -> Forest
     ensures { Keeps (grown (complex_of c).edges c.n_edges) result }
 {
     let mut forest = Forest::separate();
+    // By number: an edge closes a loop or joins two parts under its number.
     for e in 0..c.n_edges {
         let a = edge_start(&c.edges, e);
         let b = edge_end(&c.edges, e);
