@@ -1,3 +1,4 @@
 pub mod Signs
 pub mod OnSheets
 pub mod Answers
+pub mod Given

@@ -10,7 +10,8 @@ ghost use Rattle.su2_even_sets.specs.Forest.{Keeps, Sized, Joined, Grows};
 use complex::SimplicialComplex;
 use numbers::sizes::{MOST_EDGES, MOST_VERTICES};
 
-// The part of each vertex, named after one vertex of it, the edges on the way there, and the first count closing edges and loops.
+// The part of each vertex, named after one vertex of it, the edges on the way there, and the first count closing edges and loops. There is no heap:
+// both lists have room for all edges, and the count says how many there are.
 #[derive(Clone, Copy)]
 pub struct Forest {
     pub part: [u8; MOST_VERTICES],
@@ -77,6 +78,7 @@ pub fn closing_loops(c: SimplicialComplex) -> Forest
     ensures { Keeps (grown (complex_of c).edges c.n_edges) result }
 {
     let mut forest = Forest::separate();
+    // By number: an edge closes a loop or joins two parts under its number.
     for e in 0..c.n_edges {
         let (a, b) = c.edge(e);
         forest.grow(c.n_vertices, a, b, e);

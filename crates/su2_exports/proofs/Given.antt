@@ -1,20 +1,16 @@
 -- Weights that are not given are not read.
-use Rattle.std.specs.Prelude.{ℕ, Bool, true, false, List, [], Option, Float, ◌≡◌, refl}
+use Rattle.std.specs.Prelude.{ℕ, Bool, List, Option, Float, ◌≡◌, refl}
 use Rattle.std.specs.Borrow.{Bor}
 use Rattle.std.specs.Bool.{then_some}
 use Rattle.mathematics.specs.Refusals.{Outcome}
-use Rattle.mathematics.specs.Calls.{Call, Answered}
+use Rattle.mathematics.specs.Calls.{Answered}
 use Rattle.complex.specs.Complex.{Complex}
+use Rattle.exports.proofs.Given.{chosen}
 use Rattle.matrices.specs.declared.coupling.KSParams.{KSParams}
 use Rattle.matrices.specs.Weights.{weight, weights_tests, vector_tests, is_given, given_list}
 use Rattle.su2_quantum.specs.Dense.{su2_dense_call}
 use Rattle.su2_rows.specs.Rows.{su2_rows_call}
 use Rattle.su2_products.specs.Product.{su2_product_call}
-
-chosen : {A B : Type 0} (call : Bool → List Float → Call A B) → ((w : List Float) → call false [] ≡ call false w) → (given : Bool) (w : Bor (List Float)) {o : Option (Bor (List Float))} → o ≡ then_some given w → {a : Outcome A} {l : B}
-    → Answered (call (is_given o) (given_list o)) a l → Answered (call given w.now) a l
-chosen call unread true w e h = rw e at h
-chosen call unread false w e h = rw (unread w.now) at (rw e at h)
 
 module _ (c : Complex) (p : KSParams) (given : Bool) (w : Bor (List Float)) {o : Option (Bor (List Float))} (e : o ≡ then_some given w) where
   pub dense_chosen : (states : List ℕ) (res : List Float) {a : Outcome ℕ} {l : List ℕ × List Float} → Answered (su2_dense_call c p (is_given o) (given_list o) states res) a l → Answered (su2_dense_call c p given w.now states res) a l

@@ -1,5 +1,6 @@
 // What the exported functions of the two-valued mode do. The coupling comes as three floats, and the weights as a flag and a list, as the C interface
-// has them.
+// has them; each list of it is a parameter of its own. Each function is one call: where two have one form, only the call differs, and a function that
+// takes the call would have to ask of it all that its own contract says.
 #![tactic(auto)]
 
 ghost use Rattle.mathematics.specs.Calls.{none_lent};

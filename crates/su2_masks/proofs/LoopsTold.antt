@@ -1,5 +1,5 @@
 -- What is told of a record whose loops are found after it is judged.
-use Rattle.std.proofs.Common.{◌≡◌, ℕ, ◌*◌, ◌%◌, ◌^◌, ◌<◌, ◌≤◌, List, [], ◌++◌, Bool, Result, IsErrAnd, length, drop, refl, sym, ap₂, ◌∙◌, arith}
+use Rattle.std.proofs.Common.{◌≡◌, ℕ, ◌*◌, ◌%◌, ◌^◌, ◌<◌, ◌≤◌, List, [], ◌++◌, Bool, Result, IsErrAnd, length, take, drop, refl, sym, ap, ap₂, ◌∙◌, arith}
 use Rattle.mathematics.specs.Writing.{front}
 use lib.Pow.{pow_mono}
 use Rattle.mathematics.proofs.Bits.{power_shifted}
@@ -22,7 +22,7 @@ use Rattle.su2_masks.specs.Place.{LoopsOf, FewLoops}
 use Rattle.su2_masks.specs.Basis.{su2_tests, MasksKnown}
 use Rattle.su2_even_sets.specs.EvenSets.{su2_states}
 use Rattle.su2_even_sets.proofs.EvenLists.{even_complete}
-use Rattle.su2_masks.proofs.Placing.{loops_of, states_number, masks_are}
+use Rattle.su2_masks.proofs.Placing.{loops_of, states_number, loops_number, masks_are}
 use Rattle.su2_masks.proofs.Telling.{limit_refuses, past_masks}
 
 -- the record is refused
@@ -62,5 +62,6 @@ module _ (c : Complex) (f : Forest) (loops : FewLoops c f) where
   states_counted = let few = loops.few in power_shifted f.count (omega arith) ∙ sym (states_number c f loops.of)
 
   -- a list that begins with the sums of the loops begins with the masks
-  pub masks_front : (old new : List ℕ) → new ≡ loop_sums f.loops f.count ++ drop (2 ^ f.count) old → new ≡ front (su2_states c) old
-  masks_front old new is = is ∙ ap₂ (λ (l : List ℕ) (n : ℕ). l ++ drop n old) (masks_are c f loops.of) (sym (states_number c f loops.of))
+  pub masks_front : (old new : List ℕ) → new ≡ loop_sums (take f.count f.loops) (length (take f.count f.loops)) ++ drop (2 ^ length (take f.count f.loops)) old → new ≡ front (su2_states c) old
+  masks_front old new is =
+      is ∙ ap₂ (λ (l : List ℕ) (n : ℕ). l ++ drop n old) (masks_are c f loops.of) (ap (λ (n : ℕ). 2 ^ n) (loops_number c f loops.of) ∙ sym (states_number c f loops.of))

@@ -2,11 +2,11 @@
 use Prim.Native.Nat.{ℕ, zero, suc, ◌^◌, ◌<◌, ◌≤◌}
 use mathlib.Core.List.{List}
 use mathlib.Core.Bool.{true}
-use mathlib.Core.Path.{◌≡◌, refl, sym, ap, ◌∙◌}
+use mathlib.Core.Path.{◌≡◌, refl, sym, ap, ap₂, ◌∙◌}
 use native.Mathlib.Nat.{lt_of_lt_of_le}
 use native.Mathlib.Omega.{arith}
-use lib.ListN.{get_or, length}
-use lib.Seq.{get_or-take}
+use lib.ListN.{get_or, length, take}
+use lib.Seq.{get_or-take, length-take-le}
 use Rattle.complex.specs.declared.SimplicialComplex.{SimplicialComplex}
 use Rattle.complex.specs.Complex.{Complex, complex_of}
 use Rattle.complex.specs.Judge.{refusal}
@@ -28,13 +28,22 @@ unfolding closing_bits
 bits_same l m x zero h = refl
 bits_same l m x (suc n) h = rw (bits_same l m x n (λ j k. h j (omega arith)), h n (omega arith))
 
-spanned_same : (l m : List ℕ) (n : ℕ) → ((j : ℕ) → j < n → get_or l j 0 ≡ get_or m j 0) → loop_sums l n ≡ loop_sums m n
-unfolding loop_sums
-spanned_same l m zero h = refl
-spanned_same l m (suc n) h = rw (spanned_same l m n (λ j k. h j (omega arith)), h n (omega arith))
-
 front_at : (l list : List ℕ) (n : ℕ) → Front l list n → (j : ℕ) → j < n → get_or list j 0 ≡ get_or l j 0
 front_at l list n h j k = sym (get_or-take n list j 0 k) ∙ ap (λ (m : List ℕ). get_or m j 0) h.stands
+
+-- the part of the tables that is read
+module _ (f : Forest) (ready : Readable f) where
+  long_sliced : length (take f.count f.closing) ≡ f.count
+  long_sliced = let few = ready.few in length-take-le f.count f.closing (omega (arith, ready.long))
+
+  pub few_sliced : length (take f.count f.closing) ≤ 20
+  few_sliced = rw long_sliced ready.few
+
+  pub below_sliced : (j : ℕ) → j < length (take f.count f.closing) → get_or (take f.count f.closing) j 0 < 64
+  below_sliced j h = let k : j < f.count = omega (arith, long_sliced) in rw (get_or-take f.count f.closing j 0 k) (ready.below j k)
+
+  pub bits_sliced : (x : ℕ) → closing_bits (take f.count f.closing) x (length (take f.count f.closing)) ≡ closing_bits f.closing x f.count
+  bits_sliced x = rw long_sliced (bits_same (take f.count f.closing) f.closing x f.count (λ j k. get_or-take f.count f.closing j 0 k))
 
 -- the tables that are made of an accepted record
 pub loops_of : (c : SimplicialComplex) → refusal (complex_of c) ≡ 0 → (f : Forest) → Keeps (grown (complex_of c).edges c.n_edges) f → LoopsOf (complex_of c) f
@@ -48,11 +57,12 @@ module _ (c : Complex) (f : Forest) (of : LoopsOf c f) where
   pub states_number : length (su2_states c) ≡ 2 ^ f.count
   states_number = even_count c of.accepted ∙ ap (λ (k : ℕ). 2 ^ k) (sym closing_number)
 
-  pub masks_are : loop_sums f.loops f.count ≡ su2_states c
+  pub loops_number : length (take f.count f.loops) ≡ f.count
+  loops_number = ap length of.keeps.loops.stands ∙ sym of.keeps.loops.count
+
+  pub masks_are : loop_sums (take f.count f.loops) (length (take f.count f.loops)) ≡ su2_states c
   masks_are =
-      let loops = (all_grown c.edges).loops in
-      spanned_same f.loops loops f.count (front_at loops f.loops f.count of.keeps.loops)
-      ∙ ap (loop_sums loops) of.keeps.closing.count ∙ masks_listed c of.accepted
+      ap₂ loop_sums of.keeps.loops.stands (loops_number ∙ of.keeps.closing.count) ∙ masks_listed c of.accepted
 
 -- ---- the place of a mask
 module _ (c : Complex) (f : Forest) (of : LoopsOf c f) (x : ℕ) where

@@ -2,14 +2,13 @@
 use Prim.Native.Nat.{ℕ, ◌^◌, ◌<◌, ◌≤◌}
 use mathlib.Core.List.{List, ◌++◌}
 use mathlib.Core.Bool.{Bool, false}
-use mathlib.Core.Path.{◌≡◌, sym, ap₂, ◌∙◌}
+use mathlib.Core.Path.{◌≡◌, sym, ◌∙◌}
 use native.Mathlib.Omega.{arith}
 use native.Mathlib.Decide.{dec_lt}
 use borrow.Author.Tests.{lt-ltb, le-ltb}
 use lib.Dec.{ltb}
 use lib.Pow.{pow_mono}
-use lib.ListN.{length, drop}
-use Rattle.mathematics.specs.Writing.{front}
+use lib.ListN.{length}
 use Rattle.mathematics.specs.Refusals.{first}
 use Rattle.mathematics.proofs.Calls.{Tells, none, here, past}
 use Rattle.complex.specs.declared.SimplicialComplex.{SimplicialComplex}
@@ -20,11 +19,10 @@ use Rattle.complex.proofs.Accepting.{accepted}
 use Rattle.gauss_law.specs.Listing.{free_edges}
 use Rattle.su2_even_sets.specs.declared.Forest.{Forest}
 use Rattle.su2_even_sets.specs.EvenSets.{su2_states}
-use Rattle.su2_even_sets.specs.Loops.{loop_sums}
 use Rattle.su2_masks.specs.Place.{LoopsOf}
-use Rattle.su2_masks.specs.Basis.{su2_tests, su2_basis_tests, MasksKnown}
-use Rattle.su2_even_sets.proofs.EvenLists.{even_count, even_complete}
-use Rattle.su2_masks.proofs.Placing.{closing_number, states_number, masks_are}
+use Rattle.su2_masks.specs.Basis.{su2_tests, su2_basis_tests}
+use Rattle.su2_even_sets.proofs.EvenLists.{even_count}
+use Rattle.su2_masks.proofs.Placing.{closing_number}
 
 -- the limit is 2 ^ 20
 pub limit_told : (n : ℕ) → ltb 1048576 (2 ^ n) ≡ ltb 20 n
@@ -48,13 +46,6 @@ module _ {c : Complex} {f : Forest} (good : refusal c ≡ 0) (of : LoopsOf c f) 
   -- and then the rest
   pub past_masks : f.count ≤ 20 → {rest : List (ℕ × Bool)} {k : ℕ} → Tells rest k → Tells (su2_tests c ++ rest) k
   past_masks h t = past_record c good (past (over ∙ le-ltb 20 f.count h) t)
-
-  pub masks_known : f.count ≤ 20 → MasksKnown c
-  masks_known h = record { complete = even_complete c of.accepted; few = rw (states_number c f of) (pow_mono h) }
-
-  -- a list that begins with the sums of the loops begins with the masks
-  pub masks_written : (old new : List ℕ) → new ≡ loop_sums f.loops f.count ++ drop (2 ^ f.count) old → new ≡ front (su2_states c) old
-  masks_written old new is = is ∙ ap₂ (λ (l : List ℕ) (n : ℕ). l ++ drop n old) (masks_are c f of) (sym (states_number c f of))
 
 -- an accepted complex within the limit is never refused where the list is long enough
 pub never_refused : (c : SimplicialComplex) (room : ℕ) → Accepted (complex_of c) → 2 ^ length (free_edges (complex_of c)) ≤ 1048576 → 2 ^ length (free_edges (complex_of c)) ≤ room

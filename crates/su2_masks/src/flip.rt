@@ -16,8 +16,7 @@ pub fn triangle_place(f: Forest, sides: Sides) -> usize
     ensures { (c : Complex) (t : ℕ) → LoopsOf c f → SidesOf c t sides → result ≡ mask_place c (triangle_mask c t) }
 {
     closing_bits(
-        &f.closing,
-        f.count,
+        &f.closing[..f.count],
         (1 << sides.first) ^ (1 << sides.second) ^ (1 << sides.third),
     )
 }

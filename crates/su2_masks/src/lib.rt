@@ -29,14 +29,14 @@ fn double(states: &mut [u64], count: usize, cycle: u64)
     }
 }
 
-// All sums of the first loops go to the beginning of a list.
-pub fn write_masks(states: &mut [u64], loops: &[u64; 63], n: usize)
-    requires { (length loops.now ≡ 63) × (n ≤ 20) × (2 ^ n ≤ length states.old) }
-    ensures { states.new ≡ loop_sums loops.now n ++ drop (2 ^ n) states.old }
+// All sums of some loops go to the beginning of a list.
+pub fn write_masks(states: &mut [u64], loops: &[u64])
+    requires { (length loops.now ≤ 20) × (2 ^ length loops.now ≤ length states.old) }
+    ensures { states.new ≡ loop_sums loops.now (length loops.now) ++ drop (2 ^ length loops.now) states.old }
 {
     states[0] = 0;
     let mut count = 1;
-    for cycle in &loops[..n] {
+    for cycle in loops {
         double(states, count, *cycle);
         count += count;
     }
@@ -51,6 +51,6 @@ pub fn su2_basis(c: SimplicialComplex, states: &mut [u64]) -> Result<usize, Refu
     if states.len() < count {
         return Err(Refusal::NoRoom);
     }
-    write_masks(states, &f.loops, f.count);
+    write_masks(states, &f.loops[..f.count]);
     Ok(count)
 }

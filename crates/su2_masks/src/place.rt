@@ -11,14 +11,14 @@ fn bit_of(x: u64, i: usize) -> usize
     ((x >> i) % 2) as usize
 }
 
-// The bits of a mask at the first n closing edges, as a number.
-pub fn closing_bits(closing: &[u8; 63], n: usize, x: u64) -> usize
-    requires { (n ≤ 20) × (length closing.now ≡ 63) × ((j : ℕ) → j < n → get_or closing.now j 0 < 64) }
-    ensures { result ≡ closing_bits closing.now x n }
+// The bits of a mask at some closing edges, as a number.
+pub fn closing_bits(closing: &[u8], x: u64) -> usize
+    requires { (length closing.now ≤ 20) × ((j : ℕ) → j < length closing.now → get_or closing.now j 0 < 64) }
+    ensures { result ≡ closing_bits closing.now x (length closing.now) }
 {
     let mut place = 0;
     let mut unit = 1;
-    for edge in &closing[..n] {
+    for edge in closing {
         place += bit_of(x, usize::from(*edge)) * unit;
         unit += unit;
     }

@@ -24,7 +24,7 @@ use su2_masks::accepted::accepted_loops;
 use su2_masks::write_masks;
 use su2_rows::tables::Flips;
 
-// The electric parts of the states from a place on go into a block.
+// The electric parts of the states from a place on go into a block. By number: a proof knows nothing of what a loop over a zip with iter_mut wrote.
 fn write_electric(block: &mut [f64], from: usize, electric: f64, states: &[u64], vector: &[f64])
     requires { (from + length block.old ≤ length states.now) × (from + length block.old ≤ length vector.now) }
     ensures { block.new ≡ map (λ i. listed_part electric states.now vector.now (from + i)) (below (length block.old)) }
@@ -36,7 +36,7 @@ fn write_electric(block: &mut [f64], from: usize, electric: f64, states: &[u64],
     }
 }
 
-// Each state from a place on gets a term times the amplitude at its place xor k.
+// Each state from a place on gets a term times the amplitude at its place xor k. By number: that place is reckoned from the state's own.
 fn add_flips(block: &mut [f64], from: usize, k: usize, term: f64, vector: &[f64])
     requires { (from + length block.old ≤ length vector.now) × ((i : ℕ) → i < from + length block.old → bit_xor i k < length vector.now) }
     ensures { block.new ≡ map (λ i. add binary64 (get_or block.old i nan) (flip_part term vector.now k (from + i))) (below (length block.old)) }
@@ -77,13 +77,14 @@ fn write_blocks(
     requires { (n ≤ 2 ^ 20) × BlockFits 0 n states.now flips.now.places flips.now.terms vector.now flips.now.count × (n ≤ length res.old) }
     ensures { res.new ≡ front (map (listed_product_at electric states.now flips.now.places flips.now.terms vector.now flips.now.count) (below n)) res.old }
 {
+    // By number: a block is reckoned from the place of its first state.
     for from in (0..n).step_by(1024) {
         let to = n.min(from + 1024);
         write_block(&mut res[from..to], from, electric, states, flips, vector);
     }
 }
 
-// The product goes to the beginning of the result. Another list begins with the states.
+// The product goes to the beginning of the result. Another list begins with the states. All lists are the caller's, and stay parameters of their own.
 fn write_product(
     n: usize,
     c: SimplicialComplex,
@@ -119,7 +120,7 @@ pub fn su2_hamiltonian_matvec(
     if (states.len() < n) | (res.len() < n) {
         return Err(Refusal::NoRoom);
     }
-    write_masks(states, &f.loops, f.count);
+    write_masks(states, &f.loops[..f.count]);
     write_product(n, c, f, p, weights, vector, states, res);
     Ok(n)
 }

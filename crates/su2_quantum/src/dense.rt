@@ -39,6 +39,7 @@ fn add_flips(h: &mut [f64], n: usize, k: usize, x: f64)
     requires { (n ≤ 2 ^ 20) × (n * n ≤ length h.old) × ((i : ℕ) → i < n → bit_xor i k < n) }
     ensures { (f : ℕ → ℕ → Float) (old : List Float) → Matrix f n old h.old → Matrix (passed f (λ i. bit_xor i k) (λ i. x) n) n old h.new }
 {
+    // By number: the entry of row i stands at i xor k.
     for i in 0..n {
         add_entry(h, n, i, i ^ k, x);
     }
@@ -57,13 +58,14 @@ fn add_triangles(
     ensures { (old : List Float) → Matrix (su2_electric_entry (complex_of c) p) n old h.old → Matrix (su2_entry (complex_of c) p (weight (is_given weights.entry) (given_list weights.entry)) (length (complex_of c).triangles)) n old h.new }
 {
     let all = all_sides(c);
+    // By number: triangle t has its sides and its weight.
     for t in 0..c.n_triangles {
         let place = triangle_place(f, sides_at(&all, t));
         add_flips(h, n, place, p.magnetic * weight_at(weights, t));
     }
 }
 
-// The matrix goes to the beginning of a list. Another list begins with the states.
+// The matrix goes to the beginning of a list. Another list begins with the states. Both lists are the caller's, and stay parameters of their own.
 fn write_matrix(
     h: &mut [f64],
     n: usize,
@@ -97,7 +99,7 @@ pub fn build_su2_hamiltonian(
     if (states.len() < n) | (res.len() < n * n) {
         return Err(Refusal::NoRoom);
     }
-    write_masks(states, &f.loops, f.count);
+    write_masks(states, &f.loops[..f.count]);
     write_matrix(res, n, c, f, p, weights, states);
     Ok(n)
 }

@@ -1,6 +1,6 @@
--- The entries of a row as the code finds them: the diagonal, then triangle by triangle.
+-- The entries of a row as the code finds them, triangle by triangle.
 use Prim.Native.Nat.{ℕ, ◌+◌, ◌<◌, ◌≤◌}
-use mathlib.Core.List.{List, [], ◌∷◌, ◌++◌, append-nil, append_assoc}
+use mathlib.Core.List.{List, [], ◌∷◌, ◌++◌, append_assoc}
 use mathlib.Core.Bool.{true, cond}
 use mathlib.Core.Path.{◌≡◌, sym, ap, ◌∙◌}
 use lib.Ieee.{Float, nan}
@@ -12,12 +12,8 @@ use Rattle.rows.specs.Row.{kept, diagonal_first}
 use Rattle.rows.specs.RowLists.{EntryPushed}
 use Rattle.rows.proofs.Pairs.{pairs_length, pairs_at}
 
--- the diagonal first
-pub diagonal_pushed : (i : ℕ) (x : Float) (old new : List (ℕ × Float)) (r : ℕ) → EntryPushed old 0 (i, x) (kept x) r new → take r new ≡ diagonal_first i x []
-diagonal_pushed i x old new r pushed = pushed.front ∙ sym (append-nil (cond (kept x) ((i, x) ∷ []) []))
-
 module _ (flips : List ℕ) (terms : List Float) (i : ℕ) (x : Float) where
-  -- then a triangle more
+  -- a triangle more, behind the diagonal
   pub triangle_pushed : (old new : List (ℕ × Float)) (m t r : ℕ) → length flips ≡ length terms → t < length flips → take m old ≡ diagonal_first i x (take t (pairs flips terms))
       → EntryPushed old m (get_or flips t 0, get_or terms t nan) true r new → take r new ≡ diagonal_first i x (take (t + 1) (pairs flips terms))
   triangle_pushed old new m t r long inside so_far pushed =

@@ -1,7 +1,9 @@
-// What the exported functions of U(1) do.
+// What the exported functions of U(1) do. The coupling comes as three floats, and the weights as a flag and a list, as the C interface has them; each
+// list of it is a parameter of its own. Each function is one call: where two have one form, only the call differs, and a function that takes the call
+// would have to ask of it all that its own contract says.
 #![tactic(auto)]
 
-ghost use Rattle.std.specs.Prelude.{◌≡◌, true};
+ghost use Rattle.std.specs.Prelude.{◌≡◌};
 ghost use Rattle.mathematics.specs.Calls.{none_lent};
 ghost use Rattle.answers.specs.Refusal.{answer_of};
 ghost use Rattle.law_check.specs.Law.{law_call};
@@ -9,7 +11,6 @@ ghost use Rattle.enumeration.specs.Enumeration.{enumerated_call, counted_call};
 ghost use Rattle.hilbert.specs.Index.{index_call};
 ghost use Rattle.shifts.specs.Shift.{shift_call};
 ghost use Rattle.matrices.specs.Coupling.{coupling_call, u1_params};
-ghost use Rattle.matrices.specs.Weights.{is_given, given_list};
 ghost use Rattle.plaquettes.specs.Triangle.{triangle_call};
 ghost use Rattle.hamiltonian.specs.Dense.{u1_dense_call};
 ghost use Rattle.csr.specs.Csr.{csr_call};
@@ -45,13 +46,6 @@ fn as_number(answer: Result<bool, Refusal>) -> Result<usize, Refusal>
         Ok(yes) => Ok(usize::from(yes)),
         Err(refusal) => Err(refusal),
     }
-}
-
-// The weights, where they are given.
-fn lent(given: bool, weights: &[f64]) -> Option<&[f64]>
-    ensures { (is_given result ≡ given) × (given ≡ true → given_list result ≡ weights.now) }
-{
-    if given { Some(weights) } else { None }
 }
 
 // The coupling by its three floats.
@@ -162,12 +156,13 @@ pub fn export_build_hamiltonian(
 ) -> i64
     ensures { Exported (on_sheet sheet.now (λ c L. u1_dense_call c L (record { g_squared = g_squared; electric = electric; magnetic = magnetic }) given weights.now states.old res.old)) result (states.new, res.new) }
 {
+    let weights = given.then_some(weights);
     match read_sheet(sheet) {
         Ok(s) => signed_result(build_hamiltonian(
             s.complex,
             s.lambda,
             coupling(g_squared, electric, magnetic),
-            lent(given, weights),
+            weights,
             states,
             res,
         )),
@@ -190,12 +185,13 @@ pub fn export_build_csr(
 ) -> i64
     ensures { Exported (on_sheet sheet.now (λ c L. csr_call c L (record { g_squared = g_squared; electric = electric; magnetic = magnetic }) given weights.now states.old starts.old columns.old values.old)) result (states.new, starts.new, columns.new, values.new) }
 {
+    let weights = given.then_some(weights);
     match read_sheet(sheet) {
         Ok(s) => signed_result(build_csr(
             s.complex,
             s.lambda,
             coupling(g_squared, electric, magnetic),
-            lent(given, weights),
+            weights,
             states,
             starts,
             columns,
@@ -239,12 +235,13 @@ pub fn export_hamiltonian_matvec(
 ) -> i64
     ensures { Exported (on_sheet sheet.now (λ c L. u1_product_call c L (record { g_squared = g_squared; electric = electric; magnetic = magnetic }) given weights.now vector.now states.old res.old)) result (states.new, res.new) }
 {
+    let weights = given.then_some(weights);
     match read_sheet(sheet) {
         Ok(s) => signed_result(hamiltonian_matvec(
             s.complex,
             s.lambda,
             coupling(g_squared, electric, magnetic),
-            lent(given, weights),
+            weights,
             vector,
             states,
             res,

@@ -2,14 +2,14 @@ use Rattle.std.proofs.Common.{refl}
 use Rattle.csr.specs.Csr.{csr_call}
 use Rattle.exports.proofs.OnSheets.{unread, read_and_called}
 use Rattle.u1_exports.proofs.Small.{rows_few}
-use Rattle.u1_exports.proofs.LentWeights.{csr_answered}
+use Rattle.u1_exports.proofs.LentWeights.{csr_chosen}
 use Rattle.u1_exports.proofs.export_build_csr.Goals as goal
 
 pub signed_result-requires : goal.signed_result-requires
 signed_result-requires c = rows_few _ _ c.in-Ok.ensures _ _ _ _ _ _ _ _ _ _ c.build_csr.ensures
 
 pub returns-in-Ok : goal.returns-in-Ok
-returns-in-Ok c = read_and_called _ _ c.signed_result.type_inv c.in-Ok.ensures (csr_answered _ _ _ _ c.args.given c.args.weights.now c.lent.ensures.0 c.lent.ensures.1 _ _ _ _ (rw c.coupling.ensures at c.build_csr.ensures)) c.signed_result.ensures
+returns-in-Ok c = read_and_called _ _ c.signed_result.type_inv c.in-Ok.ensures (csr_chosen _ _ _ _ _ c.then_some-weights.ensures _ _ _ _ (rw c.coupling.ensures at c.build_csr.ensures)) c.signed_result.ensures
 
 pub returns-in-Err : goal.returns-in-Err
 unfolding csr_call

@@ -2,14 +2,14 @@ use Rattle.std.proofs.Common.{refl}
 use Rattle.hamiltonian.specs.Dense.{u1_dense_call}
 use Rattle.exports.proofs.OnSheets.{unread, read_and_called}
 use Rattle.u1_exports.proofs.Small.{dense_small}
-use Rattle.u1_exports.proofs.LentWeights.{dense_answered}
+use Rattle.u1_exports.proofs.LentWeights.{dense_chosen}
 use Rattle.u1_exports.proofs.export_build_hamiltonian.Goals as goal
 
 pub signed_result-requires : goal.signed_result-requires
 signed_result-requires c = dense_small _ _ _ _ _ _ _ _ _ c.build_hamiltonian.ensures
 
 pub returns-in-Ok : goal.returns-in-Ok
-returns-in-Ok c = read_and_called _ _ c.signed_result.type_inv c.in-Ok.ensures (dense_answered _ _ _ _ c.args.given c.args.weights.now c.lent.ensures.0 c.lent.ensures.1 _ _ (rw c.coupling.ensures at c.build_hamiltonian.ensures)) c.signed_result.ensures
+returns-in-Ok c = read_and_called _ _ c.signed_result.type_inv c.in-Ok.ensures (dense_chosen _ _ _ _ _ c.then_some-weights.ensures _ _ (rw c.coupling.ensures at c.build_hamiltonian.ensures)) c.signed_result.ensures
 
 pub returns-in-Err : goal.returns-in-Err
 unfolding u1_dense_call

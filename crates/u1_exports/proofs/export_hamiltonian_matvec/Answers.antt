@@ -2,14 +2,14 @@ use Rattle.std.proofs.Common.{refl}
 use Rattle.lanczos.specs.Matvec.{u1_product_call}
 use Rattle.exports.proofs.OnSheets.{unread, read_and_called}
 use Rattle.u1_exports.proofs.Small.{product_small}
-use Rattle.u1_exports.proofs.LentWeights.{product_answered}
+use Rattle.u1_exports.proofs.LentWeights.{product_chosen}
 use Rattle.u1_exports.proofs.export_hamiltonian_matvec.Goals as goal
 
 pub signed_result-requires : goal.signed_result-requires
 signed_result-requires c = product_small _ _ _ _ _ _ _ _ _ _ c.hamiltonian_matvec.ensures
 
 pub returns-in-Ok : goal.returns-in-Ok
-returns-in-Ok c = read_and_called _ _ c.signed_result.type_inv c.in-Ok.ensures (product_answered _ _ _ _ c.args.given c.args.weights.now c.lent.ensures.0 c.lent.ensures.1 _ _ _ (rw c.coupling.ensures at c.hamiltonian_matvec.ensures)) c.signed_result.ensures
+returns-in-Ok c = read_and_called _ _ c.signed_result.type_inv c.in-Ok.ensures (product_chosen _ _ _ _ _ c.then_some-weights.ensures _ _ _ (rw c.coupling.ensures at c.hamiltonian_matvec.ensures)) c.signed_result.ensures
 
 pub returns-in-Err : goal.returns-in-Err
 unfolding u1_product_call

@@ -1,6 +1,5 @@
 use Rattle.std.proofs.Common.{◌*◌, ◌^◌, ◌<◌, ◌≤◌, refl, sym, arith}
 use lib.Pow.{pow_mono}
-use lib.Seq.{get_or-take, length-take-le}
 use Rattle.su2_even_sets.specs.Loops.{closing_bits}
 use Rattle.su2_even_sets.proofs.Spans.{bits_next, bits_below}
 use Rattle.su2_masks.proofs.Doubling.{unit_twice, one_unit}
@@ -12,7 +11,7 @@ loop-edge-init c = record { unit = refl; place = refl }
 
 pub overflow_add-place : goal.overflow_add-place
 overflow_add-place c =
-    let few : c.loop-edge.edge-index ≤ 20 = omega (arith, c.requires.0, length-take-le c.args.n c.args.closing.now) in
+    let few : c.loop-edge.edge-index ≤ 20 = omega (arith, c.requires.0, c.loop-edge-test.true) in
     let small : c.loop-edge.unit ≤ 2 ^ 20 = rw c.loop-edge.invariant.unit (pow_mono few) in
     let more : c.bit_of.result * c.loop-edge.unit ≤ c.loop-edge.unit = one_unit c.bit_of.result c.loop-edge.unit c.bit_of.ensures.1 in
     let below : c.loop-edge.place < c.loop-edge.unit = rw (c.loop-edge.invariant.unit, c.loop-edge.invariant.place) (bits_below c.args.closing.now c.args.x c.loop-edge.edge-index) in
@@ -20,8 +19,7 @@ overflow_add-place c =
 
 pub loop-edge-preserved : goal.loop-edge-preserved
 loop-edge-preserved c =
-    let before : c.loop-edge.edge-index < c.args.n = omega (arith, length-take-le c.args.n c.args.closing.now) in
     record {
       unit = unit_twice _ _ c.loop-edge.invariant.unit;
-      place = rw (c.loop-edge.invariant.place, c.loop-edge.invariant.unit, c.bit_of.ensures.0, c.from.ensures, get_or-take c.args.n c.args.closing.now c.loop-edge.edge-index 0 before) (sym (bits_next c.args.closing.now c.args.x c.loop-edge.edge-index));
+      place = rw (c.loop-edge.invariant.place, c.loop-edge.invariant.unit, c.bit_of.ensures.0, c.from.ensures) (sym (bits_next c.args.closing.now c.args.x c.loop-edge.edge-index));
     }
