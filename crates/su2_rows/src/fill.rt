@@ -1,4 +1,4 @@
-// All rows, one after the other.
+// All rows, one after the other, in the three lists that a caller lends: each stays a parameter of its own.
 ghost use Rattle.std.specs.Prelude.{length};
 ghost use Rattle.rows.specs.RowLists.{rows_to, SortedWritten};
 ghost use Rattle.su2_rows.specs.Rows.{table_entries, RowsFit};
