@@ -6,14 +6,14 @@ use Rattle.walker.specs.declared.tables.Walker.{Walker}
 use Rattle.walker.specs.Walker.{stepped, width, walked_states}
 use Rattle.walker.specs.Steps.{Small, CyclesFit, FreeFit, Walkable, Runs}
 use Rattle.walker.specs.Tables.{begin_of, states_of, Fit}
-use Rattle.walker.proofs.BlockStates.{states_none, states_counted}
+use Rattle.walker.proofs.BlockStates.{walked_none, states_none, states_counted}
 use Rattle.walker.proofs.Stepping.{cycle_long}
 use Rattle.runs.specs.declared.edges.Kinds.{Kinds}
 use Rattle.runs.specs.Edges.{Edges}
 use Rattle.runs.specs.Kinds.{listed, KindsOf}
 use Rattle.runs.specs.Runs.{run_states, RunFit, SideSpan, Inside}
-use Rattle.runs.proofs.Walked.{counted_long, walkable_run, runs_next}
-use Rattle.runs.proofs.Turns.{step_may, fewer_left, turn_fits, turn_inside, turn_states}
+use Rattle.runs.proofs.Walked.{width_positive, counted_long, walkable_run, runs_next}
+use Rattle.runs.proofs.Turns.{turn_fits, turn_inside, turn_states}
 
 -- a walk that may go on from s for so many blocks
 pub record Underway (w : Walker) (L : ℕ) (s : List ℤ) (left : ℕ) : Type 0 where
@@ -45,6 +45,19 @@ module _ (w : Walker) (L blocks : ℕ) (fit : Fit w L blocks) where
 pub none_to_come : (w : Walker) (L : ℕ) (s : List ℤ) (left : ℕ) → left ≡ 0 → length (to_come w L s left) ≡ 0
 none_to_come w L s left none = ap (λ k. length (to_come w L s k)) none ∙ ap length (states_none w.free (row w.n_edges w.cycles) L w.n_free s)
 
+-- ---- what its steps ask
+pub step_asks : (w : Walker) (L : ℕ) (s : List ℤ) (left : ℕ) → Underway w L s left → 0 < left → CyclesFit (length s) w.n_free L w.cycles × FreeFit (length s) w.n_free w.free × Small (2 ^ 20) s
+step_asks w L s left now more = (now.walkable.cycles_fit, now.walkable.free_fit, rw (walked_none w.free (row (length s) w.cycles) L w.n_free s) at (now.walkable.values 0 more))
+
+pub span_asks : (w : Walker) (L : ℕ) (s : List ℤ) (left : ℕ) → Underway w L s left → 0 < left → (z : List ℤ) → z ≡ row w.n_edges w.cycles 0 → (length z ≡ length s) × Small (2 ^ 20) s
+span_asks w L s left now more z of_z = (
+  ap length (of_z ∙ ap (λ m. row m w.cycles 0) (sym now.sized)) ∙ cycle_long (length s) w.n_free L w.cycles now.walkable.cycles_fit 0 (omega arith),
+  (step_asks w L s left now more).2,
+)
+
+pub fewer_left : (L n left run wide : ℕ) → 0 < left → wide ≡ width L n → run ≡ min left wide → left - run < left
+fewer_left L n left run wide more of_wide of_run = omega (arith, width_positive L n)
+
 -- ---- a run of it
 module _ (w : Walker) (L M n : ℕ) (z y : List ℤ) (kinds : Kinds) (of_M : M ≡ L) (of_n : n ≡ width L w.n_free) (of_z : z ≡ row w.n_edges w.cycles 0) (of_y : y ≡ row w.n_edges w.cycles 1) (sorted : KindsOf z y (length z) kinds)
     (s : List ℤ) (left : ℕ) (now : Underway w L s left) (more : 0 < left) (run wide : ℕ) (of_wide : wide ≡ width L (w.n_free - 1)) (of_run : run ≡ min left wide) where
@@ -71,15 +84,6 @@ module _ (w : Walker) (L M n : ℕ) (z y : List ℤ) (kinds : Kinds) (of_M : M �
 
   goes : Edges z y 1 (length s) side (length side)
   goes = rw (← long) sorted.side
-
-  pub may_step : CyclesFit (length s) w.n_free L w.cycles × FreeFit (length s) w.n_free w.free × Small (2 ^ 20) s
-  may_step = step_may w.free w.cycles L w.n_free s left now.walkable now.runs more run is z y first second still side (length still) (length side) rests goes
-
-  pub asks_span : (length z ≡ length s) × Small (2 ^ 20) s
-  asks_span = (long, may_step.2)
-
-  pub fewer : (run ≤ left) × (left - run < left)
-  fewer = fewer_left w.free w.cycles L w.n_free s left now.walkable now.runs more run is z y first second still side (length still) (length side) rests goes
 
   module _ (r : Span) (spans : SideSpan M s y still (length still) side (length side) run r) where
     abbrev pub these : List (List ℤ)

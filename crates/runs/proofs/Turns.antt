@@ -1,5 +1,5 @@
 -- One run of the walk, as the code has it.
-use Prim.Native.Nat.{ℕ, ◌+◌, ◌-◌, ◌^◌, ◌≤◌, ◌<◌, min}
+use Prim.Native.Nat.{ℕ, ◌+◌, ◌-◌, ◌<◌, min}
 use mathlib.Core.List.{List, ◌++◌}
 use mathlib.Core.Path.{◌≡◌, ap, ◌∙◌}
 use native.Mathlib.Omega.{arith}
@@ -8,12 +8,12 @@ use lib.ListN.{length, take, drop}
 use Rattle.cycles.specs.Cycles.{row}
 use Rattle.walker.specs.declared.blocks.Span.{Span}
 use Rattle.walker.specs.Walker.{stepped, width, walked_states}
-use Rattle.walker.specs.Steps.{Small, CyclesFit, FreeFit, Walkable, Runs}
+use Rattle.walker.specs.Steps.{Small, CyclesFit, Walkable, Runs}
 use Rattle.walker.proofs.Stepping.{cycle_long, cycle_signs}
 use Rattle.runs.specs.Edges.{Edges}
 use Rattle.runs.specs.Runs.{run_states, RunFit, SideSpan, Inside}
 use Rattle.runs.proofs.Sides.{sides_inside, run_whole}
-use Rattle.runs.proofs.Walked.{run_some, this_run_fits, run_first}
+use Rattle.runs.proofs.Walked.{this_run_fits, run_first}
 
 -- ---- the first two cycles as parts of the table
 module _ (m n L : ℕ) (cycles : List ℤ) (fit : CyclesFit m n L cycles) where
@@ -43,12 +43,6 @@ module _ (free : List ℕ) (cycles : List ℤ) (L n : ℕ) (s : List ℤ) (left 
     (z y : List ℤ) (first : z ≡ row (length s) cycles 0) (second : y ≡ row (length s) cycles 1) (still side : List ℕ) (a b : ℕ) (rests : Edges z y 0 (length s) still a) (goes : Edges z y 1 (length s) side b) where
   run_fits : RunFit L (width L n) s z y run
   run_fits = rw (first, second) (this_run_fits free cycles L n s left fit runs more run is)
-
-  pub step_may : CyclesFit (length s) n L cycles × FreeFit (length s) n free × Small (2 ^ 20) s
-  step_may = (fit.cycles_fit, fit.free_fit, run_fits.start)
-
-  pub fewer_left : (run ≤ left) × (left - run < left)
-  fewer_left = let some = run_some free cycles L n s left fit runs more run is in (some.0, omega (arith, some.0, some.1))
 
   module _ (r : Span) (spans : SideSpan L s y still a side b run r) where
     pub turn_fits : RunFit L (width L n) s z y r.to

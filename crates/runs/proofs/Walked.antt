@@ -21,6 +21,11 @@ use Rattle.runs.specs.Runs.{run_states, RunFit}
 use Rattle.runs.proofs.Between.{between_none, between_next}
 use Rattle.runs.proofs.RunRows.{once_more, added_sum}
 
+-- a block has candidates
+pub width_positive : (L n : ℕ) → 0 < width L n
+width_positive L zero = omega (arith, width_none L zero refl)
+width_positive L (suc n) = omega (arith, width_some L (suc n) (λ h. absurd (omega arith)))
+
 -- ---- the walk
 module _ (free : List ℕ) (cycle : ℕ → List ℤ) (L n : ℕ) where
   -- the blocks of a run
@@ -130,11 +135,7 @@ module _ (free : List ℕ) (cycles : List ℤ) (L n : ℕ) (s : List ℤ) (left 
   -- ---- the next run, of those that are left
   module _ (more : 0 < left) (run : ℕ) (is : run ≡ min left wide) where
     pub run_some : (run ≤ left) × (0 < run)
-    run_some = (omega arith, omega (arith, wide_some (n - 1)))
-      where
-        wide_some : (k : ℕ) → 0 < width L k
-        wide_some zero = omega (arith, width_none L zero refl)
-        wide_some (suc k) = omega (arith, width_some L (suc k) (λ h. absurd (omega arith)))
+    run_some = (omega arith, omega (arith, width_positive L (n - 1)))
 
     in_this_run : (i : ℕ) → i < run → walked free cycle L n s i ≡ with_cycle s (pos i) (cycle 1)
     in_this_run i h = whole_run.0 i (omega arith)

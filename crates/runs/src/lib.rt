@@ -16,6 +16,7 @@ use numbers::sizes::MOST_EDGES;
 use walker::tables::Walker;
 
 // How many states the first blocks have. The last run may have fewer blocks, so the loop counts what is left.
+#[tactic(auto, using(crate::proofs::OneRun::cycles_here, crate::proofs::OneRun::step_asks, crate::proofs::OneRun::span_asks, crate::proofs::OneRun::fewer_left))]
 pub fn count_states(w: &Walker, lambda: usize, blocks: usize) -> usize
     requires { Fit w.now lambda blocks }
     ensures { result ≡ length (states_of w.now lambda blocks) }
@@ -37,6 +38,7 @@ pub fn count_states(w: &Walker, lambda: usize, blocks: usize) -> usize
 }
 
 // The states of the first blocks go to the beginning of a list. How many they are. The loop counts as in count_states.
+#[tactic(auto, using(crate::proofs::OneRun::cycles_here, crate::proofs::OneRun::step_asks, crate::proofs::OneRun::fewer_left))]
 pub fn write_states(w: &Walker, lambda: usize, blocks: usize, states: &mut [i32]) -> usize
     requires { Fit w.now lambda blocks × (length (states_of w.now lambda blocks) * w.now.n_edges ≤ length states.old) }
     ensures { StatesWritten (states_of w.now lambda blocks) states.old states.new result }

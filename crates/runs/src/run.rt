@@ -50,7 +50,8 @@ impl<'a> RunTables<'a> {
         Span { from: run, to: run }
     }
 
-    // How many states the blocks of a span have. Counting needs only the values on the edges that the first cycle moves.
+    // How many states the blocks of a span have. Counting needs only the values on the edges that the first cycle moves. By number: it tells
+    // how often the second cycle is added.
     pub fn count(&self, config: &[i32], span: Span) -> usize
         requires { RunFit self.now.lambda self.now.width config.now self.now.first.now self.now.second.now span.to × Inside self.now.lambda config.now self.now.first.now self.now.second.now span }
         ensures { result ≡ length (run_states self.now.lambda self.now.width config.now self.now.first.now self.now.second.now span.from span.to) }
@@ -66,7 +67,7 @@ impl<'a> RunTables<'a> {
     }
 
     // The states of the blocks of a span go to a place of the list. How many they are. The row is space for the assignment at which a block
-    // begins.
+    // begins; it is counted from block to block.
     pub fn write(
         &self,
         states: &mut [i32],

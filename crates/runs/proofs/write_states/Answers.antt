@@ -1,12 +1,9 @@
 use Rattle.std.proofs.Common.{◌+◌, ◌*◌, ◌≤◌, ◌∙◌, length, replicate, pos, length-take-le, sym, ap, arith, refl, rules}
-use Rattle.runs.proofs.OneRun.{begun, all_to_come, all_counted, cycles_here, none_to_come, asks_span, these, run_asks, run_then_rest, may_step, fewer, next_underway}
+use Rattle.runs.proofs.OneRun.{begun, all_to_come, all_counted, none_to_come, span_asks, these, run_asks, run_then_rest, next_underway}
 use Rattle.walker.specs.Tables.{states_of}
 use Rattle.runs.proofs.Sides.{run_flat}
 use Rattle.runs.proofs.Written.{nothing_yet, all_written, among, room, some_more}
 use Rattle.runs.proofs.write_states.Goals as goal
-
-pub of-tables-requires : goal.of-tables-requires
-of-tables-requires c = cycles_here c.args.w.now c.args.lambda c.args.blocks c.requires.0
 
 pub loop-left-init : goal.loop-left-init
 loop-left-init c =
@@ -19,12 +16,7 @@ loop-left-init c =
     }
 
 pub span-span-requires : goal.span-span-requires
-span-span-requires c =
-    let s = c.args in
-    let now = c.loop-left.invariant in
-    let t = c.of-tables.result in
-    let of = c.of-tables.ensures in
-    asks_span s.w.now s.lambda t.lambda t.width t.first.now t.second.now t.kinds of.truncation of.wide of.first of.second t.fits.sorted c.loop-left.config c.loop-left.left now.underway c.loop-left-test.true c.min-run.result c.run_width-wide.result c.run_width-wide.ensures c.min-run.ensures
+span-span-requires c = span_asks c.args.w.now c.args.lambda c.loop-left.config c.loop-left.left c.loop-left.invariant.underway c.loop-left-test.true _ c.of-tables.ensures.first
 
 pub overflow_mul-count : goal.overflow_mul-count
 overflow_mul-count c =
@@ -52,22 +44,6 @@ overflow_add-count c =
     let of = c.of-tables.ensures in
     let few : c.loop-left.count + length (these s.w.now s.lambda t.lambda t.width t.first.now t.second.now t.kinds of.truncation of.wide of.first of.second t.fits.sorted c.loop-left.config c.loop-left.left now.underway c.loop-left-test.true c.min-run.result c.run_width-wide.result c.run_width-wide.ensures c.min-run.ensures c.span-span.result c.span-span.ensures) ≤ length (states_of s.w.now s.lambda s.blocks) = among now.so_far _ _ (run_then_rest s.w.now s.lambda t.lambda t.width t.first.now t.second.now t.kinds of.truncation of.wide of.first of.second t.fits.sorted c.loop-left.config c.loop-left.left now.underway c.loop-left-test.true c.min-run.result c.run_width-wide.result c.run_width-wide.ensures c.min-run.ensures c.span-span.result c.span-span.ensures _ refl) in
     omega (arith, c.write-count.ensures.count, few, all_counted s.w.now s.lambda s.blocks c.requires.0)
-
-pub step-requires : goal.step-requires
-step-requires c =
-    let s = c.args in
-    let now = c.loop-left.invariant in
-    let t = c.of-tables.result in
-    let of = c.of-tables.ensures in
-    may_step s.w.now s.lambda t.lambda t.width t.first.now t.second.now t.kinds of.truncation of.wide of.first of.second t.fits.sorted c.loop-left.config c.loop-left.left now.underway c.loop-left-test.true c.min-run.result c.run_width-wide.result c.run_width-wide.ensures c.min-run.ensures
-
-pub loop-left-smaller : goal.loop-left-smaller
-loop-left-smaller c =
-    let s = c.args in
-    let now = c.loop-left.invariant in
-    let t = c.of-tables.result in
-    let of = c.of-tables.ensures in
-    (fewer s.w.now s.lambda t.lambda t.width t.first.now t.second.now t.kinds of.truncation of.wide of.first of.second t.fits.sorted c.loop-left.config c.loop-left.left now.underway c.loop-left-test.true c.min-run.result c.run_width-wide.result c.run_width-wide.ensures c.min-run.ensures).1
 
 pub loop-left-preserved : goal.loop-left-preserved
 loop-left-preserved c =
