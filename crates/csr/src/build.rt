@@ -24,7 +24,8 @@ use moves::tables::MoveLists;
 use plaquettes::target::{Sizes, list_states};
 use triangles::all_sides;
 
-// The rows of all states go to the beginning of three lists. Another list begins with the states. All stand apart, as the caller lends them.
+// The rows of all states go to the beginning of three lists. Another list begins with the states. All stand apart, as the caller lends them; the tables
+// have fixed length, as the library has no heap.
 fn write_lists<'x>(
     c: SimplicialComplex,
     all: &'x [u8; 768],

@@ -29,7 +29,7 @@ pub fn list_states(basis: &Basis, states: &mut [i32]) -> Sizes
     }
 }
 
-// A state goes to the front of a row.
+// A state goes to the front of a row, which is an array of fixed length, as the library has no heap.
 pub fn copy_state(row: &mut [i32; 63], state: &[i32])
     requires { (length row.old ≡ 63) × (length state.now ≤ 63) }
     ensures { (length row.new ≡ 63) × (take (length state.now) row.new ≡ state.now) }

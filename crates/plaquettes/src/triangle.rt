@@ -1,4 +1,4 @@
-// The shift of a triangle: 1, -1 and 1 are added on its three edges.
+// The shift of a triangle: 1, -1 and 1 are added on its three edges. A row is an array of fixed length, as the library has no heap.
 ghost use Rattle.std.specs.Prelude.{◌≡◌, ◌&&◌, ◌^◌, ◌<◌, ◌≤◌, pos, negsuc, nat_abs, ◌+ℤ◌, get_or, length};
 ghost use Rattle.complex.specs.Complex.{complex_of};
 ghost use Rattle.gauss_law.specs.Shifts.{shifted};

@@ -1,4 +1,5 @@
-// The rows of a matrix, written one after the other into a list of starts, one of columns and one of values.
+// The rows of a matrix, written one after the other into a list of starts, one of columns and one of values. These stand apart, as the caller of an
+// exported function lends them.
 ghost use Rattle.std.specs.Prelude.{◌≡◌, ◌+◌, ◌^◌, ◌<◌, ◌≤◌, length, take};
 ghost use Rattle.std.proofs.Math.Seq.{paste};
 ghost use Rattle.rows.specs.Entries.{pairs};

@@ -1,4 +1,4 @@
-// The Wilson loop along a path.
+// The Wilson loop along a path. The row that a walk changes is an array of fixed length, as the library has no heap.
 #![tactic(auto)]
 
 ghost use Rattle.std.specs.Prelude.{◌≡◌, ◌||◌, ◌*◌, ◌^◌, ◌<◌, ◌≤◌, ℕ, pos, negsuc, nat_abs, get_or, length, take};
@@ -84,20 +84,19 @@ fn same_values(s: &[i32], t: &[i32]) -> bool
     so_far
 }
 
-// Where row j of n is the configuration, the product of the amplitudes i and j is added.
+// Where row j is the configuration, the product of the amplitudes i and j is added. There is a row for each amplitude.
 fn add_reached(
     list: &[i32],
-    n: usize,
     amplitudes: &[f64],
     i: usize,
     j: usize,
     configuration: &[i32],
     total: f64,
 ) -> f64
-    requires { (n ≤ 2 ^ 20) × (length configuration.now ≤ 63) × (n * length configuration.now ≤ length list.now) × (length amplitudes.now ≡ n) × (i < n) }
-    ensures { result ≡ with_product list.now n amplitudes.now i j configuration.now total }
+    requires { (length amplitudes.now ≤ 2 ^ 20) × (length configuration.now ≤ 63) × (length amplitudes.now * length configuration.now ≤ length list.now) × (i < length amplitudes.now) }
+    ensures { result ≡ with_product list.now (length amplitudes.now) amplitudes.now i j configuration.now total }
 {
-    if n <= j {
+    if amplitudes.len() <= j {
         return total;
     }
     let m = configuration.len();
@@ -132,7 +131,7 @@ fn wilson_sum(
             continue;
         }
         from = advance(list, s.states, from, &reached[..m], free, s.free);
-        total = add_reached(list, s.states, amplitudes, i, from, &reached[..m], total);
+        total = add_reached(list, amplitudes, i, from, &reached[..m], total);
     }
     total
 }

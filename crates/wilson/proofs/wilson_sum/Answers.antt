@@ -76,7 +76,7 @@ add_reached-total-requires c =
     let inside = c.loop-i-test.true in
     let few = edges_few _ _ _ _ basis in
     let long : length (take c.args.s.edges c.walk.new.row) ≡ c.args.s.edges = length-take-le c.args.s.edges c.walk.new.row (omega (arith, c.walk.array_long, few)) in
-    rw long (basis.few, few, list_long _ _ _ _ basis, c.requires.0.one_each, inside)
+    rw (c.requires.0.one_each, long) (basis.few, few, list_long _ _ _ _ basis, inside)
 
 pub loop-i-preserved : goal.loop-i-preserved
 loop-i-preserved c =
@@ -100,7 +100,7 @@ loop-i-preserved c =
       c.walk.array_long,
       λ complex own.
           summed_more complex _ _ _ own _ _ _ c.requires.1 c.loop-i.i _ _ (c.loop-i.invariant.2 complex own) inside (stay complex own) config (reached complex own) long
-          c.advance-from.result (found complex own) c.add_reached-total.result c.add_reached-total.ensures,
+          c.advance-from.result (found complex own) c.add_reached-total.result (rw c.requires.0.one_each at c.add_reached-total.ensures),
     )
 
 pub returns : goal.returns
