@@ -62,7 +62,7 @@ fn add_magnetic(
     }
 }
 
-// The product goes to the beginning of the result.
+// The product goes to the beginning of the result. The lists are the caller's, and stay parameters of their own, here and above.
 fn write_product(
     c: SimplicialComplex,
     p: KSParams,

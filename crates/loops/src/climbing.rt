@@ -17,7 +17,7 @@ pub struct TreeParents {
     pub led: [u8; MOST_VERTICES],
 }
 
-fn tree_parents(tree: SpanningTree) -> TreeParents
+pub fn tree_parents(tree: SpanningTree) -> TreeParents
     requires { Orderly tree }
     ensures { Noted tree tree.found result.place result.led }
 {

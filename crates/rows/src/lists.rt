@@ -47,7 +47,8 @@ pub fn copy_row(
     values[at..at + m].copy_from_slice(&row_values[..m]);
 }
 
-// Row i, the first m entries of two lists, goes to its place behind the rows before it. Where the next begins is told.
+// Row i, the first m entries of two lists, goes to its place behind the rows before it. Where the next begins is told. The lists stand apart, as the
+// caller lends them.
 pub fn append_row(
     row_columns: &[u32],
     row_values: &[f64],

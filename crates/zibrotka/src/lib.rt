@@ -1,4 +1,5 @@
-// The calls for C and other languages: numbers and slices in, one signed number out, the value or minus the refusal.
+// The calls for C and other languages: numbers and slices in, one signed number out, the value or minus the refusal. Weights are a flag and a
+// list, and each list is a parameter of its own: that is the C interface.
 #![tactic(auto)]
 
 ghost use Rattle.std.specs.Prelude.{◌≡◌};
