@@ -1,4 +1,4 @@
-use Rattle.std.proofs.Common.{◌≡◌, ◌+◌, ◌-◌, ◌<◌, ◌≤◌, ◌^◌, refl, sym, ap, arith, ◌∙◌, get_or, pos, to_z, w32, []}
+use Rattle.std.proofs.Common.{◌≡◌, ◌+◌, ◌-◌, ◌≤◌, ◌^◌, refl, sym, ap, arith, ◌∙◌, get_or, pos, to_z, w32, []}
 use Rattle.std.proofs.lemmas.Int.{to_z_pos}
 use Rattle.walker.proofs.Adding.{may_times}
 use Rattle.cursor.proofs.Cursors.{few_states, row_ready}
@@ -32,7 +32,7 @@ pub add-requires : goal.add-requires
 add-requires c =
     let standing = c.loop-c.invariant.standing in
     let low = standing.some c.loop-c.invariant.more in
-    let times : c.loop-c.c.d + (c.args.place - c.loop-c.c.number) < 2 ^ 20 = omega (arith, standing.few) in
+    let times : c.loop-c.c.d + (c.args.place - c.loop-c.c.number) ≤ 2 ^ 20 = omega (arith, standing.few) in
     rw (to_z_pos w32 (c.loop-c.c.d + (c.args.place - c.loop-c.c.number)) (omega arith)) (may_times _ _ _ (row_ready _ _ _ _ _ _ standing.walkable c.loop-c.invariant.more) times)
 
 pub returns : goal.returns
