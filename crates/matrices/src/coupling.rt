@@ -21,7 +21,7 @@ fn in_range(g_squared: f64) -> bool
     (1.0 / 4294967296.0 <= g_squared) & (g_squared <= 4294967296.0)
 }
 
-// The factors of U(1): g²/2 and -1/g².
+// The factors of U(1): g²/2 and -1/g². Here and below each mode has a function, for the formula differs.
 #[tactic(auto, using(crate::proofs::Literals::one, crate::proofs::Literals::two), unfolding(crate::specs::Coupling::u1_params))]
 fn u1_params(g_squared: f64) -> KSParams
     ensures { result ≡ u1_params g_squared }

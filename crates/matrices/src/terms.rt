@@ -12,7 +12,7 @@ pub fn dense_plaquette_term(p: KSParams, weight: f64) -> f64
     p.magnetic * weight * 0.5
 }
 
-// What it gives to the row lists.
+// What it gives to the row lists. The order of the factors decides how they round, so both stand, as in the Rust.
 #[tactic(auto, using(crate::proofs::Literals::half), unfolding(crate::specs::Terms::row_plaquette_term))]
 pub fn row_plaquette_term(p: KSParams, weight: f64) -> f64
     ensures { result ≡ row_plaquette_term p weight }

@@ -80,7 +80,7 @@ fn fill_refused(out: &mut [u8], refusal: Refusal) -> Begun
     }
 }
 
-// The first line of a sheet that was read, or 10.
+// The first line of a sheet that was read, or 10. Reading judged the sheet, so its basis is not prepared by `Basis::prepare`, which judges again.
 fn fill_first(out: &mut [u8], s: Sheet) -> Begun
     requires { (400 ≤ length out.old) × (refusal (complex_of s.complex) ≡ 0) × (s.lambda ≤ 1000) }
     ensures { Told (first (limit_test (complex_of s.complex) s.lambda ∷ [])) (told (first (limit_test (complex_of s.complex) s.lambda ∷ [])) (complex_of s.complex) s.lambda) out.new result }

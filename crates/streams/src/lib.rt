@@ -43,7 +43,7 @@ pub fn read_input<R: Read>(input: &mut R, list: &mut [u8]) -> Result<usize>
     Ok(n)
 }
 
-// How many bytes were written, and why a write failed, where one did.
+// How many bytes were written, and why a write failed, where one did: bytes may have gone out before it failed.
 #[derive(Clone, Copy)]
 pub struct Output {
     pub n: usize,
