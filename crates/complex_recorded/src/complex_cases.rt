@@ -22,6 +22,7 @@ pub fn complexes_same(case: Case) -> bool
     let second = case.field(12);
     let third = case.field(13);
     let n = case.number(0);
+    // Kinds and fields go by the numbers that oracle/README.md gives them; the specs use these too.
     match case.kind() {
         1 => from_pentachorons_same(n, pentachora, told, first, second, third),
         2 => tri_edge_indices_same(sheet, n, told, first),

@@ -24,6 +24,7 @@ pub fn z2_same(case: Case) -> bool
     let result = case.field(14);
     let p = case.coupling();
     let given = case.given();
+    // Kinds and fields go by the numbers that oracle/README.md gives them; the specs use these too.
     match case.kind() {
         18 => su2_basis_same(sheet, told, masks),
         19 => su2_count_states_same(sheet, told),

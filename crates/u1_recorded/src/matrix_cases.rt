@@ -24,6 +24,7 @@ pub fn matrices_same(case: Case) -> bool
     let result = case.field(14);
     let p = case.coupling();
     let given = case.given();
+    // Kinds and fields go by the numbers that oracle/README.md gives them; the specs use these too.
     match case.kind() {
         12 => build_hamiltonian_same(sheet, p, given, weights, told, states, result),
         13 => {

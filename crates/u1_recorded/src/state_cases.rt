@@ -18,6 +18,7 @@ pub fn states_same(case: Case) -> bool
     let told = case.told();
     let states = case.field(11);
     let n = case.number(0);
+    // Kinds and fields go by the numbers that oracle/README.md gives them; the specs use these too.
     match case.kind() {
         6 => check_gauss_law_same(sheet, configuration, told),
         7 => enumerate_gauge_invariant_same(sheet, told, states),
