@@ -1,6 +1,6 @@
--- Numbers in bytes: two words are a number of eight bytes; signed numbers by their bits; floats by theirs.
-use Prim.Native.Nat.{ℕ, ◌+◌, ◌*◌, ◌%◌, ◌<◌, ◌≤◌}
-use Rattle.std.specs.Int.{from_le_bytes, w32}
+-- Numbers in bytes, low byte first; signed numbers by their bits; floats by theirs.
+use Prim.Native.Nat.{ℕ, ◌+◌, ◌%◌, ◌<◌, ◌≤◌}
+use Rattle.std.specs.Int.{from_le_bytes, w32, w64}
 use Rattle.std.specs.List.{slice_get}
 use Rattle.std.specs.Option.{unwrap_or}
 use Rattle.std.proofs.lemmas.Option.{unwrap_or-slice_get}
@@ -34,15 +34,9 @@ pub four_bytes : (b : List ℕ) (at : ℕ) → from_le_bytes w32 (get_or b at 0 
 unfolding number_at
 four_bytes b at = let none : at + 0 ≡ at = omega arith in rw none (omega arith)
 
-pub two_words : (b : List ℕ) (at : ℕ) → number_at 4 b at + 0x1_0000_0000 * number_at 4 b (at + 4) ≡ number_at 8 b at
+pub eight_bytes : (b : List ℕ) (at : ℕ) → from_le_bytes w64 (get_or b at 0 ∷ get_or b (at + 1) 0 ∷ get_or b (at + 2) 0 ∷ get_or b (at + 3) 0 ∷ get_or b (at + 4) 0 ∷ get_or b (at + 5) 0 ∷ get_or b (at + 6) 0 ∷ get_or b (at + 7) 0 ∷ []) ≡ number_at 8 b at
 unfolding number_at
-two_words b at =
-    let none : at + 0 ≡ at = omega arith in
-    let four : at + 4 + 0 ≡ at + 4 = omega arith in
-    let five : at + 4 + 1 ≡ at + 5 = omega arith in
-    let six : at + 4 + 2 ≡ at + 6 = omega arith in
-    let seven : at + 4 + 3 ≡ at + 7 = omega arith in
-    rw (none, four, five, six, seven) (omega arith)
+eight_bytes b at = let none : at + 0 ≡ at = omega arith in rw none (omega arith)
 
 -- ---- signed numbers
 -- their bits are equal just where they are

@@ -9,7 +9,8 @@ ghost use Rattle.recorded.specs.Bytes.{number_at, float_of, float_is};
 use crate::number::{byte_at, float_at, u32_at, u64_at};
 
 // A number of a width in bytes: how it is read at a place, and whether it is the one that stands there. A byte past the end counts as 0. The
-// impls of the integers are written out: each has a width and a reading of its own, and a macro may write no impl.
+// impls of the integers are written out: each has a width and a reading of its own. A macro may write an `impl`, but no ghost member and no
+// clause, and each of these has six ghost members.
 pub trait Entry: Copy {
     ghost WIDTH: { ℕ };
 

@@ -22,12 +22,21 @@ pub fn u32_at(bytes: &[u8], at: usize) -> u32
     ])
 }
 
-#[tactic(auto, using(crate::proofs::Numbers::two_words))]
+#[tactic(auto, using(crate::proofs::Numbers::eight_bytes))]
 pub fn u64_at(bytes: &[u8], at: usize) -> u64
     requires { at + 8 < 2 ^ 64 }
     ensures { result ≡ number_at 8 bytes.now at }
 {
-    u64::from(u32_at(bytes, at)) + 0x1_0000_0000 * u64::from(u32_at(bytes, at + 4))
+    u64::from_le_bytes([
+        byte_at(bytes, at),
+        byte_at(bytes, at + 1),
+        byte_at(bytes, at + 2),
+        byte_at(bytes, at + 3),
+        byte_at(bytes, at + 4),
+        byte_at(bytes, at + 5),
+        byte_at(bytes, at + 6),
+        byte_at(bytes, at + 7),
+    ])
 }
 
 // The float of a pattern of bits; 0.0 for the pattern of a NaN. Without their sign these are above the pattern of the infinity.

@@ -1,6 +1,6 @@
 -- The fields of a case stand one behind the other, within the list where the case ends there.
 use Prim.Native.Nat.{ℕ, zero, suc, ◌+◌, ◌-◌, ◌<◌, ◌≤◌}
-use mathlib.Core.List.{List}
+use mathlib.Core.List.{List, [], ◌∷◌}
 use mathlib.Core.Path.{◌≡◌, refl, sym}
 use mathlib.Core.Bool.{true, ◌&&◌}
 use native.Mathlib.Omega.{arith}
@@ -10,7 +10,14 @@ use lib.Dec.{leb}
 use lib.ListN.{length, take, drop, get_or, length-take, length-drop}
 use lib.Seq.{length-take-le}
 use Rattle.mathematics.proofs.Tests.{and_parts}
+use Rattle.std.specs.Int.{from_le_bytes, w16}
+use Rattle.sheet.specs.Sheet.{word}
 use Rattle.recorded_fields.specs.Layout.{size, place, case_at, well_formed, Whole}
+
+-- the number of two bytes
+pub two_bytes : (list : List ℕ) (at : ℕ) → from_le_bytes w16 (get_or list at 0 ∷ get_or list (at + 1) 0 ∷ []) ≡ word list at
+unfolding word
+two_bytes list at = omega arith
 
 pub place_next : (list : List ℕ) (at k : ℕ) → place list at (k + 1) ≡ place list at k + 2 + size list (place list at k)
 unfolding place

@@ -1,26 +1,26 @@
 // The port's answers in a case, held against those of the list.
 ghost use Rattle.std.specs.Prelude.{◌≡◌};
-ghost use Rattle.recorded_fields.specs.Layout.{case_at, Whole};
+ghost use Rattle.recorded_fields.specs.Layout.{case_at};
 ghost use Rattle.replay.specs.Agreement.{agreed};
 
 use complex_recorded::complex_cases::complexes_same;
 use complex_recorded::row_cases::rows_same;
-use recorded::number::byte_at;
+use recorded_fields::case::Case;
 use su2_recorded::cases::z2_same;
 use u1_recorded::matrix_cases::matrices_same;
 use u1_recorded::state_cases::states_same;
 
-// A kind is a byte of the list, judged by `stands`: an enum of 25 names, each used once, would be no plainer.
-#[tactic(auto, unfolding(crate::specs::Agreement::agreed, recorded_fields::specs::Layout::case_at))]
-pub fn case_same(list: &[u8], at: usize) -> bool
-    requires { Whole list.now at }
-    ensures { result ≡ agreed (case_at list.now at) }
+// A kind is a byte of the list, judged by `stands`, and goes by the number that oracle/README.md gives it; the specs use these too. Here only
+// the ends of ranges stand. With an enum all 25 names would stand here, and once more in the crates of their calls: no plainer.
+#[tactic(auto, unfolding(crate::specs::Agreement::agreed))]
+pub fn case_same(case: Case) -> bool
+    ensures { result ≡ agreed (case_at case.entry.list.now case.entry.at) }
 {
-    match byte_at(list, at) {
-        0..=5 => complexes_same(list, at),
-        6..=11 => states_same(list, at),
-        12..=17 => matrices_same(list, at),
-        18..=24 => z2_same(list, at),
-        _ => rows_same(list, at),
+    match case.kind() {
+        0..=5 => complexes_same(case),
+        6..=11 => states_same(case),
+        12..=17 => matrices_same(case),
+        18..=24 => z2_same(case),
+        _ => rows_same(case),
     }
 }

@@ -5,7 +5,7 @@ ghost use Rattle.replay.specs.Cases.{ends, replayed};
 
 use crate::compare::case_same;
 use recorded::number::byte_at;
-use recorded_fields::case::{FIELDS, place};
+use recorded_fields::case::{Case, FIELDS, place};
 
 // How many cases there are, and how many of them differ.
 #[derive(Clone, Copy)]
@@ -47,7 +47,7 @@ pub fn replay(list: &[u8]) -> Result<Counts, Malformed>
     let mut cases = 0;
     let mut differ = 0;
     while stands(list, at) {
-        if !case_same(list, at) {
+        if !case_same(Case { list, at }) {
             differ += 1;
         }
         cases += 1;

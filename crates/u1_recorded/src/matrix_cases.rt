@@ -1,36 +1,35 @@
 // The calls on matrices, products and expectations of U(1) in a case, held against its answers.
 ghost use Rattle.std.specs.Prelude.{◌≡◌};
-ghost use Rattle.recorded_fields.specs.Layout.{case_at, Whole};
+ghost use Rattle.recorded_fields.specs.Layout.{case_at};
 ghost use Rattle.u1_recorded.specs.Cases.{matrices_agreed};
 
 use crate::matrix::{build_csr_same, build_hamiltonian_same, count_entries_same};
 use crate::products::{electric_field_sq_same, hamiltonian_matvec_same, wilson_loop_same};
-use recorded::number::byte_at;
-use recorded_fields::case::field;
-use recorded_fields::inputs::{ROOM_1, ROOM_8, coupling, entries, given, told};
+use recorded_fields::case::Case;
+use recorded_fields::inputs::{ROOM_1, ROOM_8};
 
-#[tactic(auto, unfolding(crate::specs::Cases::matrices_agreed, recorded_fields::specs::Choosing::chosen, recorded_fields::specs::Layout::case_at))]
-pub fn matrices_same(list: &[u8], at: usize) -> bool
-    requires { Whole list.now at }
-    ensures { result ≡ matrices_agreed (case_at list.now at) }
+#[tactic(auto, unfolding(crate::specs::Cases::matrices_agreed, recorded_fields::specs::Choosing::chosen))]
+pub fn matrices_same(case: Case) -> bool
+    ensures { result ≡ matrices_agreed (case_at case.entry.list.now case.entry.at) }
 {
     let mut weight_room = [0.0; ROOM_8];
     let mut vector_room = [0.0; ROOM_8];
     let mut direction_room = [0i8; ROOM_1];
-    let weights = entries(list, at, 8, &mut weight_room);
-    let vector = entries(list, at, 9, &mut vector_room);
-    let directions = entries(list, at, 5, &mut direction_room);
-    let sheet = field(list, at, 0);
-    let told = told(list, at);
-    let states = field(list, at, 11);
-    let result = field(list, at, 14);
-    let p = coupling(list, at);
-    let given = given(list, at);
-    match byte_at(list, at) {
+    let weights = case.entries(8, &mut weight_room);
+    let vector = case.entries(9, &mut vector_room);
+    let directions = case.entries(5, &mut direction_room);
+    let sheet = case.field(0);
+    let told = case.told();
+    let states = case.field(11);
+    let result = case.field(14);
+    let p = case.coupling();
+    let given = case.given();
+    // Kinds and fields go by the numbers that oracle/README.md gives them; the specs use these too.
+    match case.kind() {
         12 => build_hamiltonian_same(sheet, p, given, weights, told, states, result),
         13 => {
-            let starts = field(list, at, 12);
-            let columns = field(list, at, 13);
+            let starts = case.field(12);
+            let columns = case.field(13);
             build_csr_same(
                 sheet, p, given, weights, told, states, starts, columns, result,
             )
@@ -39,7 +38,7 @@ pub fn matrices_same(list: &[u8], at: usize) -> bool
         15 => hamiltonian_matvec_same(sheet, p, given, weights, vector, told, states, result),
         16 => electric_field_sq_same(sheet, vector, told, states, result),
         17 => {
-            let path = field(list, at, 4);
+            let path = case.field(4);
             wilson_loop_same(sheet, vector, path, directions, told, states, result)
         }
         _ => false,

@@ -10,8 +10,8 @@ use Rattle.replay.proofs.walk.replay.Goals.{then-not-case_same, else-not-case_sa
 pub loop-differ-init : goal.loop-differ-init
 loop-differ-init c = walked_none _
 
-pub case_same-requires : goal.case_same-requires
-case_same-requires c = whole_of _ _ (sym c.stands.ensures ∙ c.loop-differ-test.true)
+pub invariant_of-case_same : goal.invariant_of-case_same
+invariant_of-case_same c = record { whole = whole_of _ _ (sym c.stands.ensures ∙ c.loop-differ-test.true) }
 
 pub loop-differ-smaller : goal.loop-differ-smaller
 loop-differ-smaller c =
