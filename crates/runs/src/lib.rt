@@ -10,21 +10,39 @@ ghost use Rattle.std.specs.Prelude.{◌≡◌, ◌*◌, ◌≤◌, length};
 ghost use Rattle.walker.specs.Tables.{states_of, Fit};
 ghost use Rattle.walker.specs.Blocks.{StatesWritten};
 
+use crate::edges::Kinds;
+use crate::rows::{rows_at_once, rows_beside};
 use crate::run::run_width;
 use crate::tables::RunTables;
 use numbers::sizes::MOST_EDGES;
+use walker::blocks::width;
 use walker::tables::Walker;
 
 // How many states the first blocks have. The last run may have fewer blocks, so the loop counts what is left.
-#[tactic(auto, using(crate::proofs::OneRun::cycles_here, crate::proofs::OneRun::step_asks, crate::proofs::OneRun::span_asks, crate::proofs::OneRun::fewer_left))]
+#[tactic(auto, using(crate::proofs::OneRun::cycles_here, crate::proofs::OneRun::step_asks, crate::proofs::OneRun::fewer_left))]
 pub fn count_states(w: &Walker, lambda: usize, blocks: usize) -> usize
     requires { Fit w.now lambda blocks }
     ensures { result ≡ length (states_of w.now lambda blocks) }
 {
-    let tables = RunTables::of(w, lambda);
+    let m = w.n_edges;
+    let first = &w.cycles[..m];
+    let second = &w.cycles[MOST_EDGES..MOST_EDGES + m];
+    let kinds = Kinds::of(first, second);
+    let tables = RunTables {
+        first,
+        second,
+        still: kinds.still.as_slice(),
+        side: kinds.side.as_slice(),
+        moved: kinds.moved.as_slice(),
+        ahead: &[],
+        beside: &[],
+        rows: 0,
+        lambda,
+        width: width(w.n_free, lambda),
+    };
     let wide = run_width(w.n_free, lambda);
     let mut space = w.first;
-    let config = &mut space[..w.n_edges];
+    let config = &mut space[..m];
     let mut count = 0;
     let mut left = blocks;
     while 0 < left {
@@ -43,13 +61,31 @@ pub fn write_states(w: &Walker, lambda: usize, blocks: usize, states: &mut [i32]
     requires { Fit w.now lambda blocks × (length (states_of w.now lambda blocks) * w.now.n_edges ≤ length states.old) }
     ensures { StatesWritten (states_of w.now lambda blocks) states.old states.new result }
 {
-    let tables = RunTables::of(w, lambda);
-    let wide = run_width(w.n_free, lambda);
     let m = w.n_edges;
+    let first = &w.cycles[..m];
+    let second = &w.cycles[MOST_EDGES..MOST_EDGES + m];
+    let kinds = Kinds::of(first, second);
+    let width = width(w.n_free, lambda);
+    let rows = rows_at_once(m, width);
+    let ahead = rows_beside(first, 1);
+    let beside = rows_beside(second, rows);
+    let tables = RunTables {
+        first,
+        second,
+        still: kinds.still.as_slice(),
+        side: kinds.side.as_slice(),
+        moved: kinds.moved.as_slice(),
+        ahead: &ahead[..m],
+        beside: &beside,
+        rows,
+        lambda,
+        width,
+    };
+    let wide = run_width(w.n_free, lambda);
     let mut space = w.first;
     let config = &mut space[..m];
-    let mut rows = [0i32; MOST_EDGES];
-    let row = &mut rows[..m];
+    let mut row_space = [0i32; MOST_EDGES];
+    let row = &mut row_space[..m];
     let mut count = 0;
     let mut left = blocks;
     while 0 < left {

@@ -1,7 +1,9 @@
 use Rattle.std.proofs.Common.{◌+◌, ◌*◌, ◌≤◌, ◌∙◌, length, replicate, pos, length-take-le, sym, ap, arith, refl, rules}
-use Rattle.runs.proofs.OneRun.{begun, all_to_come, all_counted, none_to_come, span_asks, these, run_asks, run_then_rest, next_underway}
+use Rattle.runs.proofs.OneRun.{begun, cycles_here, tables_of, all_to_come, all_counted, none_to_come, span_asks, these, run_asks, run_then_rest, next_underway}
 use Rattle.walker.specs.Tables.{states_of}
 use Rattle.runs.proofs.Sides.{run_flat}
+use Rattle.runs.proofs.Raising.{beside_one}
+use Rattle.runs.proofs.Turns.{first_long, second_long, second_signs}
 use Rattle.runs.proofs.Written.{nothing_yet, all_written, among, room, some_more}
 use Rattle.runs.proofs.write_states.Goals as goal
 
@@ -15,49 +17,58 @@ loop-left-init c =
       so_far = rw (all_to_come s.w.now s.lambda s.blocks c.requires.0) (nothing_yet _ _ _);
     }
 
+pub rows_beside-beside-requires : goal.rows_beside-beside-requires
+rows_beside-beside-requires c =
+    let w = c.args.w.now in
+    let fit = cycles_here w c.args.lambda c.args.blocks c.requires.0 in
+    let long = second_long w.n_edges w.n_free c.args.lambda w.cycles fit in
+    let chosen = c.rows_at_once-rows.ensures in
+    (second_signs w.n_edges w.n_free c.args.lambda w.cycles fit, rw long chosen.0, rw long fit.edges_few, chosen.1)
+
 pub span-span-requires : goal.span-span-requires
-span-span-requires c = span_asks c.args.w.now c.args.lambda c.loop-left.config c.loop-left.left c.loop-left.invariant.underway c.loop-left-test.true _ c.of-tables.ensures.first
+span-span-requires c =
+    let s = c.args in
+    let now = c.loop-left.invariant in
+    let of = tables_of s.w.now s.lambda (cycles_here s.w.now s.lambda s.blocks c.requires.0) c.of-kinds.result c.of-kinds.ensures c.as_slice.result.now c.as_slice-2.result.now c.as_slice-3.result.now c.as_slice.ensures c.as_slice-2.ensures c.as_slice-3.ensures c.width-width.result c.width-width.ensures in
+    span_asks of c.loop-left.config c.loop-left.left now.underway c.loop-left-test.true c.min-run.result c.run_width-wide.result c.run_width-wide.ensures c.min-run.ensures
 
 pub overflow_mul-count : goal.overflow_mul-count
 overflow_mul-count c =
     let s = c.args in
     let now = c.loop-left.invariant in
-    let t = c.of-tables.result in
-    let of = c.of-tables.ensures in
-    let enough : c.loop-left.count * s.w.now.n_edges + length (these s.w.now s.lambda t.lambda t.width t.first.now t.second.now t.kinds of.truncation of.wide of.first of.second t.fits.sorted c.loop-left.config c.loop-left.left now.underway c.loop-left-test.true c.min-run.result c.run_width-wide.result c.run_width-wide.ensures c.min-run.ensures c.span-span.result c.span-span.ensures) * s.w.now.n_edges ≤ length s.states.now = room now.so_far _ _ (run_then_rest s.w.now s.lambda t.lambda t.width t.first.now t.second.now t.kinds of.truncation of.wide of.first of.second t.fits.sorted c.loop-left.config c.loop-left.left now.underway c.loop-left-test.true c.min-run.result c.run_width-wide.result c.run_width-wide.ensures c.min-run.ensures c.span-span.result c.span-span.ensures _ refl) c.requires.1 in
+    let of = tables_of s.w.now s.lambda (cycles_here s.w.now s.lambda s.blocks c.requires.0) c.of-kinds.result c.of-kinds.ensures c.as_slice.result.now c.as_slice-2.result.now c.as_slice-3.result.now c.as_slice.ensures c.as_slice-2.ensures c.as_slice-3.ensures c.width-width.result c.width-width.ensures in
+    let enough : c.loop-left.count * s.w.now.n_edges + length (these of c.loop-left.config c.loop-left.left now.underway c.loop-left-test.true c.min-run.result c.run_width-wide.result c.run_width-wide.ensures c.min-run.ensures c.span-span.result c.span-span.ensures) * s.w.now.n_edges ≤ length s.states.now = room now.so_far _ _ (run_then_rest of c.loop-left.config c.loop-left.left now.underway c.loop-left-test.true c.min-run.result c.run_width-wide.result c.run_width-wide.ensures c.min-run.ensures c.span-span.result c.span-span.ensures _ refl) c.requires.1 in
     search rules
 
 pub write-count-requires : goal.write-count-requires
 write-count-requires c =
     let s = c.args in
     let now = c.loop-left.invariant in
-    let t = c.of-tables.result in
-    let of = c.of-tables.ensures in
-    let asks = run_asks s.w.now s.lambda t.lambda t.width t.first.now t.second.now t.kinds of.truncation of.wide of.first of.second t.fits.sorted c.loop-left.config c.loop-left.left now.underway c.loop-left-test.true c.min-run.result c.run_width-wide.result c.run_width-wide.ensures c.min-run.ensures c.span-span.result c.span-span.ensures in
-    (now.space, asks.0, asks.1, rw (now.underway.sized, now.long) (room now.so_far _ _ (run_then_rest s.w.now s.lambda t.lambda t.width t.first.now t.second.now t.kinds of.truncation of.wide of.first of.second t.fits.sorted c.loop-left.config c.loop-left.left now.underway c.loop-left-test.true c.min-run.result c.run_width-wide.result c.run_width-wide.ensures c.min-run.ensures c.span-span.result c.span-span.ensures _ refl) c.requires.1))
+    let of = tables_of s.w.now s.lambda (cycles_here s.w.now s.lambda s.blocks c.requires.0) c.of-kinds.result c.of-kinds.ensures c.as_slice.result.now c.as_slice-2.result.now c.as_slice-3.result.now c.as_slice.ensures c.as_slice-2.ensures c.as_slice-3.ensures c.width-width.result c.width-width.ensures in
+    let long = first_long s.w.now.n_edges s.w.now.n_free s.lambda s.w.now.cycles (cycles_here s.w.now s.lambda s.blocks c.requires.0) in
+    let asks = run_asks of c.loop-left.config c.loop-left.left now.underway c.loop-left-test.true c.min-run.result c.run_width-wide.result c.run_width-wide.ensures c.min-run.ensures c.span-span.result c.span-span.ensures in
+    (now.space, asks.0, asks.1, asks.2, c.rows_beside-beside.ensures, beside_one _ _ _ long c.rows_beside-ahead.ensures, rw now.underway.sized c.rows_at_once-rows.ensures.0, rw (now.underway.sized, now.long) (room now.so_far _ _ (run_then_rest of c.loop-left.config c.loop-left.left now.underway c.loop-left-test.true c.min-run.result c.run_width-wide.result c.run_width-wide.ensures c.min-run.ensures c.span-span.result c.span-span.ensures _ refl) c.requires.1))
 
 pub overflow_add-count : goal.overflow_add-count
 overflow_add-count c =
     let s = c.args in
     let now = c.loop-left.invariant in
-    let t = c.of-tables.result in
-    let of = c.of-tables.ensures in
-    let few : c.loop-left.count + length (these s.w.now s.lambda t.lambda t.width t.first.now t.second.now t.kinds of.truncation of.wide of.first of.second t.fits.sorted c.loop-left.config c.loop-left.left now.underway c.loop-left-test.true c.min-run.result c.run_width-wide.result c.run_width-wide.ensures c.min-run.ensures c.span-span.result c.span-span.ensures) ≤ length (states_of s.w.now s.lambda s.blocks) = among now.so_far _ _ (run_then_rest s.w.now s.lambda t.lambda t.width t.first.now t.second.now t.kinds of.truncation of.wide of.first of.second t.fits.sorted c.loop-left.config c.loop-left.left now.underway c.loop-left-test.true c.min-run.result c.run_width-wide.result c.run_width-wide.ensures c.min-run.ensures c.span-span.result c.span-span.ensures _ refl) in
+    let of = tables_of s.w.now s.lambda (cycles_here s.w.now s.lambda s.blocks c.requires.0) c.of-kinds.result c.of-kinds.ensures c.as_slice.result.now c.as_slice-2.result.now c.as_slice-3.result.now c.as_slice.ensures c.as_slice-2.ensures c.as_slice-3.ensures c.width-width.result c.width-width.ensures in
+    let few : c.loop-left.count + length (these of c.loop-left.config c.loop-left.left now.underway c.loop-left-test.true c.min-run.result c.run_width-wide.result c.run_width-wide.ensures c.min-run.ensures c.span-span.result c.span-span.ensures) ≤ length (states_of s.w.now s.lambda s.blocks) = among now.so_far _ _ (run_then_rest of c.loop-left.config c.loop-left.left now.underway c.loop-left-test.true c.min-run.result c.run_width-wide.result c.run_width-wide.ensures c.min-run.ensures c.span-span.result c.span-span.ensures _ refl) in
     omega (arith, c.write-count.ensures.count, few, all_counted s.w.now s.lambda s.blocks c.requires.0)
 
 pub loop-left-preserved : goal.loop-left-preserved
 loop-left-preserved c =
     let s = c.args in
     let now = c.loop-left.invariant in
-    let t = c.of-tables.result in
-    let of = c.of-tables.ensures in
+    let of = tables_of s.w.now s.lambda (cycles_here s.w.now s.lambda s.blocks c.requires.0) c.of-kinds.result c.of-kinds.ensures c.as_slice.result.now c.as_slice-2.result.now c.as_slice-3.result.now c.as_slice.ensures c.as_slice-2.ensures c.as_slice-3.ensures c.width-width.result c.width-width.ensures in
     let r = c.span-span.result in
-    let flat = run_flat t.lambda t.width c.loop-left.config t.first.now t.second.now r.from r.to ∙ ap (λ k. length (these s.w.now s.lambda t.lambda t.width t.first.now t.second.now t.kinds of.truncation of.wide of.first of.second t.fits.sorted c.loop-left.config c.loop-left.left now.underway c.loop-left-test.true c.min-run.result c.run_width-wide.result c.run_width-wide.ensures c.min-run.ensures c.span-span.result c.span-span.ensures) * k) now.underway.sized in
+    let flat = run_flat s.lambda c.width-width.result c.loop-left.config _ _ r.from r.to ∙ ap (λ k. length (these of c.loop-left.config c.loop-left.left now.underway c.loop-left-test.true c.min-run.result c.run_width-wide.result c.run_width-wide.ensures c.min-run.ensures c.span-span.result c.span-span.ensures) * k) now.underway.sized in
     record {
-      underway = next_underway s.w.now s.lambda t.lambda t.width t.first.now t.second.now t.kinds of.truncation of.wide of.first of.second t.fits.sorted c.loop-left.config c.loop-left.left now.underway c.loop-left-test.true c.min-run.result c.run_width-wide.result c.run_width-wide.ensures c.min-run.ensures c.span-span.result c.span-span.ensures c.step.new.config c.step.ensures;
+      underway = next_underway of c.loop-left.config c.loop-left.left now.underway c.loop-left-test.true c.min-run.result c.run_width-wide.result c.run_width-wide.ensures c.min-run.ensures c.span-span.result c.span-span.ensures c.step.new.config c.step.ensures;
       long = c.write-count.auto.states ∙ now.long;
       space = c.write-count.auto.row ∙ now.space ∙ sym c.step.auto.config;
-      so_far = some_more now.so_far _ _ (run_then_rest s.w.now s.lambda t.lambda t.width t.first.now t.second.now t.kinds of.truncation of.wide of.first of.second t.fits.sorted c.loop-left.config c.loop-left.left now.underway c.loop-left-test.true c.min-run.result c.run_width-wide.result c.run_width-wide.ensures c.min-run.ensures c.span-span.result c.span-span.ensures c.step.new.config c.step.ensures) c.requires.1 c.write-count.result c.write-count.ensures.count flat c.write-count.new.states c.write-count.ensures.list;
+      so_far = some_more now.so_far _ _ (run_then_rest of c.loop-left.config c.loop-left.left now.underway c.loop-left-test.true c.min-run.result c.run_width-wide.result c.run_width-wide.ensures c.min-run.ensures c.span-span.result c.span-span.ensures c.step.new.config c.step.ensures) c.requires.1 c.write-count.result c.write-count.ensures.count flat c.write-count.new.states c.write-count.ensures.list;
     }
 
 pub returns : goal.returns
