@@ -8,8 +8,10 @@ use Rattle.walker.specs.Steps.{Small, CyclesFit, FreeFit, Walkable, Runs}
 use Rattle.walker.specs.Tables.{begin_of, states_of, Fit}
 use Rattle.walker.proofs.BlockStates.{walked_none, states_none, states_counted}
 use Rattle.runs.specs.declared.edges.Kinds.{Kinds}
+use Rattle.runs.specs.declared.tables.RunTables.{RunTables}
+use Rattle.runs.specs.TablesOf.{TablesOf}
 use Rattle.runs.specs.Edges.{Edges, Listed}
-use Rattle.runs.specs.Kinds.{listed, KindsOf}
+use Rattle.runs.specs.Kinds.{KindsOf}
 use Rattle.runs.specs.Runs.{run_states, RunFit, SideSpan, Inside}
 use Rattle.runs.proofs.Walked.{width_positive, counted_long, walkable_run, runs_next}
 use Rattle.runs.proofs.EdgeLists.{edges_listed}
@@ -53,14 +55,15 @@ pub fewer_left : (L n left run wide : ℕ) → 0 < left → wide ≡ width L n �
 fewer_left L n left run wide more of_wide of_run = omega (arith, width_positive L n)
 
 -- ---- its tables
--- the first two cycles, the edges by what they do to them, and the number of candidates in a block
-pub record TablesOf (w : Walker) (L : ℕ) (z y : List ℤ) (still side moved : List ℕ) (n : ℕ) : Type 0 where
-  pub first : z ≡ row w.n_edges w.cycles 0
-  pub second : y ≡ row w.n_edges w.cycles 1
-  pub rests : Edges z y 0 w.n_edges still (length still)
-  pub goes : Edges z y 1 w.n_edges side (length side)
-  pub moves : Edges z y 2 w.n_edges moved (length moved)
-  pub wide : n ≡ width L w.n_free
+-- they have the first two cycles, the edges by what they do to them, the bound, and the number of candidates in a block
+pub record WalkTables (w : Walker) (L : ℕ) (t : RunTables) : Type 0 where
+  pub first : t.first.now ≡ row w.n_edges w.cycles 0
+  pub second : t.second.now ≡ row w.n_edges w.cycles 1
+  pub rests : Edges t.first.now t.second.now 0 w.n_edges t.still.now (length t.still.now)
+  pub goes : Edges t.first.now t.second.now 1 w.n_edges t.side.now (length t.side.now)
+  pub moves : Edges t.first.now t.second.now 2 w.n_edges t.moved.now (length t.moved.now)
+  pub bound : t.lambda ≡ L
+  pub wide : t.width ≡ width L w.n_free
 
 module _ (w : Walker) (L : ℕ) (fit : CyclesFit w.n_edges w.n_free L w.cycles) where
   abbrev z : List ℤ
@@ -69,59 +72,62 @@ module _ (w : Walker) (L : ℕ) (fit : CyclesFit w.n_edges w.n_free L w.cycles) 
   abbrev y : List ℤ
   y = take (63 + w.n_edges - 63) (drop 63 w.cycles)
 
-  pub tables_of : (kinds : Kinds) → KindsOf z y (length z) kinds → (still side moved : List ℕ) → still ≡ listed kinds.still → side ≡ listed kinds.side → moved ≡ listed kinds.moved → (n : ℕ) → n ≡ width L w.n_free → TablesOf w L z y still side moved n
-  tables_of kinds sorted still side moved of_still of_side of_moved n of_n =
+  pub walk_tables : {kinds : Kinds} {n : ℕ} {t : RunTables} → KindsOf z y (length z) kinds → n ≡ width L w.n_free → TablesOf z y kinds L n t → WalkTables w L t
+  walk_tables sorted of_n of =
       let long = first_long w.n_edges w.n_free L w.cycles fit in
       record {
-        first = refl;
-        second = second_part w.n_edges w.n_free L w.cycles fit;
-        rests = rw of_still (rw long at sorted.still);
-        goes = rw of_side (rw long at sorted.side);
-        moves = rw of_moved (rw long at sorted.moved);
-        wide = of_n;
+        first = of.first;
+        second = of.second ∙ second_part w.n_edges w.n_free L w.cycles fit;
+        rests = rw (of.first, of.second, of.still) (rw long at sorted.still);
+        goes = rw (of.first, of.second, of.side) (rw long at sorted.side);
+        moves = rw (of.first, of.second, of.moved) (rw long at sorted.moved);
+        bound = of.bound;
+        wide = of.wide ∙ of_n;
       }
 
 -- ---- a run of it
-module _ {w : Walker} {L n : ℕ} {z y : List ℤ} {still side moved : List ℕ} (of : TablesOf w L z y still side moved n) (s : List ℤ) (left : ℕ) (now : Underway w L s left) (more : 0 < left)
-    (run wide : ℕ) (of_wide : wide ≡ width L (w.n_free - 1)) (of_run : run ≡ min left wide) where
+module _ {w : Walker} {L : ℕ} {t : RunTables} (of : WalkTables w L t) (s : List ℤ) (left : ℕ) (now : Underway w L s left) (more : 0 < left) (run wide : ℕ) (of_wide : wide ≡ width L (w.n_free - 1)) (of_run : run ≡ min left wide) where
   is : run ≡ min left (width L (w.n_free - 1))
   is = of_run ∙ ap (min left) of_wide
 
-  first : z ≡ row (length s) w.cycles 0
+  first : t.first.now ≡ row (length s) w.cycles 0
   first = of.first ∙ ap (λ m. row m w.cycles 0) (sym now.sized)
 
-  second : y ≡ row (length s) w.cycles 1
+  second : t.second.now ≡ row (length s) w.cycles 1
   second = of.second ∙ ap (λ m. row m w.cycles 1) (sym now.sized)
 
-  rests : Edges z y 0 (length s) still (length still)
+  rests : Edges t.first.now t.second.now 0 (length s) t.still.now (length t.still.now)
   rests = rw now.sized of.rests
 
-  goes : Edges z y 1 (length s) side (length side)
+  goes : Edges t.first.now t.second.now 1 (length s) t.side.now (length t.side.now)
   goes = rw now.sized of.goes
 
-  moves : Edges z y 2 (length s) moved (length moved)
+  moves : Edges t.first.now t.second.now 2 (length s) t.moved.now (length t.moved.now)
   moves = rw now.sized of.moves
 
-  pub span_asks : Listed (length s) still (length still) × Listed (length s) side (length side) × (length y ≡ length s) × Small (2 ^ 20) s × Small 1 y × (L ≤ 1000)
+  pub span_asks : Listed (length s) t.still.now (length t.still.now) × Listed (length s) t.side.now (length t.side.now) × (length t.second.now ≡ length s) × Small (2 ^ 20) s × Small 1 t.second.now × (t.lambda ≤ 1000)
   span_asks =
-      let f = run_fits w.free w.cycles L w.n_free s left now.walkable now.runs more run is z y first second still side (length still) (length side) rests goes in (
-        edges_listed z y 0 (length s) f.edges_few still (length still) rests,
-        edges_listed z y 1 (length s) f.edges_few side (length side) goes,
+      let f = run_fits w.free w.cycles L w.n_free s left now.walkable now.runs more run is t.first.now t.second.now first second t.still.now t.side.now (length t.still.now) (length t.side.now) rests goes in (
+        edges_listed t.first.now t.second.now 0 (length s) f.edges_few t.still.now (length t.still.now) rests,
+        edges_listed t.first.now t.second.now 1 (length s) f.edges_few t.side.now (length t.side.now) goes,
         f.second_long,
         f.start,
         f.second_signs,
-        f.truncation,
+        rw of.bound f.truncation,
       )
 
-  module _ (r : Span) (spans : SideSpan L s y still (length still) side (length side) run r) where
+  module _ (r : Span) (spans : SideSpan t.lambda s t.second.now t.still.now (length t.still.now) t.side.now (length t.side.now) run r) where
     abbrev pub these : List (List ℤ)
-    these = run_states L n s z y r.from r.to
+    these = run_states t.lambda t.width s t.first.now t.second.now r.from r.to
 
-    pub run_asks : RunFit L n s z y r.to × Inside L s z y r × Edges z y 2 (length s) moved (length moved)
+    spans_here : SideSpan L s t.second.now t.still.now (length t.still.now) t.side.now (length t.side.now) run r
+    spans_here = rw of.bound at spans
+
+    pub run_asks : RunFit t.lambda t.width s t.first.now t.second.now r.to × Inside t.lambda s t.first.now t.second.now r × Edges t.first.now t.second.now 2 (length s) t.moved.now (length t.moved.now)
     run_asks =
-        rw of.wide (
-          turn_fits w.free w.cycles L w.n_free s left now.walkable now.runs more run is z y first second still side (length still) (length side) rests goes r spans,
-          turn_inside w.free w.cycles L w.n_free s left now.walkable now.runs more run is z y first second still side (length still) (length side) rests goes r spans,
+        rw (of.bound, of.wide) (
+          turn_fits w.free w.cycles L w.n_free s left now.walkable now.runs more run is t.first.now t.second.now first second t.still.now t.side.now (length t.still.now) (length t.side.now) rests goes r spans_here,
+          turn_inside w.free w.cycles L w.n_free s left now.walkable now.runs more run is t.first.now t.second.now first second t.still.now t.side.now (length t.still.now) (length t.side.now) rests goes r spans_here,
           moves,
         )
 
@@ -139,9 +145,9 @@ module _ {w : Walker} {L n : ℕ} {z y : List ℤ} {still side moved : List ℕ}
 
       pub run_then_rest : to_come w L s left ≡ these ++ to_come w L new (left - run)
       run_then_rest =
-          rw (of.wide, ← now.sized)
-          (turn_states w.free w.cycles L w.n_free s left now.walkable now.runs more run is z y first second still side (length still) (length side) rests goes r spans new made
-          ∙ ap (λ m. run_states L (width L w.n_free) s z y r.from r.to ++ walked_states w.free (row m w.cycles) L w.n_free new (left - run)) new_long)
+          rw (of.bound, of.wide, ← now.sized)
+          (turn_states w.free w.cycles L w.n_free s left now.walkable now.runs more run is t.first.now t.second.now first second t.still.now t.side.now (length t.still.now) (length t.side.now) rests goes r spans_here new made
+          ∙ ap (λ m. run_states L (width L w.n_free) s t.first.now t.second.now r.from r.to ++ walked_states w.free (row m w.cycles) L w.n_free new (left - run)) new_long)
 
       pub run_counts : length (to_come w L s left) ≡ length these + length (to_come w L new (left - run))
       run_counts = ap length run_then_rest ∙ length-append these (to_come w L new (left - run))

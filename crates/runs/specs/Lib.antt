@@ -2,3 +2,4 @@ pub mod Edges
 pub mod Kinds
 pub mod Rows
 pub mod Runs
+pub mod TablesOf

@@ -28,18 +28,7 @@ pub fn count_states(w: &Walker, lambda: usize, blocks: usize) -> usize
     let first = &w.cycles[..m];
     let second = &w.cycles[MOST_EDGES..MOST_EDGES + m];
     let kinds = Kinds::of(first, second);
-    let tables = RunTables {
-        first,
-        second,
-        still: kinds.still.as_slice(),
-        side: kinds.side.as_slice(),
-        moved: kinds.moved.as_slice(),
-        ahead: &[],
-        beside: &[],
-        rows: 0,
-        lambda,
-        width: width(w.n_free, lambda),
-    };
+    let tables = RunTables::of(first, second, &kinds, lambda, width(w.n_free, lambda));
     let wide = run_width(w.n_free, lambda);
     let mut space = w.first;
     let config = &mut space[..m];
@@ -70,16 +59,10 @@ pub fn write_states(w: &Walker, lambda: usize, blocks: usize, states: &mut [i32]
     let ahead = rows_beside(first, 1);
     let beside = rows_beside(second, rows);
     let tables = RunTables {
-        first,
-        second,
-        still: kinds.still.as_slice(),
-        side: kinds.side.as_slice(),
-        moved: kinds.moved.as_slice(),
         ahead: &ahead[..m],
         beside: &beside,
         rows,
-        lambda,
-        width,
+        ..RunTables::of(first, second, &kinds, lambda, width)
     };
     let wide = run_width(w.n_free, lambda);
     let mut space = w.first;

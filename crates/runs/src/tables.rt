@@ -1,4 +1,7 @@
 // What the blocks of a walk share.
+ghost use Rattle.runs.specs.TablesOf.{TablesOf};
+
+use crate::edges::Kinds;
 
 // The first two cycles, and the edges by what they do to them. Ahead is the first cycle as numbers, beside begins with the second, as often as
 // rows are raised at once; counting needs neither. The width is the number of candidates in a block. Each method asks for the fields that it reads.
@@ -14,4 +17,30 @@ pub struct RunTables<'a> {
     pub rows: usize,
     pub lambda: usize,
     pub width: usize,
+}
+
+impl<'a> RunTables<'a> {
+    // The tables for counting, where nothing is ahead or beside.
+    pub fn of(
+        first: &'a [i8],
+        second: &'a [i8],
+        kinds: &'a Kinds,
+        lambda: usize,
+        width: usize,
+    ) -> RunTables<'a>
+        ensures { TablesOf first.now second.now kinds.now lambda width result }
+    {
+        RunTables {
+            first,
+            second,
+            still: kinds.still.as_slice(),
+            side: kinds.side.as_slice(),
+            moved: kinds.moved.as_slice(),
+            ahead: &[],
+            beside: &[],
+            rows: 0,
+            lambda,
+            width,
+        }
+    }
 }

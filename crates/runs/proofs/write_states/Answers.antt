@@ -1,5 +1,5 @@
 use Rattle.std.proofs.Common.{◌+◌, ◌*◌, ◌≤◌, ◌∙◌, length, replicate, pos, length-take-le, sym, ap, arith, refl, rules}
-use Rattle.runs.proofs.OneRun.{begun, cycles_here, tables_of, all_to_come, all_counted, none_to_come, span_asks, these, run_asks, run_then_rest, next_underway}
+use Rattle.runs.proofs.OneRun.{begun, cycles_here, walk_tables, all_to_come, all_counted, none_to_come, span_asks, these, run_asks, run_then_rest, next_underway}
 use Rattle.walker.specs.Tables.{states_of}
 use Rattle.runs.proofs.Sides.{run_flat}
 use Rattle.runs.proofs.Raising.{beside_one}
@@ -29,14 +29,14 @@ pub span-span-requires : goal.span-span-requires
 span-span-requires c =
     let s = c.args in
     let now = c.loop-left.invariant in
-    let of = tables_of s.w.now s.lambda (cycles_here s.w.now s.lambda s.blocks c.requires.0) c.of-kinds.result c.of-kinds.ensures c.as_slice.result.now c.as_slice-2.result.now c.as_slice-3.result.now c.as_slice.ensures c.as_slice-2.ensures c.as_slice-3.ensures c.width-width.result c.width-width.ensures in
+    let of = walk_tables s.w.now s.lambda (cycles_here s.w.now s.lambda s.blocks c.requires.0) c.of-kinds.ensures c.width-width.ensures c.of.ensures in
     span_asks of c.loop-left.config c.loop-left.left now.underway c.loop-left-test.true c.min-run.result c.run_width-wide.result c.run_width-wide.ensures c.min-run.ensures
 
 pub overflow_mul-count : goal.overflow_mul-count
 overflow_mul-count c =
     let s = c.args in
     let now = c.loop-left.invariant in
-    let of = tables_of s.w.now s.lambda (cycles_here s.w.now s.lambda s.blocks c.requires.0) c.of-kinds.result c.of-kinds.ensures c.as_slice.result.now c.as_slice-2.result.now c.as_slice-3.result.now c.as_slice.ensures c.as_slice-2.ensures c.as_slice-3.ensures c.width-width.result c.width-width.ensures in
+    let of = walk_tables s.w.now s.lambda (cycles_here s.w.now s.lambda s.blocks c.requires.0) c.of-kinds.ensures c.width-width.ensures c.of.ensures in
     let enough : c.loop-left.count * s.w.now.n_edges + length (these of c.loop-left.config c.loop-left.left now.underway c.loop-left-test.true c.min-run.result c.run_width-wide.result c.run_width-wide.ensures c.min-run.ensures c.span-span.result c.span-span.ensures) * s.w.now.n_edges ≤ length s.states.now = room now.so_far _ _ (run_then_rest of c.loop-left.config c.loop-left.left now.underway c.loop-left-test.true c.min-run.result c.run_width-wide.result c.run_width-wide.ensures c.min-run.ensures c.span-span.result c.span-span.ensures _ refl) c.requires.1 in
     search rules
 
@@ -44,16 +44,16 @@ pub write-count-requires : goal.write-count-requires
 write-count-requires c =
     let s = c.args in
     let now = c.loop-left.invariant in
-    let of = tables_of s.w.now s.lambda (cycles_here s.w.now s.lambda s.blocks c.requires.0) c.of-kinds.result c.of-kinds.ensures c.as_slice.result.now c.as_slice-2.result.now c.as_slice-3.result.now c.as_slice.ensures c.as_slice-2.ensures c.as_slice-3.ensures c.width-width.result c.width-width.ensures in
+    let of = walk_tables s.w.now s.lambda (cycles_here s.w.now s.lambda s.blocks c.requires.0) c.of-kinds.ensures c.width-width.ensures c.of.ensures in
     let long = first_long s.w.now.n_edges s.w.now.n_free s.lambda s.w.now.cycles (cycles_here s.w.now s.lambda s.blocks c.requires.0) in
     let asks = run_asks of c.loop-left.config c.loop-left.left now.underway c.loop-left-test.true c.min-run.result c.run_width-wide.result c.run_width-wide.ensures c.min-run.ensures c.span-span.result c.span-span.ensures in
-    (now.space, asks.0, asks.1, asks.2, c.rows_beside-beside.ensures, beside_one _ _ _ long c.rows_beside-ahead.ensures, rw now.underway.sized c.rows_at_once-rows.ensures.0, rw (now.underway.sized, now.long) (room now.so_far _ _ (run_then_rest of c.loop-left.config c.loop-left.left now.underway c.loop-left-test.true c.min-run.result c.run_width-wide.result c.run_width-wide.ensures c.min-run.ensures c.span-span.result c.span-span.ensures _ refl) c.requires.1))
+    (now.space, asks.0, asks.1, asks.2, rw c.of.ensures.second c.rows_beside-beside.ensures, beside_one _ _ _ long c.rows_beside-ahead.ensures ∙ sym c.of.ensures.first, rw now.underway.sized c.rows_at_once-rows.ensures.0, rw (now.underway.sized, now.long) (room now.so_far _ _ (run_then_rest of c.loop-left.config c.loop-left.left now.underway c.loop-left-test.true c.min-run.result c.run_width-wide.result c.run_width-wide.ensures c.min-run.ensures c.span-span.result c.span-span.ensures _ refl) c.requires.1))
 
 pub overflow_add-count : goal.overflow_add-count
 overflow_add-count c =
     let s = c.args in
     let now = c.loop-left.invariant in
-    let of = tables_of s.w.now s.lambda (cycles_here s.w.now s.lambda s.blocks c.requires.0) c.of-kinds.result c.of-kinds.ensures c.as_slice.result.now c.as_slice-2.result.now c.as_slice-3.result.now c.as_slice.ensures c.as_slice-2.ensures c.as_slice-3.ensures c.width-width.result c.width-width.ensures in
+    let of = walk_tables s.w.now s.lambda (cycles_here s.w.now s.lambda s.blocks c.requires.0) c.of-kinds.ensures c.width-width.ensures c.of.ensures in
     let few : c.loop-left.count + length (these of c.loop-left.config c.loop-left.left now.underway c.loop-left-test.true c.min-run.result c.run_width-wide.result c.run_width-wide.ensures c.min-run.ensures c.span-span.result c.span-span.ensures) ≤ length (states_of s.w.now s.lambda s.blocks) = among now.so_far _ _ (run_then_rest of c.loop-left.config c.loop-left.left now.underway c.loop-left-test.true c.min-run.result c.run_width-wide.result c.run_width-wide.ensures c.min-run.ensures c.span-span.result c.span-span.ensures _ refl) in
     omega (arith, c.write-count.ensures.count, few, all_counted s.w.now s.lambda s.blocks c.requires.0)
 
@@ -61,9 +61,9 @@ pub loop-left-preserved : goal.loop-left-preserved
 loop-left-preserved c =
     let s = c.args in
     let now = c.loop-left.invariant in
-    let of = tables_of s.w.now s.lambda (cycles_here s.w.now s.lambda s.blocks c.requires.0) c.of-kinds.result c.of-kinds.ensures c.as_slice.result.now c.as_slice-2.result.now c.as_slice-3.result.now c.as_slice.ensures c.as_slice-2.ensures c.as_slice-3.ensures c.width-width.result c.width-width.ensures in
+    let of = walk_tables s.w.now s.lambda (cycles_here s.w.now s.lambda s.blocks c.requires.0) c.of-kinds.ensures c.width-width.ensures c.of.ensures in
     let r = c.span-span.result in
-    let flat = run_flat s.lambda c.width-width.result c.loop-left.config _ _ r.from r.to ∙ ap (λ k. length (these of c.loop-left.config c.loop-left.left now.underway c.loop-left-test.true c.min-run.result c.run_width-wide.result c.run_width-wide.ensures c.min-run.ensures c.span-span.result c.span-span.ensures) * k) now.underway.sized in
+    let flat = run_flat _ _ c.loop-left.config _ _ r.from r.to ∙ ap (λ k. length (these of c.loop-left.config c.loop-left.left now.underway c.loop-left-test.true c.min-run.result c.run_width-wide.result c.run_width-wide.ensures c.min-run.ensures c.span-span.result c.span-span.ensures) * k) now.underway.sized in
     record {
       underway = next_underway of c.loop-left.config c.loop-left.left now.underway c.loop-left-test.true c.min-run.result c.run_width-wide.result c.run_width-wide.ensures c.min-run.ensures c.span-span.result c.span-span.ensures c.step.new.config c.step.ensures;
       long = c.write-count.auto.states ∙ now.long;
