@@ -51,8 +51,8 @@ none_to_come w L s left none = ap (λ k. length (to_come w L s k)) none ∙ ap l
 pub step_asks : (w : Walker) (L : ℕ) (s : List ℤ) (left : ℕ) → Underway w L s left → 0 < left → CyclesFit (length s) w.n_free L w.cycles × FreeFit (length s) w.n_free w.free × Small (2 ^ 20) s
 step_asks w L s left now more = (now.walkable.cycles_fit, now.walkable.free_fit, rw (walked_none w.free (row (length s) w.cycles) L w.n_free s) at (now.walkable.values 0 more))
 
-pub fewer_left : (L n left run wide : ℕ) → 0 < left → wide ≡ width L n → run ≡ min left wide → left - run < left
-fewer_left L n left run wide more of_wide of_run = omega (arith, width_positive L n)
+pub wide_enough : (L n wide : ℕ) → wide ≡ width L n → 0 < wide
+wide_enough L n wide of_wide = omega (arith, width_positive L n)
 
 -- ---- its tables
 -- they have the first two cycles, the edges by what they do to them, the bound, and the number of candidates in a block

@@ -18,8 +18,8 @@ use numbers::sizes::MOST_EDGES;
 use walker::blocks::width;
 use walker::tables::Walker;
 
-// How many states the first blocks have. The last run may have fewer blocks, so the loop counts what is left.
-#[tactic(auto, using(crate::proofs::OneRun::cycles_here, crate::proofs::OneRun::step_asks, crate::proofs::OneRun::fewer_left))]
+// How many states the first blocks have. The last run may have fewer blocks.
+#[tactic(auto, using(crate::proofs::OneRun::cycles_here, crate::proofs::OneRun::step_asks, crate::proofs::OneRun::wide_enough))]
 pub fn count_states(w: &Walker, lambda: usize, blocks: usize) -> usize
     requires { Fit w.now lambda blocks }
     ensures { result ≡ length (states_of w.now lambda blocks) }
@@ -33,19 +33,17 @@ pub fn count_states(w: &Walker, lambda: usize, blocks: usize) -> usize
     let mut space = w.first;
     let config = &mut space[..m];
     let mut count = 0;
-    let mut left = blocks;
-    while 0 < left {
-        let run = left.min(wide);
+    for from in (0..blocks).step_by(wide) {
+        let run = (blocks - from).min(wide);
         let span = tables.span(config, run);
         count += tables.count(config, span);
         w.step(config, lambda, 2);
-        left -= run;
     }
     count
 }
 
-// The states of the first blocks go to the beginning of a list. How many they are. The loop counts as in count_states.
-#[tactic(auto, using(crate::proofs::OneRun::cycles_here, crate::proofs::OneRun::step_asks, crate::proofs::OneRun::fewer_left))]
+// The states of the first blocks go to the beginning of a list. How many they are.
+#[tactic(auto, using(crate::proofs::OneRun::cycles_here, crate::proofs::OneRun::step_asks, crate::proofs::OneRun::wide_enough))]
 pub fn write_states(w: &Walker, lambda: usize, blocks: usize, states: &mut [i32]) -> usize
     requires { Fit w.now lambda blocks × (length (states_of w.now lambda blocks) * w.now.n_edges ≤ length states.old) }
     ensures { StatesWritten (states_of w.now lambda blocks) states.old states.new result }
@@ -70,13 +68,11 @@ pub fn write_states(w: &Walker, lambda: usize, blocks: usize, states: &mut [i32]
     let mut row_space = [0i32; MOST_EDGES];
     let row = &mut row_space[..m];
     let mut count = 0;
-    let mut left = blocks;
-    while 0 < left {
-        let run = left.min(wide);
+    for from in (0..blocks).step_by(wide) {
+        let run = (blocks - from).min(wide);
         let span = tables.span(config, run);
         count += tables.write(states, count * m, row, config, span);
         w.step(config, lambda, 2);
-        left -= run;
     }
     count
 }
