@@ -65,8 +65,8 @@ fn raise(states: &mut [i32], at: usize, back: usize, amounts: &[i32])
 }
 
 impl<'a> RunTables<'a> {
-    // The same for a number of rows, with the second cycle added to each. The last turn may have fewer rows than are raised at once, so the
-    // loop counts what is left.
+    // The same for a number of rows, with the second cycle added to each. The last turn may have fewer rows than are raised at once.
+    // The loop counts what is left: step_by was measured to be slower on short blocks.
     fn raise_rows(&self, states: &mut [i32], at: usize, back: usize, number: usize)
         requires { Raisable states.old at back (repeated self.now.second.now number) × Beside self.now.second.now self.now.rows self.now.beside.now × (1 ≤ self.now.rows) × (self.now.rows * length self.now.second.now ≤ 256) }
         ensures { states.new ≡ put states.old at (raised states.old (at - back) (repeated self.now.second.now number)) }
