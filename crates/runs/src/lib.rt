@@ -18,7 +18,7 @@ use numbers::sizes::MOST_EDGES;
 use walker::blocks::width;
 use walker::tables::Walker;
 
-// How many states the first blocks have. The last run may have fewer blocks.
+// How many states the first blocks have. By number: the last run may have fewer blocks.
 #[tactic(auto, using(crate::proofs::OneRun::cycles_here, crate::proofs::OneRun::step_asks, crate::proofs::OneRun::wide_enough))]
 pub fn count_states(w: &Walker, lambda: usize, blocks: usize) -> usize
     requires { Fit w.now lambda blocks }
@@ -42,7 +42,7 @@ pub fn count_states(w: &Walker, lambda: usize, blocks: usize) -> usize
     count
 }
 
-// The states of the first blocks go to the beginning of a list. How many they are.
+// The states of the first blocks go to the beginning of a list. How many they are. By number as in count_states.
 #[tactic(auto, using(crate::proofs::OneRun::cycles_here, crate::proofs::OneRun::step_asks, crate::proofs::OneRun::wide_enough))]
 pub fn write_states(w: &Walker, lambda: usize, blocks: usize, states: &mut [i32]) -> usize
     requires { Fit w.now lambda blocks × (length (states_of w.now lambda blocks) * w.now.n_edges ≤ length states.old) }

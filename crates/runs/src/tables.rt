@@ -3,8 +3,8 @@ ghost use Rattle.runs.specs.TablesOf.{TablesOf};
 
 use crate::edges::Kinds;
 
-// The first two cycles, and the edges by what they do to them. Ahead is the first cycle as numbers, beside begins with the second, as often as
-// rows are raised at once; counting needs neither. The width is the number of candidates in a block. Each method asks for the fields that it reads.
+// The first two cycles, and the edges by what they do to them. Ahead is the first cycle as numbers, beside begins with the second, as often
+// as rows are raised at once. Counting needs neither. The width is the number of candidates in a block. Each method asks for what it reads.
 #[derive(Clone, Copy)]
 pub struct RunTables<'a> {
     pub first: &'a [i8],
