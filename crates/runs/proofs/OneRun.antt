@@ -1,5 +1,5 @@
 -- One run of the walk, by the tables.
-use Rattle.std.proofs.Common.{◌≡◌, ℕ, ◌+◌, ◌-◌, ◌^◌, ◌≤◌, ◌<◌, min, List, ◌++◌, length, take, ℤ, sym, ap, refl, ◌∙◌, arith, length-append}
+use Rattle.std.proofs.Common.{◌≡◌, ℕ, ◌+◌, ◌-◌, ◌^◌, ◌≤◌, ◌<◌, min, List, ◌++◌, length, take, drop, ℤ, sym, ap, refl, ◌∙◌, arith, length-append}
 use Rattle.cycles.specs.Cycles.{row}
 use Rattle.walker.specs.declared.blocks.Span.{Span}
 use Rattle.walker.specs.declared.tables.Walker.{Walker}
@@ -7,13 +7,15 @@ use Rattle.walker.specs.Walker.{stepped, width, walked_states}
 use Rattle.walker.specs.Steps.{Small, CyclesFit, FreeFit, Walkable, Runs}
 use Rattle.walker.specs.Tables.{begin_of, states_of, Fit}
 use Rattle.walker.proofs.BlockStates.{walked_none, states_none, states_counted}
-use Rattle.walker.proofs.Stepping.{cycle_long}
 use Rattle.runs.specs.declared.edges.Kinds.{Kinds}
-use Rattle.runs.specs.Edges.{Edges}
-use Rattle.runs.specs.Kinds.{listed, KindsOf}
+use Rattle.runs.specs.declared.tables.RunTables.{RunTables}
+use Rattle.runs.specs.TablesOf.{TablesOf}
+use Rattle.runs.specs.Edges.{Edges, Listed}
+use Rattle.runs.specs.Kinds.{KindsOf}
 use Rattle.runs.specs.Runs.{run_states, RunFit, SideSpan, Inside}
 use Rattle.runs.proofs.Walked.{width_positive, counted_long, walkable_run, runs_next}
-use Rattle.runs.proofs.Turns.{turn_fits, turn_inside, turn_states}
+use Rattle.runs.proofs.EdgeLists.{edges_listed}
+use Rattle.runs.proofs.Turns.{first_long, second_part, run_fits, turn_fits, turn_inside, turn_states}
 
 -- a walk that may go on from s for so many blocks
 pub record Underway (w : Walker) (L : ℕ) (s : List ℤ) (left : ℕ) : Type 0 where
@@ -49,54 +51,84 @@ none_to_come w L s left none = ap (λ k. length (to_come w L s k)) none ∙ ap l
 pub step_asks : (w : Walker) (L : ℕ) (s : List ℤ) (left : ℕ) → Underway w L s left → 0 < left → CyclesFit (length s) w.n_free L w.cycles × FreeFit (length s) w.n_free w.free × Small (2 ^ 20) s
 step_asks w L s left now more = (now.walkable.cycles_fit, now.walkable.free_fit, rw (walked_none w.free (row (length s) w.cycles) L w.n_free s) at (now.walkable.values 0 more))
 
-pub span_asks : (w : Walker) (L : ℕ) (s : List ℤ) (left : ℕ) → Underway w L s left → 0 < left → (z : List ℤ) → z ≡ row w.n_edges w.cycles 0 → (length z ≡ length s) × Small (2 ^ 20) s
-span_asks w L s left now more z of_z = (
-  ap length (of_z ∙ ap (λ m. row m w.cycles 0) (sym now.sized)) ∙ cycle_long (length s) w.n_free L w.cycles now.walkable.cycles_fit 0 (omega arith),
-  (step_asks w L s left now more).2,
-)
+pub wide_enough : (L n wide : ℕ) → wide ≡ width L n → 0 < wide
+wide_enough L n wide of_wide = omega (arith, width_positive L n)
 
-pub fewer_left : (L n left run wide : ℕ) → 0 < left → wide ≡ width L n → run ≡ min left wide → left - run < left
-fewer_left L n left run wide more of_wide of_run = omega (arith, width_positive L n)
+-- ---- its tables
+-- they have the first two cycles, the edges by what they do to them, the bound, and the number of candidates in a block
+pub record WalkTables (w : Walker) (L : ℕ) (t : RunTables) : Type 0 where
+  pub first : t.first.now ≡ row w.n_edges w.cycles 0
+  pub second : t.second.now ≡ row w.n_edges w.cycles 1
+  pub rests : Edges t.first.now t.second.now 0 w.n_edges t.still.now (length t.still.now)
+  pub goes : Edges t.first.now t.second.now 1 w.n_edges t.side.now (length t.side.now)
+  pub moves : Edges t.first.now t.second.now 2 w.n_edges t.moved.now (length t.moved.now)
+  pub bound : t.lambda ≡ L
+  pub wide : t.width ≡ width L w.n_free
+
+module _ (w : Walker) (L : ℕ) (fit : CyclesFit w.n_edges w.n_free L w.cycles) where
+  abbrev z : List ℤ
+  z = take w.n_edges w.cycles
+
+  abbrev y : List ℤ
+  y = take (63 + w.n_edges - 63) (drop 63 w.cycles)
+
+  pub walk_tables : {kinds : Kinds} {n : ℕ} {t : RunTables} → KindsOf z y (length z) kinds → n ≡ width L w.n_free → TablesOf z y kinds L n t → WalkTables w L t
+  walk_tables sorted of_n of =
+      let long = first_long w.n_edges w.n_free L w.cycles fit in
+      record {
+        first = of.first;
+        second = of.second ∙ second_part w.n_edges w.n_free L w.cycles fit;
+        rests = rw (of.first, of.second, of.still) (rw long at sorted.still);
+        goes = rw (of.first, of.second, of.side) (rw long at sorted.side);
+        moves = rw (of.first, of.second, of.moved) (rw long at sorted.moved);
+        bound = of.bound;
+        wide = of.wide ∙ of_n;
+      }
 
 -- ---- a run of it
-module _ (w : Walker) (L M n : ℕ) (z y : List ℤ) (kinds : Kinds) (of_M : M ≡ L) (of_n : n ≡ width L w.n_free) (of_z : z ≡ row w.n_edges w.cycles 0) (of_y : y ≡ row w.n_edges w.cycles 1) (sorted : KindsOf z y (length z) kinds)
-    (s : List ℤ) (left : ℕ) (now : Underway w L s left) (more : 0 < left) (run wide : ℕ) (of_wide : wide ≡ width L (w.n_free - 1)) (of_run : run ≡ min left wide) where
-  abbrev still : List ℕ
-  still = listed kinds.still
-
-  abbrev side : List ℕ
-  side = listed kinds.side
-
+module _ {w : Walker} {L : ℕ} {t : RunTables} (of : WalkTables w L t) (s : List ℤ) (left : ℕ) (now : Underway w L s left) (more : 0 < left) (run wide : ℕ) (of_wide : wide ≡ width L (w.n_free - 1)) (of_run : run ≡ min left wide) where
   is : run ≡ min left (width L (w.n_free - 1))
   is = of_run ∙ ap (min left) of_wide
 
-  first : z ≡ row (length s) w.cycles 0
-  first = of_z ∙ ap (λ m. row m w.cycles 0) (sym now.sized)
+  first : t.first.now ≡ row (length s) w.cycles 0
+  first = of.first ∙ ap (λ m. row m w.cycles 0) (sym now.sized)
 
-  second : y ≡ row (length s) w.cycles 1
-  second = of_y ∙ ap (λ m. row m w.cycles 1) (sym now.sized)
+  second : t.second.now ≡ row (length s) w.cycles 1
+  second = of.second ∙ ap (λ m. row m w.cycles 1) (sym now.sized)
 
-  long : length z ≡ length s
-  long = ap length first ∙ cycle_long (length s) w.n_free L w.cycles now.walkable.cycles_fit 0 (omega arith)
+  rests : Edges t.first.now t.second.now 0 (length s) t.still.now (length t.still.now)
+  rests = rw now.sized of.rests
 
-  rests : Edges z y 0 (length s) still (length still)
-  rests = rw (← long) sorted.still
+  goes : Edges t.first.now t.second.now 1 (length s) t.side.now (length t.side.now)
+  goes = rw now.sized of.goes
 
-  goes : Edges z y 1 (length s) side (length side)
-  goes = rw (← long) sorted.side
+  moves : Edges t.first.now t.second.now 2 (length s) t.moved.now (length t.moved.now)
+  moves = rw now.sized of.moves
 
-  module _ (r : Span) (spans : SideSpan M s y still (length still) side (length side) run r) where
+  pub span_asks : Listed (length s) t.still.now (length t.still.now) × Listed (length s) t.side.now (length t.side.now) × (length t.second.now ≡ length s) × Small (2 ^ 20) s × Small 1 t.second.now × (t.lambda ≤ 1000)
+  span_asks =
+      let f = run_fits w.free w.cycles L w.n_free s left now.walkable now.runs more run is t.first.now t.second.now first second t.still.now t.side.now (length t.still.now) (length t.side.now) rests goes in (
+        edges_listed t.first.now t.second.now 0 (length s) f.edges_few t.still.now (length t.still.now) rests,
+        edges_listed t.first.now t.second.now 1 (length s) f.edges_few t.side.now (length t.side.now) goes,
+        f.second_long,
+        f.start,
+        f.second_signs,
+        rw of.bound f.truncation,
+      )
+
+  module _ (r : Span) (spans : SideSpan t.lambda s t.second.now t.still.now (length t.still.now) t.side.now (length t.side.now) run r) where
     abbrev pub these : List (List ℤ)
-    these = run_states M n s z y r.from r.to
+    these = run_states t.lambda t.width s t.first.now t.second.now r.from r.to
 
-    spans_here : SideSpan L s y still (length still) side (length side) run r
-    spans_here = rw of_M at spans
+    spans_here : SideSpan L s t.second.now t.still.now (length t.still.now) t.side.now (length t.side.now) run r
+    spans_here = rw of.bound at spans
 
-    pub run_asks : RunFit M n s z y r.to × Inside M s z y r
+    pub run_asks : RunFit t.lambda t.width s t.first.now t.second.now r.to × Inside t.lambda s t.first.now t.second.now r × Edges t.first.now t.second.now 2 (length s) t.moved.now (length t.moved.now)
     run_asks =
-        rw (of_M, of_n) (
-          turn_fits w.free w.cycles L w.n_free s left now.walkable now.runs more run is z y first second still side (length still) (length side) rests goes r spans_here,
-          turn_inside w.free w.cycles L w.n_free s left now.walkable now.runs more run is z y first second still side (length still) (length side) rests goes r spans_here,
+        rw (of.bound, of.wide) (
+          turn_fits w.free w.cycles L w.n_free s left now.walkable now.runs more run is t.first.now t.second.now first second t.still.now t.side.now (length t.still.now) (length t.side.now) rests goes r spans_here,
+          turn_inside w.free w.cycles L w.n_free s left now.walkable now.runs more run is t.first.now t.second.now first second t.still.now t.side.now (length t.still.now) (length t.side.now) rests goes r spans_here,
+          moves,
         )
 
     module _ (new : List ℤ) (made : new ≡ stepped w.free (row (length s) w.cycles) L (w.n_free - 2) 2 s) where
@@ -113,9 +145,9 @@ module _ (w : Walker) (L M n : ℕ) (z y : List ℤ) (kinds : Kinds) (of_M : M �
 
       pub run_then_rest : to_come w L s left ≡ these ++ to_come w L new (left - run)
       run_then_rest =
-          rw (of_M, of_n, ← now.sized)
-          (turn_states w.free w.cycles L w.n_free s left now.walkable now.runs more run is z y first second still side (length still) (length side) rests goes r spans_here new made
-          ∙ ap (λ m. run_states L (width L w.n_free) s z y r.from r.to ++ walked_states w.free (row m w.cycles) L w.n_free new (left - run)) new_long)
+          rw (of.bound, of.wide, ← now.sized)
+          (turn_states w.free w.cycles L w.n_free s left now.walkable now.runs more run is t.first.now t.second.now first second t.still.now t.side.now (length t.still.now) (length t.side.now) rests goes r spans_here new made
+          ∙ ap (λ m. run_states L (width L w.n_free) s t.first.now t.second.now r.from r.to ++ walked_states w.free (row m w.cycles) L w.n_free new (left - run)) new_long)
 
       pub run_counts : length (to_come w L s left) ≡ length these + length (to_come w L new (left - run))
       run_counts = ap length run_then_rest ∙ length-append these (to_come w L new (left - run))

@@ -8,7 +8,6 @@ use Rattle.walker.specs.Walker.{block_rows}
 use Rattle.walker.specs.Blocks.{SpanTo, SpanOfBlock}
 use Rattle.runs.specs.declared.tables.RunTables.{RunTables}
 use Rattle.runs.specs.Edges.{Edges, Listed, picked}
-use Rattle.runs.specs.Kinds.{listed}
 use Rattle.runs.specs.Rows.{RowsBefore}
 use Rattle.runs.specs.Runs.{run_states, RunFit, Inside}
 use Rattle.runs.proofs.EdgeLists.{edges_listed}
@@ -16,15 +15,12 @@ use Rattle.runs.proofs.Sides.{block_spans}
 use Rattle.runs.proofs.RunRoom.{all_room, block_room}
 use Rattle.runs.proofs.RunRows.{count_next, count_fits, next_written, rows_behind, once_more, once_less}
 
-module _ (t : RunTables) (s : List ℤ) (span : Span) (fit : RunFit t.lambda t.width s t.first.now t.second.now span.to) where
+module _ (t : RunTables) (s : List ℤ) (span : Span) (fit : RunFit t.lambda t.width s t.first.now t.second.now span.to) (moves : Edges t.first.now t.second.now 2 (length s) t.moved.now (length t.moved.now)) where
   abbrev moved : List ℕ
-  moved = listed t.kinds.moved
+  moved = t.moved.now
 
   abbrev states : ℕ → ℕ → List (List ℤ)
   states from to = run_states t.lambda t.width s t.first.now t.second.now from to
-
-  moves : Edges t.first.now t.second.now 2 (length s) moved (length moved)
-  moves = rw (← fit.first_long) t.fits.sorted.moved
 
   pub moves_listed : Listed (length s) moved (length moved)
   moves_listed = edges_listed t.first.now t.second.now 2 (length s) fit.edges_few moved (length moved) moves

@@ -23,7 +23,7 @@ module _ (m n L : ℕ) (cycles : List ℤ) (fit : CyclesFit m n L cycles) where
   abbrev second : List ℤ
   second = take (63 + m - 63) (drop 63 cycles)
 
-  second_part : second ≡ row m cycles 1
+  pub second_part : second ≡ row m cycles 1
   second_part = let e : 63 + m - 63 ≡ m = omega arith in rw e
 
   pub first_long : length first ≡ m
@@ -41,7 +41,7 @@ module _ (m n L : ℕ) (cycles : List ℤ) (fit : CyclesFit m n L cycles) where
 -- ---- the run
 module _ (free : List ℕ) (cycles : List ℤ) (L n : ℕ) (s : List ℤ) (left : ℕ) (fit : Walkable free cycles L n s left) (runs : Runs free cycles L n s) (more : 0 < left) (run : ℕ) (is : run ≡ min left (width L (n - 1)))
     (z y : List ℤ) (first : z ≡ row (length s) cycles 0) (second : y ≡ row (length s) cycles 1) (still side : List ℕ) (a b : ℕ) (rests : Edges z y 0 (length s) still a) (goes : Edges z y 1 (length s) side b) where
-  run_fits : RunFit L (width L n) s z y run
+  pub run_fits : RunFit L (width L n) s z y run
   run_fits = rw (first, second) (this_run_fits free cycles L n s left fit runs more run is)
 
   module _ (r : Span) (spans : SideSpan L s y still a side b run r) where

@@ -2,5 +2,4 @@ pub mod Edges
 pub mod Kinds
 pub mod Rows
 pub mod Runs
-pub mod Tables
 pub mod TablesOf

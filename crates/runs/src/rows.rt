@@ -65,10 +65,10 @@ fn raise(states: &mut [i32], at: usize, back: usize, amounts: &[i32])
 }
 
 impl<'a> RunTables<'a> {
-    // The same for a number of rows, with the second cycle added to each. The last turn may have fewer rows than are raised at once, so the
-    // loop counts what is left.
+    // The same for a number of rows, with the second cycle added to each. The last turn may have fewer rows than are raised at once.
+    // The loop counts what is left: step_by was measured to be slower on short blocks.
     fn raise_rows(&self, states: &mut [i32], at: usize, back: usize, number: usize)
-        requires { Raisable states.old at back (repeated self.now.second.now number) × (1 ≤ self.now.rows) }
+        requires { Raisable states.old at back (repeated self.now.second.now number) × Beside self.now.second.now self.now.rows self.now.beside.now × (1 ≤ self.now.rows) × (self.now.rows * length self.now.second.now ≤ 256) }
         ensures { states.new ≡ put states.old at (raised states.old (at - back) (repeated self.now.second.now number)) }
     {
         let m = self.second.len();
@@ -84,20 +84,19 @@ impl<'a> RunTables<'a> {
 
     // The rows of a block go to a place of the list. The first is worked out; each other is the one before it with the first cycle added.
     // Counted: a turn reads the row before the one that it writes.
-    fn write_rows(&self, states: &mut [i32], at: usize, config: &[i32], span: Span)
-        requires { Addable config.now (pos 0) self.now.first.now × (span.to ≤ 2 ^ 20) × (at + (span.to - span.from) * length config.now ≤ length states.old) }
+    pub fn write_rows(&self, states: &mut [i32], at: usize, config: &[i32], span: Span)
+        requires { Addable config.now (pos 0) self.now.first.now × (span.to ≤ 2 ^ 20) × (at + (span.to - span.from) * length config.now ≤ length states.old) × (self.now.ahead.now ≡ self.now.first.now) }
         ensures { states.new ≡ put states.old at (flatten (block_rows config.now self.now.first.now span.from span.to)) }
     {
         if span.is_empty() {
             return;
         }
         let m = config.len();
-        let ahead = &self.ahead[..m];
         write_row(states, at, config, self.first, span.from);
         let mut place = at;
         for _ in span.from + 1..span.to {
             place += m;
-            raise(states, place, m, ahead);
+            raise(states, place, m, self.ahead);
         }
     }
 
@@ -112,7 +111,7 @@ impl<'a> RunTables<'a> {
         span: Span,
         last: Span,
     )
-        requires { Addable config.now (pos 0) self.now.first.now × Addable config.now (pos 0) self.now.second.now × (span.to ≤ 2 ^ 20) × (at + (span.to - span.from) * length config.now ≤ length states.old) × RowsBefore states.old at (with_cycle config.now (neg_ℤ (pos 1)) self.now.second.now) self.now.first.now last }
+        requires { Addable config.now (pos 0) self.now.first.now × Addable config.now (pos 0) self.now.second.now × (span.to ≤ 2 ^ 20) × (at + (span.to - span.from) * length config.now ≤ length states.old) × RowsBefore states.old at (with_cycle config.now (neg_ℤ (pos 1)) self.now.second.now) self.now.first.now last × Beside self.now.second.now self.now.rows self.now.beside.now × (self.now.ahead.now ≡ self.now.first.now) × (self.now.rows * length config.now ≤ 256) }
         ensures { states.new ≡ put states.old at (flatten (block_rows config.now self.now.first.now span.from span.to)) }
     {
         let from = span.from;

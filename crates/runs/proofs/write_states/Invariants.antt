@@ -1,16 +1,13 @@
-use Rattle.std.proofs.Common.{◌≡◌, length}
+use Rattle.std.proofs.Common.{◌≡◌, ◌-◌, length}
 use Rattle.walker.specs.Tables.{states_of}
 use Rattle.runs.proofs.OneRun.{Underway, to_come}
 use Rattle.runs.proofs.Written.{SoFar}
 use Rattle.runs.proofs.write_states.Given as goal
 
-abbrev pub invariant-loop-left : goal.invariant-loop-left
-invariant-loop-left l = record {
-  underway : Underway l.w l.lambda l.config l.left;
+abbrev pub invariant-loop-from : goal.invariant-loop-from
+invariant-loop-from l = record {
+  underway : Underway l.w l.lambda l.config (l.blocks - l.from);
   long : length l.states ≡ length l.fn.states;
   space : length l.row ≡ length l.config;
-  so_far : SoFar (states_of l.w l.lambda l.blocks) l.w.n_edges l.count (to_come l.w l.lambda l.config l.left) l.fn.states l.states;
+  so_far : SoFar (states_of l.w l.lambda l.blocks) l.w.n_edges l.count (to_come l.w l.lambda l.config (l.blocks - l.from)) l.fn.states l.states;
 }
-
-abbrev pub decreases-loop-left : goal.decreases-loop-left
-decreases-loop-left l = l.left

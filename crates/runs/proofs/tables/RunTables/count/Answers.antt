@@ -17,25 +17,26 @@ pub span_over-requires : goal.span_over-requires
 span_over-requires c =
     let fit = c.requires.0 in
     let times : to_z w32 c.loop-i.i ≡ pos c.loop-i.i = to_z_pos w32 _ (omega (arith, fit.few)) in
-    rw (c.as_slice-moved.ensures, times) (
-      moves_listed c.args.self.now c.args.config.now c.args.span fit,
+    rw times (
+      moves_listed c.args.self.now c.args.config.now c.args.span fit c.requires.2,
       fit.first_long,
       record { sized = fit.second_long; values = λ e. omega (arith, fit.start e); times = omega (arith, fit.few); signs = fit.second_signs },
       fit.values c.loop-i.i (omega arith),
       fit.first_signs,
+      fit.truncation,
     )
 
 pub overflow_add-count : goal.overflow_add-count
 overflow_add-count c =
     let times : to_z w32 c.loop-i.i ≡ pos c.loop-i.i = to_z_pos w32 _ (omega (arith, c.requires.0.few)) in
-    let narrowed = rw (c.as_slice-moved.ensures, times) at c.span_over.ensures in
-    omega (arith, c.size-count.ensures, c.loop-i.invariant.count, counted c.args.self.now c.args.config.now c.args.span c.requires.0 c.requires.1 c.loop-i.i c.loop-i.auto.i (omega arith) c.span_over.result narrowed, countable c.args.self.now c.args.config.now c.args.span c.requires.0 c.requires.1 c.loop-i.i c.loop-i.auto.i (omega arith) c.span_over.result narrowed)
+    let narrowed = rw times at c.span_over.ensures in
+    omega (arith, c.size-count.ensures, c.loop-i.invariant.count, counted c.args.self.now c.args.config.now c.args.span c.requires.0 c.requires.2 c.requires.1 c.loop-i.i c.loop-i.auto.i (omega arith) c.span_over.result narrowed, countable c.args.self.now c.args.config.now c.args.span c.requires.0 c.requires.2 c.requires.1 c.loop-i.i c.loop-i.auto.i (omega arith) c.span_over.result narrowed)
 
 pub loop-i-preserved : goal.loop-i-preserved
 loop-i-preserved c =
     let times : to_z w32 c.loop-i.i ≡ pos c.loop-i.i = to_z_pos w32 _ (omega (arith, c.requires.0.few)) in
-    let narrowed = rw (c.as_slice-moved.ensures, times) at c.span_over.ensures in
-    record { below = omega arith; count = omega (arith, c.size-count.ensures, c.loop-i.invariant.count, counted c.args.self.now c.args.config.now c.args.span c.requires.0 c.requires.1 c.loop-i.i c.loop-i.auto.i (omega arith) c.span_over.result narrowed) }
+    let narrowed = rw times at c.span_over.ensures in
+    record { below = omega arith; count = omega (arith, c.size-count.ensures, c.loop-i.invariant.count, counted c.args.self.now c.args.config.now c.args.span c.requires.0 c.requires.2 c.requires.1 c.loop-i.i c.loop-i.auto.i (omega arith) c.span_over.result narrowed) }
 
 pub returns : goal.returns
 returns c =

@@ -13,7 +13,7 @@ pub raise-requires : goal.raise-requires
 raise-requires c =
     let s = c.args in
     let now = c.loop-left.invariant in
-    rw (s.self.now.fits.often.is c.min-more.result (omega (arith, c.min-more.ensures)), now.place)
+    rw (c.requires.1.is c.min-more.result (omega (arith, c.min-more.ensures)), now.place)
     (may_raise_more s.self.now.second.now s.states.now c.loop-left.states s.at s.back s.number (s.number - c.loop-left.left) c.min-more.result c.requires.0 (omega (arith, now.few, c.min-more.ensures)) now.list now.long)
 
 pub overflow_add-place : goal.overflow_add-place
@@ -33,7 +33,7 @@ loop-left-preserved c =
     let more = c.min-more.result in
     let done = s.number - c.loop-left.left in
     let now_done : s.number - (c.loop-left.left - more) ≡ done + more = omega (arith, now.few, c.min-more.ensures) in
-    let made = rw (s.self.now.fits.often.is more (omega (arith, c.min-more.ensures)), now.place) at c.raise.ensures in
+    let made = rw (c.requires.1.is more (omega (arith, c.min-more.ensures)), now.place) at c.raise.ensures in
     record {
       few = omega (arith, now.few);
       place = rw now_done (omega (arith, now.place, add-mul done more (length u)));

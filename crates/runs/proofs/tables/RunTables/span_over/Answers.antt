@@ -18,7 +18,7 @@ narrow-span-requires c =
     let value : to_z w32 (of_z w32 c.plus_times-x.result) ≡ get_or (with_cycle c.args.config.now c.args.times c.args.self.now.second.now) e (pos 0) =
     back32 c.plus_times-x.result c.plus_times-x.type_inv ∙ c.plus_times-x.ensures
     ∙ rw (small_back (get_or c.args.config.now e (pos 0)) (omega (arith, can.values e)), back32 c.args.times c.ranges.times.sfits, sign_back (get_or c.args.self.now.second.now e (pos 0)) (can.signs e)) (sym (added_at c.args.config.now c.args.times c.args.self.now.second.now e can.sized)) in
-    rw (value, sign_back (get_or c.args.cycle.now e (pos 0)) (c.requires.4 e)) (span_bound _ _ _ _ _ _ c.loop-edge.invariant, c.requires.3 e, c.requires.4 e, c.args.self.now.fits.truncation)
+    rw (value, sign_back (get_or c.args.cycle.now e (pos 0)) (c.requires.4 e)) (span_bound _ _ _ _ _ _ c.loop-edge.invariant, c.requires.3 e, c.requires.4 e, c.requires.5)
 
 pub loop-edge-preserved : goal.loop-edge-preserved
 loop-edge-preserved c =

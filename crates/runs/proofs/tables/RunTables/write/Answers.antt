@@ -33,7 +33,7 @@ loop-init c =
     let t = s.self.now in
     let none : s.span.from - s.span.from ≡ 0 = omega arith in
     let empty = between_none (λ i. block t.lambda t.width (with_cycle s.config.now (pos i) t.second.now) t.first.now) s.span.from s.span.from none in
-    let enough = c.requires.3 in
+    let enough = c.requires.7 in
     let first_place : s.at + 0 * length s.config.now ≡ s.at = omega arith in
     record {
       sized = c.fill_row.auto.row ∙ c.requires.0;
@@ -49,13 +49,13 @@ span_over-block-requires c =
     let t = c.args.self.now in
     let fit = c.requires.1 in
     let now = c.loop.invariant in
-    let small : Small (2 ^ 20) c.loop.row = λ e. rw now.row (fit.values c.loop.counter (omega arith) e) in
-    rw c.as_slice-moved.ensures (
-      rw now.sized (moves_listed t c.args.config.now c.args.span fit),
+    let small : Small (2 ^ 20) c.loop.row = λ e. rw now.row (fit.values c.loop.counter (omega arith) e) in (
+      rw now.sized (moves_listed t c.args.config.now c.args.span fit c.requires.3),
       fit.first_long ∙ sym now.sized,
       record { sized = fit.second_long ∙ sym now.sized; values = λ e. omega (arith, small e); times = omega arith; signs = fit.second_signs },
       (λ e. rw (added_none c.loop.row t.second.now) (small e)),
       fit.first_signs,
+      fit.truncation,
     )
 
 pub overflow_mul-count : goal.overflow_mul-count
@@ -65,8 +65,8 @@ overflow_mul-count c =
     let i = c.loop.counter in
     let now = c.loop.invariant in
     let low : s.span.from ≤ i = c.loop.auto.counter in
-    let narrowed = rw (c.as_slice-moved.ensures, added_none c.loop.row t.second.now, now.row) at c.span_over-block.ensures in
-    let room = room_here t s.config.now s.span c.requires.1 c.requires.2 i low (omega arith) c.span_over-block.result narrowed s.at c.loop.count s.states.now now.count c.requires.3 in
+    let narrowed = rw (added_none c.loop.row t.second.now, now.row) at c.span_over-block.ensures in
+    let room = room_here t s.config.now s.span c.requires.1 c.requires.3 c.requires.2 i low (omega arith) c.span_over-block.result narrowed s.at c.loop.count s.states.now now.count c.requires.7 in
     let same = now.long in
     search rules
 
@@ -77,8 +77,8 @@ overflow_add-at c =
     let i = c.loop.counter in
     let now = c.loop.invariant in
     let low : s.span.from ≤ i = c.loop.auto.counter in
-    let narrowed = rw (c.as_slice-moved.ensures, added_none c.loop.row t.second.now, now.row) at c.span_over-block.ensures in
-    let room = room_here t s.config.now s.span c.requires.1 c.requires.2 i low (omega arith) c.span_over-block.result narrowed s.at c.loop.count s.states.now now.count c.requires.3 in
+    let narrowed = rw (added_none c.loop.row t.second.now, now.row) at c.span_over-block.ensures in
+    let room = room_here t s.config.now s.span c.requires.1 c.requires.3 c.requires.2 i low (omega arith) c.span_over-block.result narrowed s.at c.loop.count s.states.now now.count c.requires.7 in
     let same = now.long in
     search rules
 
@@ -89,14 +89,17 @@ write_beside-requires c =
     let i = c.loop.counter in
     let now = c.loop.invariant in
     let low : s.span.from ≤ i = c.loop.auto.counter in
-    let narrowed = rw (c.as_slice-moved.ensures, added_none c.loop.row t.second.now, now.row) at c.span_over-block.ensures in
+    let narrowed = rw (added_none c.loop.row t.second.now, now.row) at c.span_over-block.ensures in
     let fit = c.requires.1 in
     let small : Small (2 ^ 20) c.loop.row = λ e. rw now.row (fit.values i (omega arith) e) in (
       record { sized = fit.first_long ∙ sym now.sized; values = λ e. omega (arith, small e); times = omega arith; signs = fit.first_signs },
       record { sized = fit.second_long ∙ sym now.sized; values = λ e. omega (arith, small e); times = omega arith; signs = fit.second_signs },
-      omega (arith, few t s.config.now s.span c.requires.1 c.requires.2 i low (omega arith) c.span_over-block.result narrowed, fit.wide),
-      rw (now.sized, now.long) (room_here t s.config.now s.span c.requires.1 c.requires.2 i low (omega arith) c.span_over-block.result narrowed s.at c.loop.count s.states.now now.count c.requires.3),
+      omega (arith, few t s.config.now s.span c.requires.1 c.requires.3 c.requires.2 i low (omega arith) c.span_over-block.result narrowed, fit.wide),
+      rw (now.sized, now.long) (room_here t s.config.now s.span c.requires.1 c.requires.3 c.requires.2 i low (omega arith) c.span_over-block.result narrowed s.at c.loop.count s.states.now now.count c.requires.7),
       rw now.count now.last,
+      c.requires.4,
+      c.requires.5,
+      rw now.sized c.requires.6,
     )
 
 pub overflow_add-count : goal.overflow_add-count
@@ -106,8 +109,8 @@ overflow_add-count c =
     let i = c.loop.counter in
     let now = c.loop.invariant in
     let low : s.span.from ≤ i = c.loop.auto.counter in
-    let narrowed = rw (c.as_slice-moved.ensures, added_none c.loop.row t.second.now, now.row) at c.span_over-block.ensures in
-    omega (arith, c.size-count.ensures, now.count, counted t s.config.now s.span c.requires.1 c.requires.2 i low (omega arith) c.span_over-block.result narrowed, countable t s.config.now s.span c.requires.1 c.requires.2 i low (omega arith) c.span_over-block.result narrowed)
+    let narrowed = rw (added_none c.loop.row t.second.now, now.row) at c.span_over-block.ensures in
+    omega (arith, c.size-count.ensures, now.count, counted t s.config.now s.span c.requires.1 c.requires.3 c.requires.2 i low (omega arith) c.span_over-block.result narrowed, countable t s.config.now s.span c.requires.1 c.requires.3 c.requires.2 i low (omega arith) c.span_over-block.result narrowed)
 
 pub loop-preserved : goal.loop-preserved
 loop-preserved c =
@@ -116,14 +119,14 @@ loop-preserved c =
     let i = c.loop.counter in
     let now = c.loop.invariant in
     let low : s.span.from ≤ i = c.loop.auto.counter in
-    let narrowed = rw (c.as_slice-moved.ensures, added_none c.loop.row t.second.now, now.row) at c.span_over-block.ensures in
+    let narrowed = rw (added_none c.loop.row t.second.now, now.row) at c.span_over-block.ensures in
     record {
       sized = c.add.auto.config ∙ now.sized;
-      row = next_row t s.config.now s.span c.requires.1 c.requires.2 i low (omega arith) c.span_over-block.result narrowed s.at c.loop.count s.states.now now.count c.requires.3 c.loop.states c.loop.row c.write_beside.new.states now.row now.list c.write_beside.ensures c.add.new.config c.add.ensures;
+      row = next_row t s.config.now s.span c.requires.1 c.requires.3 c.requires.2 i low (omega arith) c.span_over-block.result narrowed s.at c.loop.count s.states.now now.count c.requires.7 c.loop.states c.loop.row c.write_beside.new.states now.row now.list c.write_beside.ensures c.add.new.config c.add.ensures;
       long = c.write_beside.auto.states ∙ now.long;
-      count = omega (arith, c.size-count.ensures, now.count, counted t s.config.now s.span c.requires.1 c.requires.2 i low (omega arith) c.span_over-block.result narrowed);
-      list = next_list t s.config.now s.span c.requires.1 c.requires.2 i low (omega arith) c.span_over-block.result narrowed s.at c.loop.count s.states.now now.count c.requires.3 c.loop.states c.loop.row c.write_beside.new.states now.row now.list c.write_beside.ensures;
-      last = next_last t s.config.now s.span c.requires.1 c.requires.2 i low (omega arith) c.span_over-block.result narrowed s.at c.loop.count s.states.now now.count c.requires.3 c.loop.states c.loop.row c.write_beside.new.states now.row now.list c.write_beside.ensures c.add.new.config c.add.ensures;
+      count = omega (arith, c.size-count.ensures, now.count, counted t s.config.now s.span c.requires.1 c.requires.3 c.requires.2 i low (omega arith) c.span_over-block.result narrowed);
+      list = next_list t s.config.now s.span c.requires.1 c.requires.3 c.requires.2 i low (omega arith) c.span_over-block.result narrowed s.at c.loop.count s.states.now now.count c.requires.7 c.loop.states c.loop.row c.write_beside.new.states now.row now.list c.write_beside.ensures;
+      last = next_last t s.config.now s.span c.requires.1 c.requires.3 c.requires.2 i low (omega arith) c.span_over-block.result narrowed s.at c.loop.count s.states.now now.count c.requires.7 c.loop.states c.loop.row c.write_beside.new.states now.row now.list c.write_beside.ensures c.add.new.config c.add.ensures;
     }
 
 pub returns : goal.returns

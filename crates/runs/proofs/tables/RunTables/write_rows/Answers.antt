@@ -4,7 +4,7 @@ use Rattle.mathematics.specs.Writing.{put}
 use Rattle.mathematics.proofs.Puts.{put_none}
 use Rattle.walker.specs.Walker.{block_rows}
 use Rattle.walker.proofs.BlockRows.{rows_none, row_room, row_after}
-use Rattle.runs.proofs.Raising.{beside_one, first_row, row_may, row_written}
+use Rattle.runs.proofs.Raising.{first_row, row_may, row_written}
 use Rattle.runs.proofs.tables.RunTables.write_rows.Goals as goal
 
 pub returns-then-is_empty : goal.returns-then-is_empty
@@ -44,14 +44,14 @@ pub raise-requires : goal.raise-requires
 raise-requires c =
     let s = c.args in
     let low = c.loop.auto.counter in
-    rw (beside_one _ _ (length s.config.now) c.requires.0.sized s.self.now.fits.once)
+    rw c.requires.3
     (row_may s.config.now s.self.now.first.now c.requires.0 s.states.now c.loop.states s.at s.span.from s.span.to c.loop.counter (c.loop.place + length s.config.now) (omega arith) (omega arith) c.requires.1 c.requires.2 c.loop.invariant.long c.loop.invariant.place c.loop.invariant.list)
 
 pub loop-preserved : goal.loop-preserved
 loop-preserved c =
     let s = c.args in
     let low = c.loop.auto.counter in
-    let made = rw (beside_one _ _ (length s.config.now) c.requires.0.sized s.self.now.fits.once) at c.raise.ensures in
+    let made = rw c.requires.3 at c.raise.ensures in
     record {
       place = omega (arith, c.loop.invariant.place, row_after s.span.from c.loop.counter (length s.config.now) (omega arith));
       long = c.raise.auto.states ∙ c.loop.invariant.long;
