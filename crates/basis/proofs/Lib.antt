@@ -1,1 +1,2 @@
+mod Statuses
 mod Writing

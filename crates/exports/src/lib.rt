@@ -64,3 +64,14 @@ pub fn store_params(params: Result<KSParams, Refusal>, floats: &mut [f64; 3]) ->
         Err(reason) => signed_refusal(reason),
     }
 }
+
+// A coupling comes as its three floats.
+pub fn coupling(g_squared: f64, electric: f64, magnetic: f64) -> KSParams
+    ensures { result ≡ record { g_squared = g_squared; electric = electric; magnetic = magnetic } }
+{
+    KSParams {
+        g_squared,
+        electric,
+        magnetic,
+    }
+}

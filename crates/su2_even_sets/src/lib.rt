@@ -1,7 +1,7 @@
 // The closing edges of a complex and the loop of each.
 #![tactic(auto)]
 
-ghost use Rattle.std.specs.Prelude.{◌≡◌, [], ◌∷◌, ◌<◌, ◌≤◌};
+ghost use Rattle.std.specs.Prelude.{◌≡◌, [], ◌∷◌, ◌<◌, ◌≤◌, length, take};
 ghost use Rattle.complex.specs.Complex.{complex_of};
 ghost use Rattle.complex.specs.Judge.{refusal};
 ghost use Rattle.su2_even_sets.specs.Loops.{separate, grown};
@@ -37,6 +37,14 @@ impl Forest {
             closing: [0; MOST_EDGES],
             loops: [0; MOST_EDGES],
         }
+    }
+
+    // The loops of the closing edges.
+    pub fn loops(&self) -> &[u64]
+        requires { self.now.count ≤ length self.now.loops }
+        ensures { result.now ≡ take self.now.count self.now.loops }
+    {
+        &self.loops[..self.count]
     }
 
     // One part goes over into another, and the paths of its vertices with a loop added.

@@ -13,7 +13,7 @@ ghost use Rattle.su2_products.specs.Product.{su2_product_call};
 ghost use Rattle.su2_loops.specs.Loop.{su2_loop_call, su2_passes_call};
 ghost use Rattle.exports.specs.Exports.{on_sheet, stored, value_lent, three_floats, Exported};
 
-use exports::{signed_refusal, signed_result, store_expectation, store_params};
+use exports::{coupling, signed_refusal, signed_result, store_expectation, store_params};
 use matrices::coupling::KSParams;
 use sheet::read_sheet;
 use su2_entries::su2_count_entries;
@@ -54,11 +54,7 @@ pub fn export_build_su2_hamiltonian(
 ) -> i64
     ensures { Exported (on_sheet sheet.now (λ c L. su2_dense_call c (record { g_squared = g_squared; electric = electric; magnetic = magnetic }) given weights.now states.old res.old)) result (states.new, res.new) }
 {
-    let p = KSParams {
-        g_squared,
-        electric,
-        magnetic,
-    };
+    let p = coupling(g_squared, electric, magnetic);
     let weights = given.then_some(weights);
     match read_sheet(sheet) {
         Ok(s) => signed_result(build_su2_hamiltonian(s.complex, p, weights, states, res)),
@@ -81,11 +77,7 @@ pub fn export_build_csr_su2(
 ) -> i64
     ensures { Exported (on_sheet sheet.now (λ c L. su2_rows_call c (record { g_squared = g_squared; electric = electric; magnetic = magnetic }) given weights.now states.old starts.old columns.old values.old)) result (states.new, starts.new, columns.new, values.new) }
 {
-    let p = KSParams {
-        g_squared,
-        electric,
-        magnetic,
-    };
+    let p = coupling(g_squared, electric, magnetic);
     let weights = given.then_some(weights);
     match read_sheet(sheet) {
         Ok(s) => signed_result(build_csr_su2(
@@ -131,11 +123,7 @@ pub fn export_su2_hamiltonian_matvec(
 ) -> i64
     ensures { Exported (on_sheet sheet.now (λ c L. su2_product_call c (record { g_squared = g_squared; electric = electric; magnetic = magnetic }) given weights.now vector.now states.old res.old)) result (states.new, res.new) }
 {
-    let p = KSParams {
-        g_squared,
-        electric,
-        magnetic,
-    };
+    let p = coupling(g_squared, electric, magnetic);
     let weights = given.then_some(weights);
     match read_sheet(sheet) {
         Ok(s) => signed_result(su2_hamiltonian_matvec(s.complex, p, weights, vector, states, res)),

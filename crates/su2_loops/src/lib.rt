@@ -100,7 +100,7 @@ fn loop_expectation<F: Fn(u64, u64) -> u64>(
     if states.len() < n {
         return Err(Refusal::NoRoom);
     }
-    write_masks(states, &f.loops[..f.count]);
+    write_masks(states, f.loops());
     Ok(mask_sum(vector, states, counted_mask(path, put)))
 }
 

@@ -51,6 +51,6 @@ pub fn su2_basis(c: SimplicialComplex, states: &mut [u64]) -> Result<usize, Refu
     if states.len() < count {
         return Err(Refusal::NoRoom);
     }
-    write_masks(states, &f.loops[..f.count]);
+    write_masks(states, f.loops());
     Ok(count)
 }

@@ -120,7 +120,7 @@ pub fn su2_hamiltonian_matvec(
     if (states.len() < n) | (res.len() < n) {
         return Err(Refusal::NoRoom);
     }
-    write_masks(states, &f.loops[..f.count]);
+    write_masks(states, f.loops());
     write_product(n, c, f, p, weights, vector, states, res);
     Ok(n)
 }

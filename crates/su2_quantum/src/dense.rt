@@ -99,7 +99,7 @@ pub fn build_su2_hamiltonian(
     if (states.len() < n) | (res.len() < n * n) {
         return Err(Refusal::NoRoom);
     }
-    write_masks(states, &f.loops[..f.count]);
+    write_masks(states, f.loops());
     write_matrix(res, n, c, f, p, weights, states);
     Ok(n)
 }

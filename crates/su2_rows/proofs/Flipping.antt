@@ -9,8 +9,8 @@ use native.Mathlib.Decide.{ℕ_discrete}
 use native.Mathlib.Omega.{arith}
 use lib.Bits.{bit_xor, xor_comm}
 use lib.Ieee.{Float, nan}
-use lib.ListN.{get_or, length, take, drop, set, length-append, length-drop, get_or-append}
-use lib.Seq.{length-take-le, get_or-take, get_or-set_same, get_or-set_other}
+use lib.ListN.{get_or, length, take, set}
+use lib.Seq.{take_all, take_at, get_or-set_same, get_or-set_other}
 use Rattle.mathematics.specs.Bits.{bit}
 use Rattle.mathematics.specs.Counting.{below}
 use Rattle.mathematics.specs.Entries.{Each}
@@ -122,26 +122,36 @@ one_flipped old by n new inside so_far =
     go t h (yes e) = rw (e, get_or-set_same new n (bit_xor (get_or new n 0) by) 0 inside) (ap (λ (x : ℕ). bit_xor x by) (so_far.rest n (omega arith)))
     go t h (no e) = get_or-set_other new n t (bit_xor (get_or new n 0) by) 0 e ∙ so_far.flipped t (omega arith)
 
-pub flipped_are : (old new : List ℕ) (values : List Float) (n by : ℕ) → n ≤ length old → length new ≡ length old → length old ≡ length values → ((t : ℕ) → t < n → get_or new t 0 ≡ bit_xor (get_or old t 0) by)
+flipped_are : (old new : List ℕ) (values : List Float) (n by : ℕ) → n ≤ length old → length new ≡ length old → length old ≡ length values → ((t : ℕ) → t < n → get_or new t 0 ≡ bit_xor (get_or old t 0) by)
     → take n (pairs new values) ≡ flipped_entries by (take n (pairs old values))
 flipped_are old new values n by room same_long long flipped =
     entries_are (λ t. bit_xor (get_or old t 0) by) (λ t. get_or values t nan) new values (same_long ∙ long) n (rw same_long room) flipped (λ t b. refl)
     ∙ sym (ap (flipped_entries by) (entries_are (λ t. get_or old t 0) (λ t. get_or values t nan) old values long n room (λ t b. refl) (λ t b. refl))
     ∙ map-map (λ (e : ℕ × Float). (bit_xor e.0 by, e.1)) (λ t. (get_or old t 0, get_or values t nan)) (below n))
 
--- the flipped columns before those that are kept
-module _ (old columns : List ℕ) (values : List Float) (n by : ℕ) (room : n ≤ length old) (same : length columns ≡ length (take n old)) where
-  many : length columns ≡ n
-  many = same ∙ length-take-le n old room
+-- those of a row
+pub row_flipped : (old new : List ℕ) (values : List Float) (by : ℕ) → length new ≡ length old → length old ≡ length values → ((t : ℕ) → t < length new → get_or new t 0 ≡ bit_xor (get_or old t 0) by)
+    → take (length new) (pairs new values) ≡ flipped_entries by (pairs old values)
+row_flipped old new values by same long flipped =
+    flipped_are old new values (length new) by (omega (arith, same)) same long flipped
+    ∙ ap (flipped_entries by) (take_all (length new) (pairs old values) (omega (arith, same, pairs_length old values long)))
 
-  pub long_kept : length (columns ++ drop n old) ≡ length old
-  long_kept = omega (arith, many, length-append columns (drop n old), length-drop n old)
+pub row_whole : (n : ℕ) (columns : List ℕ) (values : List Float) → length columns ≡ n → length columns ≡ length values → take n (pairs columns values) ≡ pairs columns values
+row_whole n columns values many long = take_all n (pairs columns values) (omega (arith, many, pairs_length columns values long))
 
-  pub flipped_front : length old ≡ length values → ((t : ℕ) → t < length columns → get_or columns t 0 ≡ bit_xor (get_or (take n old) t 0) by)
-      → take n (pairs (columns ++ drop n old) values) ≡ flipped_entries by (take n (pairs old values))
-  flipped_front long flipped =
-      flipped_are old (columns ++ drop n old) values n by room long_kept long
-      (λ t h. let inside : t < length columns = rw many h in get_or-append columns (drop n old) 0 t inside ∙ flipped t inside ∙ ap (λ (x : ℕ). bit_xor x by) (get_or-take n old t 0 h))
+-- ---- the entries at the beginning of two lists
+pub pairs_take : (n : ℕ) (columns : List ℕ) (values : List Float) → pairs (take n columns) (take n values) ≡ take n (pairs columns values)
+unfolding pairs
+pairs_take zero [] values = refl
+pairs_take zero (j ∷ columns) [] = refl
+pairs_take zero (j ∷ columns) (x ∷ values) = refl
+pairs_take (suc n) [] values = refl
+pairs_take (suc n) (j ∷ columns) [] = refl
+pairs_take (suc n) (j ∷ columns) (x ∷ values) = ap (λ l. (j, x) ∷ l) (pairs_take n columns values)
+
+-- a row before what is kept behind it
+pub pairs_front : (n : ℕ) (columns rest : List ℕ) (values others : List Float) → length columns ≡ n → length values ≡ n → take n (pairs (columns ++ rest) (values ++ others)) ≡ pairs columns values
+pairs_front n columns rest values others many as_many = sym (pairs_take n (columns ++ rest) (values ++ others)) ∙ ap₂ pairs (take_at columns rest n many) (take_at values others n as_many)
 
 module _ (places : List ℕ) (terms : List Float) (n : ℕ) where
   -- the tables are those of row 0

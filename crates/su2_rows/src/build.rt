@@ -67,7 +67,7 @@ pub fn build_csr_su2(
     {
         return Err(Refusal::NoRoom);
     }
-    write_masks(states, &f.loops[..f.count]);
+    write_masks(states, f.loops());
     write_lists(n, c, f, p, weights, states, starts, columns, values);
     Ok(entries)
 }

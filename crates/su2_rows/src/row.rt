@@ -1,12 +1,12 @@
 // A row of the two-valued Hamiltonian, made of the columns and the terms of all triangles. Columns and values stand apart, as in the lists of the
 // exported functions: rows/src/row.rt says so.
-ghost use Rattle.std.specs.Prelude.{◌≡◌, ◌+◌, ◌^◌, ◌<◌, ◌≤◌, length, take};
+ghost use Rattle.std.specs.Prelude.{◌≡◌, ◌+◌, ◌^◌, ◌<◌, ◌≤◌, EachIndex, get_or, length, take};
+ghost use Rattle.std.specs.Int.Bits.{bit_xor};
 ghost use Rattle.rows.specs.Entries.{pairs};
-ghost use Rattle.rows.specs.Row.{diagonal_first, ColumnsDiffer};
+ghost use Rattle.rows.specs.Row.{diagonal_first, ColumnsDiffer, Sorted};
 ghost use Rattle.rows.specs.RowLists.{RowFits};
-ghost use Rattle.su2_rows.specs.Rows.{flips_in, RowAdded};
+ghost use Rattle.su2_rows.specs.Rows.{flipped_entries, RowAdded};
 
-use crate::tables::Flips;
 use rows::lists::{append_row, is_kept, push_entry};
 use rows::row::sort_row;
 
@@ -16,17 +16,17 @@ fn collect_row(
     row_values: &mut [f64],
     i: usize,
     diagonal: f64,
-    flips: &Flips,
+    flips: &[u32],
+    terms: &[f64],
 ) -> usize
-    requires { (i < 2 ^ 20) × (flips.now.count ≤ length flips.now.places) × (flips.now.count < length row_columns.old) × (length row_columns.old ≡ length row_values.old) }
-    ensures { (take result (pairs row_columns.new row_values.new) ≡ diagonal_first i diagonal (flips_in flips.now)) × (result ≤ flips.now.count + 1) }
+    requires { (i < 2 ^ 20) × (length flips.now < length row_columns.old) × (length row_columns.old ≡ length row_values.old) × (length flips.now ≡ length terms.now) }
+    ensures { (take result (pairs row_columns.new row_values.new) ≡ diagonal_first i diagonal (pairs flips.now terms.now)) × (result ≤ length flips.now + 1) }
 {
     let column = i as u32;
     let kept = is_kept(diagonal);
     let mut m = push_entry(row_columns, row_values, 0, column, diagonal, kept);
-    let n = flips.count;
-    for (place, term) in flips.places[..n].iter().zip(&flips.terms[..n]) {
-        m = push_entry(row_columns, row_values, m, *place, *term, true);
+    for (flip, term) in flips.iter().zip(terms) {
+        m = push_entry(row_columns, row_values, m, *flip, *term, true);
     }
     m
 }
@@ -37,16 +37,17 @@ pub fn add_row(
     row_values: &mut [f64],
     i: usize,
     diagonal: f64,
-    flips: &Flips,
+    flips: &[u32],
+    terms: &[f64],
     at: usize,
     starts: &mut [u32],
     columns: &mut [u32],
     values: &mut [f64],
 ) -> usize
-    requires { (i < 2 ^ 20) × (flips.now.count ≤ length flips.now.places) × (flips.now.count < length row_columns.old) × (length row_columns.old ≡ length row_values.old) × (i + 1 < length starts.old) × ColumnsDiffer (diagonal_first i diagonal (flips_in flips.now)) × RowFits (diagonal_first i diagonal (flips_in flips.now)) at (length columns.old) (length values.old) }
-    ensures { RowAdded (diagonal_first i diagonal (flips_in flips.now)) i at starts.old columns.old values.old result starts.new columns.new values.new }
+    requires { (i < 2 ^ 20) × (length flips.now < length row_columns.old) × (length row_columns.old ≡ length row_values.old) × (length flips.now ≡ length terms.now) × (i + 1 < length starts.old) × ColumnsDiffer (diagonal_first i diagonal (pairs flips.now terms.now)) × RowFits (diagonal_first i diagonal (pairs flips.now terms.now)) at (length columns.old) (length values.old) }
+    ensures { RowAdded (diagonal_first i diagonal (pairs flips.now terms.now)) i at starts.old columns.old values.old result starts.new columns.new values.new }
 {
-    let found = collect_row(row_columns, row_values, i, diagonal, flips);
+    let found = collect_row(row_columns, row_values, i, diagonal, flips, terms);
     sort_row(row_columns, row_values, found);
     append_row(
         row_columns,
@@ -58,4 +59,22 @@ pub fn add_row(
         columns,
         values,
     )
+}
+
+// The columns of a row, each flipped by the same bits.
+fn flip_columns(columns: &mut [u32], by: u32)
+    ensures { EachIndex columns.new (λ t. get_or columns.new t 0 ≡ bit_xor (get_or columns.old t 0) by) }
+{
+    for column in columns.iter_mut() {
+        *column ^= by;
+    }
+}
+
+// The columns of the triangles in one row become those in another, and are sorted with their terms. From a row to the next few change their order.
+pub fn flip_row(flips: &mut [u32], terms: &mut [f64], by: u32)
+    requires { (length flips.old ≡ length terms.old) × ColumnsDiffer (pairs flips.old terms.old) }
+    ensures { Sorted (flipped_entries by (pairs flips.old terms.old)) (pairs flips.new terms.new) }
+{
+    flip_columns(flips, by);
+    sort_row(flips, terms, flips.len());
 }

@@ -1,22 +1,22 @@
 // What all rows need of each triangle, found once.
-ghost use Rattle.std.specs.Prelude.{◌≡◌, ◌<◌, ◌≤◌, EachIndex, length, get_or};
-ghost use Rattle.std.specs.Int.Bits.{bit_xor};
+ghost use Rattle.std.specs.Prelude.{◌≡◌, ◌<◌, ◌≤◌, length, take};
 ghost use Rattle.complex.specs.Complex.{complex_of};
 ghost use Rattle.matrices.specs.Weights.{weight, Weighed, is_given, given_list};
+ghost use Rattle.rows.specs.Entries.{pairs};
 ghost use Rattle.rows.specs.Row.{ColumnsDiffer, Sorted};
 ghost use Rattle.su2_masks.specs.Place.{FewLoops};
 ghost use Rattle.su2_rows.specs.Rows.{flipped_entries, flips_in, Tables};
 
+use crate::row::flip_row;
 use complex::SimplicialComplex;
 use matrices::coupling::KSParams;
 use matrices::weights::weight_at;
 use numbers::sizes::MOST_TRIANGLES;
-use rows::row::sort_row;
 use su2_even_sets::Forest;
 use su2_masks::flip::triangle_place;
 use triangles::{all_sides, sides_at};
 
-// Of each triangle the place of its edges, and its magnetic factor × weight. The two lists begin with them: they are two, as sort_row takes them.
+// Of each triangle the place of its edges, and its magnetic factor × weight. The two lists begin with them: they are two, as flip_row takes them.
 // There is no heap: both have room for the most triangles, and the count says how many there are.
 #[derive(Drop)]
 pub struct Flips {
@@ -25,13 +25,12 @@ pub struct Flips {
     pub count: usize,
 }
 
-// The columns of a row, each flipped by the same bits.
-fn flip_columns(columns: &mut [u32], by: u32)
-    ensures { EachIndex columns.new (λ t. get_or columns.new t 0 ≡ bit_xor (get_or columns.old t 0) by) }
+// The columns of the first n triangles of two lists in one row become those in another, and are sorted. A function of its own: the proof cannot take slices of two fields of one struct that is lent.
+fn flip_front(flips: &mut [u32], terms: &mut [f64], n: usize, by: u32)
+    requires { (n ≤ length flips.old) × (length flips.old ≡ length terms.old) × ColumnsDiffer (take n (pairs flips.old terms.old)) }
+    ensures { Sorted (flipped_entries by (take n (pairs flips.old terms.old))) (take n (pairs flips.new terms.new)) }
 {
-    for column in columns.iter_mut() {
-        *column ^= by;
-    }
+    flip_row(&mut flips[..n], &mut terms[..n], by);
 }
 
 impl Flips {
@@ -59,9 +58,8 @@ impl Flips {
     // The entries of the triangles in one row become those in another, and are sorted. From a row to the next few change their order.
     pub fn flip(&mut self, by: u32)
         requires { (self.old.count ≤ length self.old.places) × ColumnsDiffer (flips_in self.old) }
-        ensures { Sorted (flipped_entries by (flips_in self.old)) (flips_in self.new) × (self.new.count ≡ self.old.count) × (length self.new.places ≡ length self.old.places) }
+        ensures { Sorted (flipped_entries by (flips_in self.old)) (flips_in self.new) × (self.new.count ≡ self.old.count) × (length self.new.places ≡ length self.old.places) × (length self.new.terms ≡ length self.old.terms) }
     {
-        flip_columns(&mut self.places[..self.count], by);
-        sort_row(&mut self.places, &mut self.terms, self.count);
+        flip_front(&mut self.places, &mut self.terms, self.count, by);
     }
 }

@@ -26,7 +26,7 @@ use electric::electric_field_sq;
 use entries::count_entries;
 use enumeration::count::count_states;
 use enumeration::enumerate_gauge_invariant;
-use exports::{signed_refusal, signed_result, store_expectation, store_params};
+use exports::{coupling, signed_refusal, signed_result, store_expectation, store_params};
 use hamiltonian::dense::build_hamiltonian;
 use hilbert::index::config_to_index;
 use lanczos::matvec::hamiltonian_matvec;
@@ -42,21 +42,7 @@ use wilson::{Path, wilson_loop};
 fn as_number(answer: Result<bool, Refusal>) -> Result<usize, Refusal>
     ensures { answer_of result ≡ yes_of (answer_of answer) }
 {
-    match answer {
-        Ok(yes) => Ok(usize::from(yes)),
-        Err(refusal) => Err(refusal),
-    }
-}
-
-// The coupling by its three floats.
-fn coupling(g_squared: f64, electric: f64, magnetic: f64) -> KSParams
-    ensures { result ≡ record { g_squared = g_squared; electric = electric; magnetic = magnetic } }
-{
-    KSParams {
-        g_squared,
-        electric,
-        magnetic,
-    }
+    answer.map(usize::from)
 }
 
 // Whether a configuration obeys Gauss's law on a sheet's complex: 1 or 0.

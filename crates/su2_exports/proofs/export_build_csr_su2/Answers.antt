@@ -9,7 +9,7 @@ pub signed_result-requires : goal.signed_result-requires
 signed_result-requires c = rows_small _ c.in-Ok.ensures _ _ _ _ _ _ _ _ _ c.build_csr_su2.ensures
 
 pub returns-in-Ok : goal.returns-in-Ok
-returns-in-Ok c = read_and_called _ _ c.signed_result.type_inv c.in-Ok.ensures (rows_chosen _ _ _ _ c.then_some-weights.ensures _ _ _ _ c.build_csr_su2.ensures) c.signed_result.ensures
+returns-in-Ok c = read_and_called _ _ c.signed_result.type_inv c.in-Ok.ensures (rows_chosen _ _ _ _ c.then_some-weights.ensures _ _ _ _ (rw c.coupling-p.ensures at c.build_csr_su2.ensures)) c.signed_result.ensures
 
 pub returns-in-Err : goal.returns-in-Err
 unfolding su2_rows_call

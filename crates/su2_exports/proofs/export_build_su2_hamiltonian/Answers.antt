@@ -9,7 +9,7 @@ pub signed_result-requires : goal.signed_result-requires
 signed_result-requires c = dense_small _ _ _ _ _ _ _ _ c.build_su2_hamiltonian.ensures
 
 pub returns-in-Ok : goal.returns-in-Ok
-returns-in-Ok c = read_and_called _ _ c.signed_result.type_inv c.in-Ok.ensures (dense_chosen _ _ _ _ c.then_some-weights.ensures _ _ c.build_su2_hamiltonian.ensures) c.signed_result.ensures
+returns-in-Ok c = read_and_called _ _ c.signed_result.type_inv c.in-Ok.ensures (dense_chosen _ _ _ _ c.then_some-weights.ensures _ _ (rw c.coupling-p.ensures at c.build_su2_hamiltonian.ensures)) c.signed_result.ensures
 
 pub returns-in-Err : goal.returns-in-Err
 unfolding su2_dense_call

@@ -39,9 +39,9 @@ returns g c counts are =
     let loops = c.in_ok-f.ensures in
     let number = states_counted _ _ loops.loops in
     let judged = told_as _ _ _ _ _ _ _ c.in_ok-accept_loop.ensures number (edges_long c.args.c) in
-    let states = rw (masks_are _ _ loops.loops.of) at c.write_masks.ensures in
+    let states = rw (c.loops.ensures, masks_are _ _ loops.loops.of) at c.write_masks.ensures in
     ends _ (past_loops _ loops.number (past_loop _ _ _ _ (sym judged) (past (le-ltb _ _ (rw number at c.if-states-n.false)) none)))
     (sum_told _ loops.loops.of.accepted _ _ _ _ states _ _ c.mask_sum.ensures ((loop_fits _ _ _ _ (sym judged)).0)
     ∙ ap (counted_expectation _ _) (are.counted _ c.counted_mask.ensures))
-    (masks_front _ _ loops.loops _ _ c.write_masks.ensures)
+    (masks_front _ _ loops.loops _ _ (rw c.loops.ensures at c.write_masks.ensures))
     (masks_known _ _ loops.loops).few

@@ -20,4 +20,4 @@ unfolding su2_basis_call
 returns c =
     let loops = c.in_ok-f.ensures in
     ends _ (past_loops _ loops.number (past (le-ltb _ _ (rw (states_counted _ _ loops.loops) at c.if-states-count.false)) none))
-    (states_counted _ _ loops.loops) (masks_front _ _ loops.loops _ _ c.write_masks.ensures) (masks_known _ _ loops.loops)
+    (states_counted _ _ loops.loops) (masks_front _ _ loops.loops _ _ (rw c.loops.ensures at c.write_masks.ensures)) (masks_known _ _ loops.loops)

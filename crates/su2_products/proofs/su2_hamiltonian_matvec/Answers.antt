@@ -40,7 +40,7 @@ write_product-requires c =
     let room = long_enough _ _ _ c.if-states-n.false in (
       record { loops = of; states = states_counted _ _ of; amplitudes = vector_fits _ _ _ _ _ _ right ∙ sym (states_counted _ _ of); long = room.1 },
       weights_fit _ _ _ _ _ _ right,
-      (_, rw (masks_are _ _ of.of) at c.write_masks.ensures),
+      (_, rw (c.loops.ensures, masks_are _ _ of.of) at c.write_masks.ensures),
     )
 
 pub returns : goal.returns
@@ -50,5 +50,5 @@ returns c =
     let right = sym (rw (triangles_long c.args.c, ← (states_counted _ _ of), ← c.is_su2.ensures) c.in_ok-accept_vector.ensures) in
     ends (su2_product_call _ _ _ _ _ _ _) (past_loops _ c.in_ok-f.ensures.number (past_vector _ _ _ _ _ _ right (past (rw (states_counted _ _ of) at c.if-states-n.false) none)))
     (states_counted _ _ of)
-    (both (masks_front _ _ of _ _ c.write_masks.ensures) c.write_product.ensures)
+    (both (masks_front _ _ of _ _ (rw c.loops.ensures at c.write_masks.ensures)) c.write_product.ensures)
     (masks_known _ _ of).few

@@ -33,7 +33,7 @@ write_matrix-requires c =
     let room = long_enough _ _ _ c.if-states-n.false in (
       record { loops = of.of; few = of.few; states = states_counted _ _ of ∙ states_number _ _ of.of; long = room.1 },
       weights_fit _ (su2_right c.args.p) _ _ (sym (rw (triangles_long c.args.c, ← c.is_su2.ensures) c.in_ok-accept_weights.ensures)),
-      (_, rw (masks_are _ _ of.of) at c.write_masks.ensures),
+      (_, rw (c.loops.ensures, masks_are _ _ of.of) at c.write_masks.ensures),
     )
 
 pub returns : goal.returns
@@ -43,5 +43,5 @@ returns c =
     let right = sym (rw (triangles_long c.args.c, ← c.is_su2.ensures) c.in_ok-accept_weights.ensures) in
     ends (su2_dense_call _ _ _ _ _ _) (past_loops _ c.in_ok-f.ensures.number (past_weights _ _ _ _ right (past (rw (states_counted _ _ of) at c.if-states-n.false) none)))
     (states_counted _ _ of)
-    (both (masks_front _ _ of _ _ c.write_masks.ensures) c.write_matrix.ensures)
+    (both (masks_front _ _ of _ _ (rw c.loops.ensures at c.write_masks.ensures)) c.write_matrix.ensures)
     (masks_known _ _ of).few

@@ -52,7 +52,7 @@ write_lists-requires c =
         values_fit = rw (triangles_long c.args.c, ← c.entries_number-entries.ensures) room.3;
       },
       weights_fit _ _ _ _ right,
-      (_, rw (masks_are _ _ of.of) at c.write_masks.ensures),
+      (_, rw (c.loops.ensures, masks_are _ _ of.of) at c.write_masks.ensures),
     )
 
 pub returns : goal.returns
@@ -64,5 +64,5 @@ returns c =
     let entries = entries_made _ of c.args.p coupling (weight (is_given c.args.weights) (given_list c.args.weights)) _ _ (states_counted _ _ of) c.entries_number-entries.ensures in
     ends (su2_rows_call _ _ _ _ _ _ _ _) (past_loops _ c.in_ok-f.ensures.number (past_weights _ _ _ _ right (past (rw (entries, states_counted _ _ of) at c.if-states-n.false) none)))
     entries
-    (lists_are (masks_front _ _ of _ _ c.write_masks.ensures) (states_counted _ _ of) c.write_lists.ensures)
+    (lists_are (masks_front _ _ of _ _ (rw c.loops.ensures at c.write_masks.ensures)) (states_counted _ _ of) c.write_lists.ensures)
     (record { few = (masks_known _ _ of).few; once = no_column_twice _ of.of.accepted; count = entries_number _ of.of.accepted _ coupling _ })

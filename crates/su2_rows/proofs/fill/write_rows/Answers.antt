@@ -9,7 +9,7 @@ use Rattle.rows.proofs.Sorting.{sorted_differ}
 use Rattle.rows.proofs.SortedRows.{fits_at, added_next, added_written}
 use Rattle.rows.proofs.RowsWritten.{none_written}
 use Rattle.su2_rows.specs.Rows.{table_entries}
-use Rattle.su2_rows.proofs.Flipping.{others_differ, same_differ, same_fits, same_added, flips_first, flips_next}
+use Rattle.su2_rows.proofs.Flipping.{others_differ, same_differ, same_fits, same_added, flips_first, flips_next, pairs_take}
 use Rattle.su2_rows.proofs.fill.write_rows.Goals as goal
 
 pub loop-i-init : goal.loop-i-init
@@ -24,6 +24,7 @@ loop-i-init c =
       written = λ old h w. w;
       count = refl;
       long = omega arith;
+      as_long = omega arith;
       same = rw are (same_itself _);
       differ = λ some. rw are (others_differ 0 _ _ (c.requires.fit.differ 0 some));
     }
@@ -35,14 +36,16 @@ add_row-at-requires c =
     let inside : c.loop-i.i < c.args.n = omega (arith, length-take-le c.args.n c.args.states.now c.requires.states_long) in
     let energy = rw (get_or-take c.args.n c.args.states.now c.loop-i.i 0 inside) at c.mask_energy-diagonal.ensures in
     let differ = rw (← energy) at (c.requires.fit.differ c.loop-i.i inside) in
-    let fits = rw (← energy, ← c.loop-i.auto.columns, ← c.loop-i.auto.values) at (fits_at c.requires.fit c.loop-i.i c.loop-i.at inside inv.begins) in (
+    let fits = rw (← energy, ← c.loop-i.auto.columns, ← c.loop-i.auto.values) at (fits_at c.requires.fit c.loop-i.i c.loop-i.at inside inv.begins) in
+    let many = length-take-le c.loop-i.flips.count c.loop-i.flips.places (omega (arith, inv.count, inv.long, c.requires.few_triangles)) in
+    let as_many = length-take-le c.loop-i.flips.count c.loop-i.flips.terms (omega (arith, inv.count, inv.as_long, c.requires.few_triangles)) in (
       omega (arith, c.requires.few),
-      omega (arith, inv.count, inv.long, c.requires.few_triangles),
-      omega (arith, inv.count, inv.columns_long, c.requires.few_triangles),
+      omega (arith, many, inv.count, inv.columns_long, c.requires.few_triangles),
       rw (inv.columns_long, inv.values_long) refl,
+      omega (arith, many, as_many),
       omega (arith, length-set c.args.starts.now 0 0, c.requires.starts_fit),
-      same_differ inv.same _ _ differ (inv.differ inside),
-      same_fits inv.same _ _ fits,
+      rw pairs_take (same_differ inv.same _ _ differ (inv.differ inside)),
+      rw pairs_take (same_fits inv.same _ _ fits),
     )
 
 pub loop-i-preserved : goal.loop-i-preserved
@@ -52,7 +55,7 @@ loop-i-preserved c =
     let first = c.args.flips.now in
     let inside : c.loop-i.i < c.args.n = omega (arith, length-take-le c.args.n c.args.states.now c.requires.states_long) in
     let energy = rw (get_or-take c.args.n c.args.states.now c.loop-i.i 0 inside) at c.mask_energy-diagonal.ensures in
-    let row = rw energy at (same_added inv.same _ _ c.add_row-at.ensures) in
+    let row = rw energy at (same_added inv.same _ _ (rw (pairs_take c.loop-i.flips.count c.loop-i.flips.places c.loop-i.flips.terms) at c.add_row-at.ensures)) in
     record {
       columns_long = c.add_row-at.auto.row_columns ∙ inv.columns_long;
       values_long = c.add_row-at.auto.row_values ∙ inv.values_long;
@@ -62,6 +65,7 @@ loop-i-preserved c =
           (omega (arith, long, length-set c.args.starts.now 0 0, c.requires.starts_fit)) refl refl (inv.written old long none);
       count = c.flip.ensures.1 ∙ inv.count;
       long = c.flip.ensures.2 ∙ inv.long;
+      as_long = c.flip.ensures.3 ∙ inv.as_long;
       same = flips_next first.places first.terms first.count c.loop-i.i (c.loop-i.i + 1) inv.same c.flip.ensures.0;
       differ = λ more. sorted_differ c.flip.ensures.0;
     }

@@ -16,6 +16,7 @@ invariant-loop-i l =
           → SortedWritten entries l.i l.at old l.initial.columns l.initial.values l.starts l.columns l.values;
       count : l.flips.count ≡ first.count;
       long : length l.flips.places ≡ 256;
+      as_long : length l.flips.terms ≡ 256;
       same : SameEntries (flip_entries first.places first.terms first.count l.i) (flips_in l.flips);
       differ : l.i < l.n → ColumnsDiffer (flips_in l.flips);
     }

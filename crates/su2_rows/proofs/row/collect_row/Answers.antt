@@ -1,26 +1,33 @@
-use Rattle.std.proofs.Common.{◌≡◌, ◌<◌, ◌≤◌, ◌∙◌, length, get_or, take, arith, rules}
-use Rattle.std.proofs.lemmas.List.{length_push, length-take-le, get_or-take}
-use Rattle.std.proofs.lemmas.Slice.Zip.{zip_turn}
+use Rattle.std.proofs.Common.{◌≡◌, ◌∙◌, ap, length, arith, rules}
+use Rattle.std.proofs.lemmas.List.{length_push}
+use Rattle.std.proofs.lemmas.Slice.Zip.{zip_turn, zip_end}
 use lib.Ieee.{nan}
+use Rattle.rows.specs.Row.{diagonal_first}
 use Rattle.rows.proofs.SortedRows.{pushed_few}
+use Rattle.su2_rows.proofs.Flipping.{row_whole}
 use Rattle.su2_rows.proofs.RowSteps.{triangle_pushed}
 use Rattle.su2_rows.proofs.row.collect_row.Goals as goal
 
-pub loop-place-preserved : goal.loop-place-preserved
-loop-place-preserved c =
-    let n = c.args.flips.now.count in
-    let places = c.args.flips.now.places in
-    let terms = c.args.flips.now.terms in
-    let t = length c.loop-place.yielded in
+pub loop-flip-preserved : goal.loop-flip-preserved
+loop-flip-preserved c =
+    let flips = c.args.flips.now in
+    let terms = c.args.terms.now in
+    let t = length c.loop-flip.yielded in
     let turn =
-    zip_turn (take n places) (take n terms) c.loop-place.yielded c.into_iter-place-iterator.result c.loop-place.place-iterator c.next.new.self _ (search rules) (search rules) c.loop-place.yielded_by _
+    zip_turn flips terms c.loop-flip.yielded c.into_iter-flip-iterator.result c.loop-flip.flip-iterator c.next.new.self _ (search rules) (search rules) c.loop-flip.yielded_by _
     c.in-Some.is c.next.ensures.steps
     in
-    let room : n ≤ length places = omega arith in
-    let below : t < n = omega (arith, turn.0, length-take-le n places room) in
-    let place : c.in-Some.place.now ≡ get_or places t 0 = turn.2 0 ∙ get_or-take n places t 0 below in
-    let term : c.in-Some.term.now ≡ get_or terms t nan = turn.3 nan ∙ get_or-take n terms t nan below in
-    let pushed = rw (place, term) at c.push_entry-m-in-loop-place.ensures in
-    let long : length places ≡ length terms = omega arith in
+    let pushed = rw (turn.2 0, turn.3 nan) at c.push_entry-m-in-loop-flip.ensures in
     rw length_push
-    ((tt, tt), tt, triangle_pushed places terms _ _ _ _ _ t _ long (omega arith) c.loop-place.invariant.2 pushed, omega (arith, c.loop-place.invariant.3, pushed_few pushed))
+    ((tt, tt), tt, triangle_pushed flips terms _ _ _ _ _ t _ c.requires.3 turn.0 c.loop-flip.invariant.2 pushed, omega (arith, c.loop-flip.invariant.3, pushed_few pushed))
+
+pub returns : goal.returns
+returns c =
+    let flips = c.args.flips.now in
+    let terms = c.args.terms.now in
+    let end =
+    zip_end flips terms c.loop-flip.yielded c.into_iter-flip-iterator.result c.loop-flip.flip-iterator c.next.new.self _ (search rules) (search rules) c.loop-flip.yielded_by c.in-None.is
+    c.next.ensures.steps
+    in
+    let past : length flips ≡ length c.loop-flip.yielded = omega (arith, end, c.requires.3) in
+    (c.loop-flip.invariant.2 ∙ ap (diagonal_first c.args.i c.args.diagonal) (row_whole _ flips terms past c.requires.3), omega (arith, c.loop-flip.invariant.3, past))

@@ -1,6 +1,6 @@
 use Rattle.std.proofs.Common.{arith}
 use Rattle.su2_rows.proofs.Flipping.{none_flipped, one_flipped}
-use Rattle.su2_rows.proofs.tables.flip_columns.Goals as goal
+use Rattle.su2_rows.proofs.row.flip_columns.Goals as goal
 
 pub loop-column-init : goal.loop-column-init
 loop-column-init c = none_flipped _ _
