@@ -1,5 +1,4 @@
-use Rattle.std.proofs.Common.{◌≡◌, ◌*◌, ◌≤◌, rules, sym, ap, ◌∙◌, arith, length}
-use lib.Seq.{length-take-le}
+use Rattle.std.proofs.Common.{◌≡◌, ◌*◌, ◌≤◌, rules, sym, ap, arith, length}
 use Rattle.complex.specs.Complex.{complex_of}
 use Rattle.triangles.proofs.SidesFound.{triangles_long}
 use Rattle.matrices.specs.Weights.{weight, is_given, given_list}
