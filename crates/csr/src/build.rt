@@ -19,8 +19,7 @@ use enumeration::basis::Basis;
 use matrices::coupling::{KSParams, is_u1};
 use matrices::weights::accept_weights;
 use moves::number::Digits;
-use moves::row::MoveTables;
-use moves::tables::MoveLists;
+use moves::tables::{MoveLists, MoveTables};
 use plaquettes::target::{Sizes, list_states};
 use triangles::all_sides;
 

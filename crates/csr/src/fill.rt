@@ -9,8 +9,9 @@ ghost use Rattle.csr.specs.Fill.{entries_from, Walking, RowFound, RowDone, WalkA
 ghost use Rattle.csr.specs.Views.{walk_by};
 
 use crate::words::set_length;
-use moves::row::{MoveTables, RowRoom, RowState};
+use moves::row::{RowRoom, RowState};
 use moves::seek::lower;
+use moves::tables::MoveTables;
 use plaquettes::rows::{row_at, row_energy};
 use plaquettes::target::Sizes;
 use rows::lists::copy_row;
@@ -28,7 +29,7 @@ pub struct RowTables<'a> {
 impl RowTables<'_> {
     // The row of state i, found by the moves of its state. How many entries it has is told.
     fn find_row(&self, i: usize, words: &[u32], room: &mut RowRoom) -> usize
-        requires { Walking (walk_by self.now words.now) × SmallRows self.now.list.now self.now.sizes.states self.now.sizes.edges × (length self.now.moves.terms.now ≡ length self.now.moves.keys.now) × (i < self.now.sizes.states) × (self.now.sizes.states ≤ length words.now) × Pointers self.now.sizes.states room.old.pointers × ColumnsDiffer (entries_from (walk_by self.now words.now) room.old.pointers i) }
+        requires { Walking (walk_by self.now words.now) × SmallRows self.now.list.now self.now.sizes.states self.now.sizes.edges × (i < self.now.sizes.states) × (self.now.sizes.states ≤ length words.now) × Pointers self.now.sizes.states room.old.pointers × ColumnsDiffer (entries_from (walk_by self.now words.now) room.old.pointers i) }
         ensures found { RowFound (walk_by self.now words.now) i room.old.pointers result room.new.pointers (pairs room.new.columns room.new.values) }
         ensures few { result ≤ length self.now.moves.keys.now + 1 }
     {
@@ -55,7 +56,7 @@ impl RowTables<'_> {
         columns: &mut [u32],
         values: &mut [f64],
     ) -> usize
-        requires { Walking (walk_by self.now words.old) × SmallRows self.now.list.now self.now.sizes.states self.now.sizes.edges × (length self.now.moves.terms.now ≡ length self.now.moves.keys.now) × (i < self.now.sizes.states) × (self.now.sizes.states ≤ length words.old) × Pointers self.now.sizes.states room.old.pointers × ColumnsDiffer (entries_from (walk_by self.now words.old) room.old.pointers i) × (get_or words.old i 0 < 2 ^ 20) × RowFits (entries_from (walk_by self.now words.old) room.old.pointers i) at (length columns.old) (length values.old) }
+        requires { Walking (walk_by self.now words.old) × SmallRows self.now.list.now self.now.sizes.states self.now.sizes.edges × (i < self.now.sizes.states) × (self.now.sizes.states ≤ length words.old) × Pointers self.now.sizes.states room.old.pointers × ColumnsDiffer (entries_from (walk_by self.now words.old) room.old.pointers i) × (get_or words.old i 0 < 2 ^ 20) × RowFits (entries_from (walk_by self.now words.old) room.old.pointers i) at (length columns.old) (length values.old) }
         ensures { RowDone (walk_by self.now words.old) i at room.old.pointers words.old columns.old values.old result room.new.pointers words.new columns.new values.new }
     {
         let count = self.find_row(i, words, room);
@@ -66,7 +67,7 @@ impl RowTables<'_> {
 
     // The rows of all states go to the beginning of two lists, and their lengths to the upper bits of the words. By number: state i and its word go together.
     pub fn write_rows(&self, words: &mut [u32], columns: &mut [u32], values: &mut [f64])
-        requires { SmallRows self.now.list.now self.now.sizes.states self.now.sizes.edges × (length self.now.moves.terms.now ≡ length self.now.moves.keys.now) × Writable (walk_by self.now words.old) words.old (length columns.old) (length values.old) }
+        requires { SmallRows self.now.list.now self.now.sizes.states self.now.sizes.edges × Writable (walk_by self.now words.old) words.old (length columns.old) (length values.old) }
         ensures { (at : ℕ) × (pointers : List ℕ) × WalkAt (walk_by self.now words.old) words.old columns.old values.old self.now.sizes.states at pointers words.new columns.new values.new }
     {
         let mut room = RowRoom::new();

@@ -17,14 +17,13 @@ pub fn set_length(words: &mut [u32], i: usize, count: usize)
     words[i] = words[i] + 1048576 * (count as u32);
 }
 
-// The numbers of the states of a list go to the words. By number: state i and word i go together.
+// The numbers of the states of a list go to the words.
 pub fn write_numbers(list: &[i32], s: Sizes, digits: Digits<'_>, words: &mut [u32])
     requires { SmallRows list.now s.states s.edges × ((i : ℕ) → i < s.states → Numbered digits.lambda digits.lambda digits.free.now digits.n (row s.edges list.now i)) × (s.states ≤ length words.old) }
     ensures { FirstWords (λ i. number digits.entry.lambda digits.entry.lambda digits.entry.free.now digits.entry.n (row s.edges list.now i)) s.states words.old words.new }
 {
-    for i in 0..s.states {
-        let x = digits.number(row_at(list, s.edges, i), digits.lambda);
-        words[i] = x as u32;
+    for (i, word) in words[..s.states].iter_mut().enumerate() {
+        *word = digits.number(row_at(list, s.edges, i), digits.lambda) as u32;
     }
 }
 

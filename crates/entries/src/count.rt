@@ -13,7 +13,7 @@ use plaquettes::pairs::stays;
 use triangles::{Sides, sides_at};
 use walker::row::fill_row;
 
-// How many of both moves of a triangle do so.
+// How many of both moves of a triangle keep its three values within -lambda to lambda.
 #[tactic(auto, unfolding(crate::specs::Count::both_stay))]
 fn count_both(state: &[i32], sides: Sides, lambda: usize) -> usize
     requires { Movable state.now (three sides) × (lambda ≤ 1000) }
@@ -22,7 +22,7 @@ fn count_both(state: &[i32], sides: Sides, lambda: usize) -> usize
     usize::from(stays(state, sides, 1, lambda)) + usize::from(stays(state, sides, -1, lambda))
 }
 
-// How many moves of the first n triangles do so. By number: the three sides of triangle t stand in one flat table.
+// How many moves of the first n triangles keep their values there. By number: the three sides of triangle t stand in one flat table.
 fn count_moves(state: &[i32], all: &[u8; 768], n: usize, lambda: usize) -> usize
     requires { Countable lambda state.now all.now n }
     ensures { (result ≡ moves_stay lambda state.now all.now n) × (result ≤ 512) }

@@ -9,9 +9,21 @@ use native.Mathlib.Omega.{arith}
 use lib.IntN.{ℤ, pos}
 use lib.Signed.{lt_z}
 use lib.ListN.{get_or, length, take, drop, length-take, length-drop}
+use lib.Seq.{get_or-take, length-take-le}
+use Rattle.std.proofs.Common.{reverse}
+use Rattle.std.proofs.lemmas.List.{get_or-reverse, length-reverse}
+use Rattle.std.proofs.lemmas.Grind.{get_or_default_zero}
 use Rattle.mathematics.proofs.Integers.{by_parts, not_less_test, test_not_less}
 use Rattle.hilbert.specs.Basis.{decided, smaller}
 use Rattle.hilbert.specs.Search.{row, Rows}
+
+-- ---- a list's first n entries, read from the last on
+pub read_back : (l : List ℕ) (n k x : ℕ) → n ≤ length l → (k < length (reverse (take n l))) × (x ≡ get_or (reverse (take n l)) k x) → (k < n) × (x ≡ get_or l (n - k - 1) 0)
+read_back l n k x room there =
+    let long : length (take n l) ≡ n = length-take-le n l room in
+    let inside : k < n = omega (arith, there.0, length-reverse (take n l), long) in
+    let same : length (take n l) - 1 - k ≡ n - k - 1 = omega (arith, long) in
+    (inside, there.1 ∙ get_or-reverse (take n l) k x (omega (arith, inside, long)) ∙ rw same (get_or-take n l (n - k - 1) x (omega (arith, inside)) ∙ get_or_default_zero l (n - k - 1) x (omega (arith, inside, room))))
 
 -- ---- one value decides
 module _ (b : Bool) (x y : ℤ) where

@@ -6,15 +6,14 @@ ghost use Rattle.hilbert.specs.Search.{row, Rows, Ranked};
 
 use numbers::sizes::MOST_EDGES;
 
-// Whether a row has the smaller value on the last free edge where it differs from a configuration: from the last free edge down, by number.
-// The table and the number of free edges are two parameters here and below: what is known of them (`FreeFit`) is told of the whole table, and
-// `advance` is called with such a table and no walker.
+// Whether a row has the smaller value on the last free edge where it differs from a configuration: from the last free edge down. The table
+// and the number of free edges are two parameters here and below: what is known of them (`FreeFit`) is told of the whole table.
 fn row_before(row: &[i32], config: &[i32], free: &[u8; MOST_EDGES], n_free: usize) -> bool
     requires { (length row.now ≡ length config.now) × (length config.now ≤ 63) × (n_free ≤ 63) × FreeFit (length config.now) n_free free.now }
     ensures { result ≡ smaller free.now row.now config.now n_free }
 {
-    for j in (0..n_free).rev() {
-        let e = usize::from(free[j]);
+    for edge in free[..n_free].iter().rev() {
+        let e = usize::from(*edge);
         let x = row[e];
         let y = config[e];
         if x != y {
@@ -67,6 +66,7 @@ pub fn find_place(
 }
 
 // The same from a row on that none of the rows before it comes after: one row after the other. By number: a row may have no values here too.
+// The number of all rows is an answer as well: what is told is the place from which the next search goes on.
 pub fn advance(
     states: &[i32],
     n: usize,

@@ -38,13 +38,11 @@ pub fn all_bounded(list: &[f64]) -> bool
 fn miscounted(weights: Option<&[f64]>, n: usize) -> bool
     ensures { result ≡ (is_given weights.entry && not (eqb (length (given_list weights.entry)) n)) }
 {
-    match weights {
-        Some(list) => list.len() != n,
-        None => false,
-    }
+    weights.is_some_and(|list| list.len() != n)
 }
 
-// 12 for the number of the given weights, 14 for a coupling that is not right or a weight out of its range.
+// 12 for the number of the given weights, 14 for a coupling that is not right or a weight out of its range. Whether the factors are those of
+// the mode is told as a bool, here and below: the caller judges it, whose mode it is.
 #[tactic(auto, using(crate::proofs::Weighing::number_told, crate::proofs::Weighing::coupling_told, crate::proofs::Weighing::absent_told, crate::proofs::Weighing::range_told, crate::proofs::Weighing::right_told))]
 pub fn accept_weights(
     n_triangles: usize,
@@ -87,12 +85,10 @@ pub fn accept_vector(
 }
 
 // The weight of triangle t.
+#[tactic(auto, using(crate::proofs::Literals::one), unfolding(crate::specs::Weights::weight))]
 pub fn weight_at(weights: Option<&[f64]>, t: usize) -> f64
     requires { is_given weights ≡ true → t < length (given_list weights) }
     ensures { result ≡ weight (is_given weights.entry) (given_list weights.entry) t }
 {
-    match weights {
-        Some(list) => list[t],
-        None => 1.0,
-    }
+    weights.map_or(1.0, |list| list[t])
 }

@@ -1,12 +1,12 @@
 -- One turn of the loop over a row and of that over all rows.
-use Prim.Native.Nat.{ℕ, ◌+◌, ◌≤◌, ◌<◌}
+use Prim.Native.Nat.{ℕ, ◌+◌, ◌-◌, ◌≤◌, ◌<◌}
 use mathlib.Core.List.{List, [], ◌∷◌, ◌++◌, map, map-append}
 use mathlib.Core.Path.{◌≡◌, sym, ap, ◌∙◌}
 use native.Mathlib.Numerals.{add-one}
 use native.Mathlib.Omega.{arith}
 use lib.Ieee.{Float, binary64, nan, add, mul}
-use lib.ListN.{length, get_or, drop, set, length-map}
-use lib.Seq.{slice, slice_empty, slice-cons}
+use lib.ListN.{length, get_or, drop, set, take, length-map, length-drop}
+use lib.Seq.{slice, slice_empty, slice-cons, get_or-drop, get_or-take, length-take-le}
 use Rattle.mathematics.specs.Counting.{below}
 use Rattle.mathematics.specs.Writing.{front}
 use Rattle.mathematics.proofs.Below.{length_below}
@@ -14,6 +14,16 @@ use Rattle.mathematics.proofs.Front.{store}
 use Rattle.rows.specs.Entries.{pairs}
 use Rattle.rows.proofs.Pairs.{pairs_length, pairs_at}
 use Rattle.matvec.specs.Product.{row_entries, with_products, row_sum, product}
+
+-- a part of a list, as a slice of it is lent
+abbrev pub part : {A : Type 0} → List A → ℕ → ℕ → List A
+part l from to = take (to - from) (drop from l)
+
+pub part_long : {A : Type 0} (l : List A) (from to : ℕ) → to ≤ length l → length (part l from to) ≡ to - from
+part_long l from to room = length-take-le (to - from) (drop from l) (omega (arith, length-drop from l))
+
+pub part_at : {A : Type 0} (l : List A) (from to t : ℕ) (d : A) → from + t < to → get_or (part l from to) t d ≡ get_or l (from + t) d
+part_at l from to t d h = get_or-take (to - from) (drop from l) t d (omega arith) ∙ get_or-drop from l t d
 
 -- one entry more
 pub sum_turn : (columns : List ℕ) (values vector : List Float) (sum : Float) (k to : ℕ) → k < to → to ≤ length columns → length columns ≡ length values

@@ -60,15 +60,14 @@ pub fn values_right(values: &[f64]) -> bool
     all_within(1208925819614629174706176.0, values)
 }
 
-// The sum of a row, whose entries stand from one place to another. A zip of both slices takes 0.85 ns an entry where rows have six entries, and this
-// loop 0.82 ns.
+// The sum of a row, whose entries stand from one place to another.
 fn row_sum(columns: &[u32], values: &[f64], vector: &[f64], from: usize, to: usize) -> f64
     requires { (from ≤ to) × (to ≤ length columns.now) × (length columns.now ≡ length values.now) × ((k : ℕ) → k < length columns.now → get_or columns.now k 0 < length vector.now) }
     ensures { result ≡ row_sum vector.now (slice from to (pairs columns.now values.now)) }
 {
     let mut sum = 0.0;
-    for k in from..to {
-        sum += values[k] * vector[columns[k] as usize];
+    for (column, value) in columns[from..to].iter().zip(&values[from..to]) {
+        sum += *value * vector[*column as usize];
     }
     sum
 }

@@ -1,10 +1,11 @@
 -- The entries of a row as the code collects them, move by move.
 use Prim.Native.Nat.{ℕ, zero, suc, ◌+◌, ◌-◌, ◌<◌, ◌≤◌, min}
 use mathlib.Core.List.{List, append-nil}
-use mathlib.Core.Bool.{Bool, true, false, cond}
+use mathlib.Core.Bool.{Bool, true, false, cond, false≢true}
 use Rattle.std.proofs.Common.{Option, Some, None}
+use Rattle.std.specs.Option.{is_some, IfSome}
 use Rattle.std.proofs.lemmas.Option.{none-some, cond_some}
-use mathlib.Core.Path.{◌≡◌, refl, sym, ◌∙◌}
+use mathlib.Core.Path.{◌≡◌, refl, sym, ap, ◌∙◌}
 use native.Mathlib.Numerals.{add-one}
 use native.Mathlib.Omega.{arith}
 use native.Mathlib.Decide.{ℕ_discrete}
@@ -18,6 +19,13 @@ use Rattle.rows.specs.Row.{kept}
 use Rattle.rows.specs.RowLists.{EntryPushed}
 use Rattle.moves.specs.Numbers.{sought}
 use Rattle.moves.specs.Moves.{Moves, change_in, goes, arrives, collected, pointed, Pointers, MovePushed}
+
+-- an option that is given where a test holds, with one value
+pub kept_or_none : (r : Option ℕ) (b : Bool) (x : ℕ) → is_some r ≡ b → {P : ℕ → Type 0} → IfSome r P → ((y : ℕ) → P y → y ≡ x) → r ≡ cond b (Some x) None
+kept_or_none (Some y) true x e h f = ap Some (f y h)
+kept_or_none (Some y) false x e h f = absurd (false≢true (sym e))
+kept_or_none None true x e h f = absurd (false≢true e)
+kept_or_none None false x e h f = refl
 
 pub pointers_same : {n : ℕ} {p q : List ℕ} → p ≡ q → Pointers n q → Pointers n p
 pointers_same e h = rw e h

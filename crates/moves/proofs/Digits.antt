@@ -1,11 +1,6 @@
 -- The digits of a number.
 use Prim.Native.Nat.{ℕ, zero, suc, ◌+◌, ◌-◌, ◌*◌, ◌<◌, ◌≤◌}
-use mathlib.Core.Path.{◌≡◌, ◌∙◌}
-use Rattle.std.proofs.Common.{List, reverse}
-use lib.ListN.{get_or, length, take}
-use lib.Seq.{get_or-take, length-take-le}
-use Rattle.std.proofs.lemmas.List.{get_or-reverse, length-reverse}
-use Rattle.std.proofs.lemmas.Grind.{get_or_default_zero}
+use mathlib.Core.Path.{◌≡◌}
 use native.Mathlib.Omega.{arith}
 use native.Mathlib.Nat.{mul-le-mul_left}
 use Rattle.moves.specs.Numbers.{numeral}
@@ -26,11 +21,3 @@ numeral_next base x (suc j) a d total h more is e =
     let one : suc j - 1 ≡ j = omega arith in
     let same : numeral base x j (a * base + d) ≡ total = rw (rw one at e) is in
     rw one (same, omega (arith, same, numeral_least base x j (a * base + d) h))
-
--- a list's first n entries, read from the last on
-pub read_back : (l : List ℕ) (n k x : ℕ) → n ≤ length l → (k < length (reverse (take n l))) × (x ≡ get_or (reverse (take n l)) k x) → (k < n) × (x ≡ get_or l (n - k - 1) 0)
-read_back l n k x room there =
-    let long : length (take n l) ≡ n = length-take-le n l room in
-    let inside : k < n = omega (arith, there.0, length-reverse (take n l), long) in
-    let same : length (take n l) - 1 - k ≡ n - k - 1 = omega (arith, long) in
-    (inside, there.1 ∙ get_or-reverse (take n l) k x (omega (arith, inside, long)) ∙ rw same (get_or-take n l (n - k - 1) x (omega (arith, inside)) ∙ get_or_default_zero l (n - k - 1) x (omega (arith, inside, room))))

@@ -1,5 +1,5 @@
 -- The tables of the moves as the code holds them.
-use Rattle.moves.specs.declared.row.MoveTables.{MoveTables}
+use Rattle.moves.specs.declared.tables.MoveTables.{MoveTables}
 use Rattle.moves.specs.Moves.{Moves, tables}
 
 -- the moves in them

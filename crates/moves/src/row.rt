@@ -8,6 +8,7 @@ ghost use Rattle.moves.specs.Moves.{triangle_of, unit_of, move_in, change_in, go
 ghost use Rattle.moves.specs.Views.{moves_of};
 
 use crate::seek::seek;
+use crate::tables::MoveTables;
 use plaquettes::pairs::stays;
 use rows::lists::{is_kept, push_entry};
 use triangles::sides_at;
@@ -83,15 +84,6 @@ impl RowRoom {
     }
 }
 
-// The moves of all triangles: the three edges of each triangle, of each move a key and the value that it gives an entry, and the truncation.
-#[derive(Clone, Copy)]
-pub struct MoveTables<'a> {
-    pub all: &'a [u8; 768],
-    pub keys: &'a [u32],
-    pub terms: &'a [f64],
-    pub lambda: usize,
-}
-
 impl MoveTables<'_> {
     // Whether the move of a key keeps the three values of a state within -lambda to lambda.
     #[tactic(auto, unfolding(crate::specs::Moves::triangle_of, crate::specs::Moves::move_in))]
@@ -110,17 +102,14 @@ impl MoveTables<'_> {
         ensures inside { (p : ℕ) → result ≡ Some p → p ≤ length words.now }
     {
         let key = self.keys[k];
-        if self.goes(row.state, key) {
-            Some(seek(words, from, row.number + change_in(key)))
-        } else {
-            None
-        }
+        self.goes(row.state, key)
+            .then(|| seek(words, from, row.number + change_in(key)))
     }
 
     // The entries of a row: the diagonal where it is kept, then those of the moves that stay. How many there are is told. By number: move k, its value and
     // its pointer go together.
     pub fn collect_row(&self, row: RowState<'_>, words: &[u32], room: &mut RowRoom) -> usize
-        requires { (length self.now.keys.now ≤ 512) × (length self.now.terms.now ≡ length self.now.keys.now) × StateMoves (moves_of self.now) (length self.now.keys.now) self.now.lambda row.state.now × Pointers (length words.now) room.old.pointers × (length words.now ≤ 2 ^ 20) × (row.i < 2 ^ 20) × (row.number < 2 ^ 20) }
+        requires { (length self.now.keys.now ≤ 512) × StateMoves (moves_of self.now) (length self.now.keys.now) self.now.lambda row.state.now × Pointers (length words.now) room.old.pointers × (length words.now ≤ 2 ^ 20) × (row.i < 2 ^ 20) × (row.number < 2 ^ 20) }
         ensures entries { take result (pairs room.new.columns room.new.values) ≡ collected (moves_of self.now) self.now.lambda (number_in words.now) (length words.now) row.entry.state.now row.entry.number room.old.pointers row.entry.i row.entry.diagonal (length self.now.keys.now) }
         ensures few { result ≤ length self.now.keys.now + 1 }
         ensures pointers { room.new.pointers ≡ pointed (moves_of self.now) self.now.lambda (number_in words.now) (length words.now) row.entry.state.now row.entry.number room.old.pointers (length self.now.keys.now) }

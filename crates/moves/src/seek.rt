@@ -10,8 +10,8 @@ pub fn lower(word: u32) -> usize
     (word % 1048576) as usize
 }
 
-// The first place from `from` on whose number, with 2^20 added, is not below `wanted`, or the number of the words. By number: the
-// answer is a place among all words.
+// The first place from `from` on whose number, with 2^20 added, is not below `wanted`, or the number of the words: what is told is the place
+// from which the next search goes on. By number: the answer is a place among all words.
 pub fn seek(words: &[u32], from: usize, wanted: usize) -> usize
     requires { from ≤ length words.now }
     ensures { (result ≡ sought (number_in words.now) wanted from (length words.now - from)) × (result ≤ length words.now) }

@@ -40,7 +40,8 @@ fn row_stays(list: &[i32], s: Sizes, sides: Sides, by: i32, place: usize) -> boo
     stays(row_at(list, s.edges, place), sides, by, s.lambda)
 }
 
-// The first state from a place on of which that is so, or the number of states. By number: the rows are no chunks, as a row may have no values.
+// The first state from a place on of which that is so, or the number of states: what is told is the place from which the next search goes on.
+// By number: the rows are no chunks, as a row may have no values.
 pub fn next_staying(list: &[i32], s: Sizes, sides: Sides, by: i32, from: usize) -> usize
     requires { MovableRows list.now s sides × (nat_abs by ≤ 1) × (from ≤ s.states) }
     ensures { NextStaying list.now s sides by from result }
@@ -53,8 +54,8 @@ pub fn next_staying(list: &[i32], s: Sizes, sides: Sides, by: i32, from: usize) 
     s.states
 }
 
-// Where a triangle's move takes the state at a place, or the number of states. The targets of the states before it are before a given place,
-// and its own is not.
+// Where a triangle's move takes the state at a place, or the number of states, a place from which a search may go on as well. The targets of
+// the states before it are before a given place, and its own is not.
 pub fn find_pair(list: &[i32], s: Sizes, sides: Sides, by: i32, place: usize, from: usize) -> usize
     requires { MovableRows list.now s sides × (nat_abs by ≤ 1) × (place < s.states) × (from ≤ s.states) }
     ensures { PairFound list.now s sides by place from result }

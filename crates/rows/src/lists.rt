@@ -14,7 +14,8 @@ pub fn is_kept(x: f64) -> bool
     (x < 0.0) | (0.0 < x)
 }
 
-// An entry goes behind the first n, where it is taken. How many there are then is told.
+// An entry goes behind the first n, where it is taken. How many there are then is told. The test is a bool, and there is no branch: the entry
+// is stored each time, and counted where it is taken.
 pub fn push_entry(
     columns: &mut [u32],
     values: &mut [f64],

@@ -1,5 +1,4 @@
-use Rattle.std.proofs.Common.{◌≡◌, ◌*◌, ◌≤◌, rules, sym, ap, ◌∙◌, arith, length}
-use lib.Seq.{length-take-le}
+use Rattle.std.proofs.Common.{◌≡◌, ◌*◌, ◌≤◌, rules, sym, ap, arith, length}
 use Rattle.complex.specs.Complex.{complex_of}
 use Rattle.triangles.proofs.SidesFound.{triangles_long}
 use Rattle.matrices.specs.Weights.{weight, is_given, given_list}
@@ -34,7 +33,6 @@ write_rows-requires c =
     let room : 2 * a.c.n_triangles ≤ length c.of-lists.result.keys = omega (arith, triangles, b.accepted.few_triangles, c.of-lists.result.keys_long) in
     let is = walk_sliced (complex_of a.c) a.list.now a.s a.free.now b c.requires.2 a.p w a.starts.now c.write_numbers.new.words c.write_numbers.ensures _ _ _ _ triangles room c.of-lists.ensures in (
       small_rows _ _ _ _ b,
-      length-take-le _ _ (omega (arith, triangles, b.accepted.few_triangles, c.of-lists.result.terms_long)) ∙ sym (length-take-le _ _ room),
       writable is _ _ _ (omega (arith, b.count, c.write_numbers.ensures.long, c.requires.4)) (word_small _ _ _ _ b c.requires.2 a.p w _ _ c.write_numbers.ensures) c.requires.5 c.requires.6 few,
     )
 

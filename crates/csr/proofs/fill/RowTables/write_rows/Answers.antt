@@ -5,20 +5,19 @@ use Rattle.csr.proofs.Filling.{walk_start, walk_fits, walk_differ, walk_unset, w
 use Rattle.csr.proofs.fill.RowTables.write_rows.Goals as goal
 
 pub loop-i-init : goal.loop-i-init
-loop-i-init c = walk_start _ _ _ _ c.requires.2 _ refl refl _ c.new-room.ensures
+loop-i-init c = walk_start _ _ _ _ c.requires.1 _ refl refl _ c.new-room.ensures
 
 pub add_row-at-requires : goal.add_row-at-requires
 add_row-at-requires c =
     let a = c.args in
     let l = c.loop-i in
     let v = walk_by a.self.now a.words.now in
-    let writable = c.requires.2 in
+    let writable = c.requires.1 in
     let walking = writable.walking in
     let inside = c.loop-i-test.true in
     let same : walk_by a.self.now l.words ≡ v = walk_same _ _ _ _ _ l.words a.words.now _ _ _ _ l.invariant.numbers_are in (
       record { few = walking.few; moves_few = walking.moves_few; each = walking.each },
       c.requires.0,
-      c.requires.1,
       inside,
       omega (arith, l.invariant.long, writable.room),
       pointers_same l.invariant.pointers_are (walk_pointers v l.i),
@@ -32,7 +31,7 @@ loop-i-preserved c =
     let a = c.args in
     let l = c.loop-i in
     let same : walk_by a.self.now l.words ≡ walk_by a.self.now a.words.now = walk_same _ _ _ _ _ l.words a.words.now _ _ _ _ l.invariant.numbers_are in
-    walk_step _ _ _ _ c.requires.2 _ _ _ _ _ _ l.invariant c.loop-i-test.true _ _ _ _ _ (done_same same c.add_row-at.ensures)
+    walk_step _ _ _ _ c.requires.1 _ _ _ _ _ _ l.invariant c.loop-i-test.true _ _ _ _ _ (done_same same c.add_row-at.ensures)
 
 pub returns : goal.returns
 returns c =

@@ -6,7 +6,8 @@ use Rattle.std.proofs.lemmas.Iterator.Adapters.{YieldsList-from_rev_slice}
 use Rattle.std.proofs.lemmas.Iterator.Consumers.{YieldsList-turn, YieldsList-end}
 use Rattle.mathematics.proofs.Signed.{small_back}
 use Rattle.moves.specs.Numbers.{numeral, digit, number}
-use Rattle.moves.proofs.Digits.{numeral_next, read_back}
+use Rattle.hilbert.proofs.Searching.{read_back}
+use Rattle.moves.proofs.Digits.{numeral_next}
 use Rattle.moves.proofs.number.Digits.number.Goals as goal
 use Rattle.moves.proofs.number.Digits.number.Goals.{After-digit}
 

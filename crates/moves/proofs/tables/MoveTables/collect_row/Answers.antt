@@ -4,7 +4,7 @@ use Rattle.moves.specs.Numbers.{number_in}
 use Rattle.moves.specs.Moves.{goes, pointed, Pointers}
 use Rattle.moves.specs.Views.{moves_of}
 use Rattle.moves.proofs.Collecting.{pointers_same, pointed_pointers, diagonal_collected, move_collected, move_pointed}
-use Rattle.moves.proofs.row.MoveTables.collect_row.Goals as goal
+use Rattle.moves.proofs.tables.MoveTables.collect_row.Goals as goal
 
 pub loop-k-init : goal.loop-k-init
 unfolding pointed
@@ -16,8 +16,8 @@ pub target-place-requires : goal.target-place-requires
 target-place-requires c =
     let a = c.args in
     let pointers : Pointers (length a.words.now) c.loop-k.room.pointers =
-    pointers_same c.loop-k.invariant.pointed (pointed_pointers (moves_of a.self.now) a.self.now.lambda (number_in a.words.now) (length a.words.now) a.row.state.now a.row.number a.room.now.pointers c.loop-k.k c.requires.3) in
-    (c.loop-k-test.true, c.requires.2, c.requires.6, pointers.below c.loop-k.k)
+    pointers_same c.loop-k.invariant.pointed (pointed_pointers (moves_of a.self.now) a.self.now.lambda (number_in a.words.now) (length a.words.now) a.row.state.now a.row.number a.room.now.pointers c.loop-k.k c.requires.2) in
+    (c.loop-k-test.true, c.requires.1, c.requires.5, pointers.below c.loop-k.k)
 
 pub loop-k-preserved : goal.loop-k-preserved
 loop-k-preserved c =

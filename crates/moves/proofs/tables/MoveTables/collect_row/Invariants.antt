@@ -3,7 +3,7 @@ use Rattle.rows.specs.Entries.{pairs}
 use Rattle.moves.specs.Numbers.{number_in}
 use Rattle.moves.specs.Moves.{collected, pointed}
 use Rattle.moves.specs.Views.{moves_of}
-use Rattle.moves.proofs.row.MoveTables.collect_row.Given as goal
+use Rattle.moves.proofs.tables.MoveTables.collect_row.Given as goal
 
 abbrev pub invariant-loop-k : goal.invariant-loop-k
 invariant-loop-k l = record {
