@@ -4,8 +4,8 @@
 pub mod numbering;
 pub mod search;
 
-ghost use Rattle.std.specs.Prelude.{◌≡◌, cond, ◌+◌, ◌*◌, ◌<◌, get_or, eqb, pos, negsuc};
-ghost use Rattle.complex.specs.Complex.{entries};
+ghost use Rattle.std.specs.Prelude.{◌≡◌, cond, ◌+◌, ◌*◌, ◌<◌, ◌≤◌, get_or, eqb, pos, negsuc};
+ghost use Rattle.complex.specs.Complex.{entries, simplices};
 ghost use Rattle.complex.specs.Search.{across};
 
 use numbers::sizes::{EDGE_ENTRIES, TRIANGLE_ENTRIES};
@@ -33,6 +33,15 @@ impl SimplicialComplex {
             usize::from(self.edges[2 * e]),
             usize::from(self.edges[2 * e + 1]),
         )
+    }
+
+    // The edges in their order, each as its two vertices.
+    pub fn edge_pairs(&self) -> &[[u8; 2]]
+        requires { self.now.n_edges ≤ 63 }
+        ensures { result.now ≡ simplices 2 self.now.edges self.now.n_edges }
+    {
+        let (whole, _) = self.edges[..2 * self.n_edges].as_chunks::<2>();
+        whole
     }
 
     // The end of edge e across from v.
