@@ -19,6 +19,7 @@ use Rattle.mathematics.proofs.Bits.{bit_below, bit_of_zero, bit_xor_lem, bit_pow
 use Rattle.complex.specs.Complex.{Simplex, entries, simplices}
 use Rattle.complex.specs.Numbering.{number, key, EdgeTable}
 use Rattle.complex.proofs.Simplices.{simplices_length}
+use Rattle.complex.proofs.Chunks.{listed_long, listed_at}
 use Rattle.complex.proofs.Numberings.{number_last, number_other}
 use Rattle.complex.proofs.Indexes.{simplices_next}
 use Rattle.complex.proofs.Triangles.{number_listed}
@@ -76,6 +77,12 @@ unfolding key entries
 indexed_next l e al bl table r i =
     rw (simplices_next 2 l e)
     (rw (simplices_length 2 l e) at (next table (simplices 2 l e) (get_or l (2 * e) 0) (get_or l (2 * e + 1) 0) al bl r i))
+
+-- the ends of an edge as the list of edges gives them
+pub small_ends : (l : List ℕ) (n : ℕ) {items : List Simplex} → items ≡ simplices 2 l n → ((e : ℕ) → e < n → (get_or l (2 * e) 0 < 64) × (get_or l (2 * e + 1) 0 < 64)) → (e : ℕ) → e < length items
+    → (get_or (get_or items e []) 0 0 < 64) × (get_or (get_or items e []) 1 0 < 64)
+unfolding entries
+small_ends l n is small e h = rw (listed_at 2 l n is h) (small e (omega (arith, listed_long 2 l n is)))
 
 -- ---- the set of bits
 -- no key

@@ -16,29 +16,27 @@ use complex::SimplicialComplex;
 use complex::search::connected;
 use numbers::sizes::{LARGEST_TRUNCATION, MOST_EDGES, MOST_TRIANGLES, MOST_VERTICES};
 
-// Whether every edge rises to a vertex of the record. By number: edge e is asked of the record.
+// Whether every edge rises to a vertex of the record.
 fn edges_rise(c: &SimplicialComplex) -> bool
     requires { c.now.n_edges ≤ 63 }
     ensures { result ≡ every_entry (rising c.now.n_vertices) (simplices 2 c.now.edges c.now.n_edges) }
 {
     let mut so_far = true;
-    for e in 0..c.n_edges {
-        let (a, b) = c.edge(e);
-        so_far &= (a < b) & (b < c.n_vertices);
+    for &[a, b] in c.edge_pairs() {
+        so_far &= (a < b) & (usize::from(b) < c.n_vertices);
     }
     so_far
 }
 
-// Whether no edge is listed twice; then the table is Rust's edge_index. Once one is, the table says nothing. By number: the table holds the
-// numbers. It is fixed memory with an entry for each key, here and below.
+// Whether no edge is listed twice; then the table is Rust's edge_index. Once one is, the table says nothing. It is
+// fixed memory with an entry for each key, here and below.
 pub fn index_edges(c: &SimplicialComplex, table: &mut [u8; 4096]) -> bool
     requires { (c.now.n_edges ≤ 63) × (table.old ≡ replicate 4096 0) × ((e : ℕ) → e < c.now.n_edges → (get_or c.now.edges (2 * e) 0 < 64) × (get_or c.now.edges (2 * e + 1) 0 < 64)) }
     ensures { EdgesIndexed table.new result (simplices 2 c.now.edges c.now.n_edges) }
 {
     let mut so_far = true;
-    for e in 0..c.n_edges {
-        let (a, b) = c.edge(e);
-        let key = 64 * a + b;
+    for (e, &[a, b]) in c.edge_pairs().iter().enumerate() {
+        let key = 64 * usize::from(a) + usize::from(b);
         so_far &= table[key] == 0;
         table[key] = (e + 1) as u8;
     }
@@ -66,7 +64,8 @@ fn triangle_fits(c: &SimplicialComplex, table: &[u8; 4096], t: usize) -> bool
         & ((edge_number(table, x, z) != 0) & (edge_number(table, y, z) != 0))
 }
 
-// Whether every triangle fits. By number: triangle t is asked of the record.
+// Whether every triangle fits. By number, here and below: a triangle's vertices are places in the table, and `triangle` reads them as such.
+// Over a list of triples each would be converted in both functions.
 fn triangles_fit(c: &SimplicialComplex, table: &[u8; 4096]) -> bool
     requires { (c.now.n_triangles ≤ 256) × (c.now.n_vertices ≤ 64) }
     ensures { (es : List Simplex) → EdgeTable table.now es → result ≡ every_entry (λ s. rising c.now.n_vertices s && sides_listed es s) (simplices 3 c.now.triangles c.now.n_triangles) }
@@ -98,7 +97,7 @@ fn mark(seen: &mut [u64; 64], key: usize, so_far: bool) -> bool
     so_far & ((old >> bit) % 2 == 0)
 }
 
-// Whether no triangle is listed twice. By number: triangle t is asked of the record.
+// Whether no triangle is listed twice.
 fn triangles_once(c: &SimplicialComplex, table: &[u8; 4096]) -> bool
     requires { (c.now.n_triangles ≤ 256) × ((i : ℕ) → i < c.now.n_triangles → Keyed table.now (entries c.now.triangles (3 * i) 3)) }
     ensures { result ≡ distinct eqb (map (triangle_key table.now) (simplices 3 c.now.triangles c.now.n_triangles)) }

@@ -8,8 +8,8 @@ use native.Mathlib.Nat.{eq-or-lt_of_le, le_of_suc-le-suc}
 use native.Mathlib.Decide.{ℕ_discrete}
 use native.Mathlib.Omega.{arith}
 use borrow.Author.Tests.{ne_eqb}
-use lib.ListN.{get_or, set, length, length-set, replicate, length-replicate, get_or-replicate}
-use lib.Seq.{get_or-set_same, get_or-set_other}
+use lib.ListN.{get_or, set, take, length, length-set, replicate, length-replicate, get_or-replicate}
+use lib.Seq.{get_or-take, get_or-set_same, get_or-set_other}
 use Rattle.complex.specs.Complex.{Simplex, start, end, simplices, Joins}
 use Rattle.complex.specs.Search.{Search, touches, look, scan}
 use Rattle.complex.specs.Tree.{opposite, NextAt, Linked, Searchable}
@@ -87,6 +87,32 @@ module _ (edges : List ℕ) (count : ℕ) where
 
     pub next_linked : (v d e : ℕ) → d < count → get_or edges d 0 ≡ v → e ≡ get_or next d 0 → NextAt edges count v (d + 1) e
     next_linked v d e inside at is = rw (is, ← at) (linked.after d (omega arith) inside)
+
+-- what is linked in the front of a list is linked in the list
+module _ (edges : List ℕ) (count : ℕ) where
+  next_whole : (v k d : ℕ) → NextAt (take count edges) count v k d → NextAt edges count v k d
+  next_whole v k d n =
+      record {
+        from = n.from;
+        within = n.within;
+        there = λ l. rw (get_or-take count edges d 0 l) at n.there l;
+        passed =
+            λ i l m e.
+            let w = n.within in
+            n.passed i l m (rw (get_or-take count edges i 0 (omega arith)) e);
+      }
+
+  pub linked_whole : (heads next : List ℕ) → Linked (take count edges) count heads next 0 → Linked edges count heads next 0
+  linked_whole heads next linked =
+      record {
+        heads_long = linked.heads_long;
+        next_long = linked.next_long;
+        first = λ v l. next_whole v 0 (get_or heads v 0) (linked.first v l);
+        after =
+            λ d l m.
+            let n = linked.after d l m in
+            next_whole (get_or edges d 0) (d + 1) (get_or next d 0) (rw (get_or-take count edges d 0 m) at n);
+      }
 
 -- edges that do not touch v are passed over
 scan_skip : (es : List Simplex) (v : ℕ) (s : Search) (k j : ℕ) → k ≤ j → ((e : ℕ) → k ≤ e → e < j → touches (get_or es e []) v ≡ false) → scan es v s j ≡ scan es v s k

@@ -10,4 +10,5 @@ pub mod Accepting
 pub mod Judging
 pub mod Refusing
 pub mod TriangleEdges
+pub mod Chunks
 pub mod Flattened

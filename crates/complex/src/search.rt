@@ -1,6 +1,6 @@
 // The breadth-first search from vertex 0 over the edges of a record. Half-edge d is the end of edge d / 2 that stands at place d of the
 // flat list.
-ghost use Rattle.std.specs.Prelude.{◌≡◌, ℕ, ◌+◌, ◌*◌, ◌/◌, ◌<◌, ◌≤◌, get_or};
+ghost use Rattle.std.specs.Prelude.{◌≡◌, ℕ, ◌+◌, ◌*◌, ◌/◌, ◌<◌, ◌≤◌, get_or, length};
 ghost use Rattle.complex.specs.Complex.{simplices};
 ghost use Rattle.complex.specs.Search.{look, scan, serve, whole_search, connected};
 ghost use Rattle.complex.specs.Tree.{opposite, Linked, search_of, Searchable, Fits, Searched};
@@ -9,7 +9,8 @@ use crate::SimplicialComplex;
 use numbers::sizes::{EDGE_ENTRIES, MOST_EDGES, MOST_VERTICES};
 
 // How far a search is: the found + 1 vertices seen stand first in the queue, tree_edges[i] led to queue[i + 1], and visited[v] is 1
-// where v was seen. The lists are fixed memory: there is no heap.
+// where v was seen, else 0. These are numbers and no bools, for the definition of a kept search (`Fits`, specs/Tree) has them so. The lists
+// are fixed memory: there is no heap.
 #[derive(Clone, Copy)]
 pub struct SpanningTree {
     pub queue: [u8; MOST_VERTICES],
@@ -34,17 +35,17 @@ fn opposite(d: usize) -> usize
     d + 1 - 2 * (d % 2)
 }
 
-// The first count half-edges are linked, from the last to the first: each stands before the later ones at its vertex. By number: the links
-// are the numbers.
-fn half_edges(edges: &[u8; EDGE_ENTRIES], count: usize) -> HalfEdges
-    requires { (count ≤ 126) × ((d : ℕ) → d < count → get_or edges.now d 0 < 64) }
-    ensures { Linked edges.now count result.heads result.next 0 }
+// The half-edges are linked, from the last to the first: each stands before the later ones at its vertex. By number: the links are the
+// numbers.
+fn half_edges(edges: &[u8]) -> HalfEdges
+    requires { (length edges.now ≤ 126) × ((d : ℕ) → d < length edges.now → get_or edges.now d 0 < 64) }
+    ensures { Linked edges.now (length edges.now) result.heads result.next 0 }
 {
     let mut half = HalfEdges {
-        heads: [count as u8; MOST_VERTICES],
+        heads: [edges.len() as u8; MOST_VERTICES],
         next: [0; EDGE_ENTRIES],
     };
-    for d in (0..count).rev() {
+    for d in (0..edges.len()).rev() {
         let v = usize::from(edges[d]);
         half.next[d] = half.heads[v];
         half.heads[v] = d as u8;
@@ -102,7 +103,7 @@ pub fn search(c: &SimplicialComplex) -> SpanningTree
     requires { Searchable c.now.edges c.now.n_vertices c.now.n_edges }
     ensures { Searched c.now.n_vertices result (whole_search (simplices 2 c.now.edges c.now.n_edges) c.now.n_vertices) }
 {
-    let half = half_edges(&c.edges, 2 * c.n_edges);
+    let half = half_edges(&c.edges[..2 * c.n_edges]);
     let mut tree = SpanningTree {
         queue: [0; MOST_VERTICES],
         found: 0,

@@ -5,12 +5,15 @@ use mathlib.Core.Path.{◌≡◌, sym, ◌∙◌, ap, subst}
 use mathlib.Core.Logic.{◌≢◌, inl, inr}
 use native.Mathlib.Omega.{arith}
 use native.Mathlib.Numerals.{add-one}
-use lib.IntN.{ℤ, pos}
+use mathlib.Core.Bool.{cond}
+use borrow.Author.Tests.{eq-eqb, ne_eqb}
+use lib.Dec.{eqb}
+use lib.IntN.{ℤ, pos, negsuc}
 use lib.ListN.{get_or, length, take, drop, set, replicate, length-replicate, length-set, length-drop}
 use lib.Seq.{paste, get_or-take, get_or-drop, length-take-le, length-paste}
 use Rattle.complex.specs.declared.SimplicialComplex.{SimplicialComplex}
 use Rattle.complex.specs.declared.search.SpanningTree.{SpanningTree}
-use Rattle.complex.specs.Complex.{Simplex, Joins, entries, complex_of}
+use Rattle.complex.specs.Complex.{Simplex, start, end, Joins, entries, complex_of}
 use Rattle.complex.specs.Search.{Search, whole_search, across, SpansReached}
 use Rattle.complex.specs.Judge.{Accepted}
 use Rattle.complex.specs.Tree.{search_of}
@@ -90,7 +93,7 @@ module _ (c : SimplicialComplex) (t : SpanningTree) (spanned : Spanned c t) wher
         let j : Joins sides (get_or found.seen r.0 0) vertex = rw (edge_found i more, sides_are, vertex_is) at r.2 in
         record { place = r.0; earlier = r.1; is = joins_across sides vertex _ (joins_back sides _ _ j); joined = r.2 }
 
-    pub extend_ready : (edge < c.n_edges) × (c.n_edges ≤ 63) × (vertex < 64) × (across sides vertex < 64) × (across sides vertex ≢ vertex)
+    pub extend_ready : (edge < c.n_edges) × (c.n_edges ≤ 63) × (vertex < 64) × (across sides vertex < 64) × (across sides vertex ≢ vertex) × Joins sides vertex (across sides vertex)
     extend_ready =
         let p = parent in
         let older = p.earlier in
@@ -100,6 +103,7 @@ module _ (c : SimplicialComplex) (t : SpanningTree) (spanned : Spanned c t) wher
           rw vertex_is at (vertex_below (suc i) more),
           vertex_below p.place (omega arith),
           rw vertex_is at (spans.apart p.place (suc i) (omega arith) (omega (arith, tree_long, spans.sizes))),
+          joins_back sides _ _ (rw (edge_found i more, sides_are, vertex_is) at p.joined),
         )
 
     extended_rows : (table : List ℤ) → PathTable (complex_of c) i table → PathTable (complex_of c) (suc i) (extended table (length (complex_of c).edges) sides edge vertex)
@@ -128,7 +132,7 @@ module _ (c : SimplicialComplex) (t : SpanningTree) (spanned : Spanned c t) wher
         new : List ℤ
         new = set written (63 * vertex + edge) (toward sides vertex)
 
-        ready : (edge < c.n_edges) × (c.n_edges ≤ 63) × (vertex < 64) × (across sides vertex < 64) × (across sides vertex ≢ vertex)
+        ready : (edge < c.n_edges) × (c.n_edges ≤ 63) × (vertex < 64) × (across sides vertex < 64) × (across sides vertex ≢ vertex) × Joins sides vertex (across sides vertex)
         ready = extend_ready
 
         room : (v : ℕ) → v < 64 → 63 * v + m ≤ length table
@@ -168,6 +172,12 @@ module _ (c : SimplicialComplex) (t : SpanningTree) (spanned : Spanned c t) wher
         long = length-replicate 4032 (pos 0);
         paths = path_none (complex_of c).edges (complex_of c).vertices found spans (row (length (complex_of c).edges) (replicate 4032 (pos 0))) (zero_row 4032 (length (complex_of c).edges) 0 few (omega (arith, few)));
       }
+
+-- an edge leads to a vertex as it is gone over from the other end
+pub toward_across : (s : Simplex) (w : ℕ) → across s w ≢ w → Joins s w (across s w) → cond (eqb (start s) (across s w)) (pos 1) (negsuc 0) ≡ toward s w
+unfolding toward
+toward_across s w apart (inl j) = rw (ne_eqb (start s) (across s w) (λ e. apart (sym e ∙ j.0)), ne_eqb (end s) w (λ e. apart (sym j.1 ∙ e)))
+toward_across s w apart (inr j) = rw (eq-eqb (start s) (across s w) j.0, eq-eqb (end s) w j.1)
 
 -- the tree edges and the vertices found, as the code walks them
 abbrev pub walked_queue : SpanningTree → List ℕ

@@ -1,9 +1,9 @@
 // The paths in the spanning tree and the fundamental cycles, as tables of rows of 63 signs.
 #![tactic(auto)]
 
-ghost use Rattle.std.specs.Prelude.{◌≡◌, ◌≢◌, cond, ◌+◌, ◌*◌, ◌<◌, ◌≤◌, get_or, length, eqb, pos, negsuc};
+ghost use Rattle.std.specs.Prelude.{◌≡◌, ◌≢◌, ◌+◌, ◌*◌, ◌<◌, ◌≤◌, get_or, length, pos, negsuc};
 ghost use Rattle.std.proofs.Math.Seq.{paste};
-ghost use Rattle.complex.specs.Complex.{entries, complex_of};
+ghost use Rattle.complex.specs.Complex.{Joins, entries, complex_of};
 ghost use Rattle.complex.specs.Search.{across};
 ghost use Rattle.complex.specs.Judge.{refusal};
 ghost use Rattle.gauss_law.specs.Listing.{tree_edges, free_edges};
@@ -39,28 +39,14 @@ fn path_to(paths: &[i8; PATH_ENTRIES], v: usize, n_edges: usize) -> &[i8]
     &paths[first..first + n_edges]
 }
 
-// The end of the edge (a, b) across from w.
-fn across(a: usize, b: usize, w: usize) -> usize
-    ensures { result ≡ cond (eqb a w) b a }
-{
-    if a == w { b } else { a }
-}
-
-// The sign with which the edge leads to w, where b is its second end.
-fn toward(b: usize, w: usize) -> i8
-    ensures { result ≡ cond (eqb b w) (pos 1) (negsuc 0) }
-{
-    if b == w { 1 } else { -1 }
-}
-
 // The path to vertex w: that to its parent, and edge e between them.
 fn extend(paths: &mut [i8; PATH_ENTRIES], c: &SimplicialComplex, e: usize, w: usize)
-    requires { (e < c.now.n_edges) × (c.now.n_edges ≤ 63) × (w < 64) × (across (entries c.now.edges (2 * e) 2) w < 64) × (across (entries c.now.edges (2 * e) 2) w ≢ w) × (length paths.old ≡ 4032) }
+    requires { (e < c.now.n_edges) × (c.now.n_edges ≤ 63) × (w < 64) × (across (entries c.now.edges (2 * e) 2) w < 64) × (across (entries c.now.edges (2 * e) 2) w ≢ w) × Joins (entries c.now.edges (2 * e) 2) w (across (entries c.now.edges (2 * e) 2) w) × (length paths.old ≡ 4032) }
     ensures { paths.new ≡ extended paths.old c.now.n_edges (entries c.now.edges (2 * e) 2) e w }
 {
-    let (a, b) = c.edge(e);
-    copy_row(paths, across(a, b, w), w, c.n_edges);
-    paths[MOST_EDGES * w + e] = toward(b, w);
+    let parent = c.across(e, w);
+    copy_row(paths, parent, w, c.n_edges);
+    paths[MOST_EDGES * w + e] = c.direction(e, parent);
 }
 
 // The paths to all vertices.

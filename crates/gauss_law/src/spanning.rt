@@ -12,7 +12,7 @@ use complex::search::{SpanningTree, search};
 use numbers::edge_list::EdgeList;
 use numbers::sizes::MOST_EDGES;
 
-// The tree edges have 1 in the table, all others 0.
+// The tree edges have 1 in the table, all others 0. These are numbers and no bools, for the definition (`Flagged`, specs/Spanning) has them so.
 fn tree_flags(tree: &[u8]) -> [u8; MOST_EDGES]
     requires { (i : ℕ) → i < length tree.now → get_or tree.now i 0 < 63 }
     ensures { Flagged result tree.now }

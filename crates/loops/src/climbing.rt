@@ -1,7 +1,6 @@
 // The path in the spanning tree between two vertices.
-ghost use Rattle.std.specs.Prelude.{◌≡◌, cond, ◌+◌, ◌*◌, ◌<◌, eqb, pos, negsuc, get_or, length};
-ghost use Rattle.complex.specs.Complex.{entries, complex_of};
-ghost use Rattle.complex.specs.Search.{across};
+ghost use Rattle.std.specs.Prelude.{◌≡◌, ◌+◌, ◌<◌, length};
+ghost use Rattle.complex.specs.Complex.{complex_of};
 ghost use Rattle.gauss_law.specs.Spanning.{Spanned};
 ghost use Rattle.loops.specs.Loops.{path};
 ghost use Rattle.loops.specs.Climbing.{Orderly, Noted, Parented, StepsFit, StepsPut};
@@ -17,6 +16,7 @@ pub struct TreeParents {
     pub led: [u8; MOST_VERTICES],
 }
 
+// By number: a vertex's place is the number of its turn, counted from 1.
 pub fn tree_parents(tree: SpanningTree) -> TreeParents
     requires { Orderly tree }
     ensures { Noted tree tree.found result.place result.led }
@@ -51,24 +51,6 @@ impl RootedTree {
         }
     }
 
-    // The end of edge e across from v.
-    fn across(&self, e: usize, v: usize) -> usize
-        requires { e < 63 }
-        ensures { result ≡ across (entries self.now.complex.edges (2 * e) 2) v }
-    {
-        let (a, b) = self.complex.edge(e);
-        if a == v { b } else { a }
-    }
-
-    // The direction in which edge e is gone over from v.
-    fn direction(&self, e: usize, v: usize) -> i8
-        requires { e < 63 }
-        ensures { result ≡ cond (eqb (get_or self.now.complex.edges (2 * e) 0) v) (pos 1) (negsuc 0) }
-    {
-        let (a, _) = self.complex.edge(e);
-        if a == v { 1 } else { -1 }
-    }
-
     // The number of steps from a to b. The one found later climbs to its parent until they meet: no list is walked, here and below.
     pub fn path_length(&self, a: usize, b: usize) -> usize
         requires { (a < self.now.complex.n_vertices) × (b < self.now.complex.n_vertices) }
@@ -81,9 +63,9 @@ impl RootedTree {
         while x != y {
             n += 1;
             if place[y] < place[x] {
-                x = self.across(usize::from(led[x]), x);
+                x = self.complex.across(usize::from(led[x]), x);
             } else {
-                y = self.across(usize::from(led[y]), y);
+                y = self.complex.across(usize::from(led[y]), y);
             }
         }
         n
@@ -113,15 +95,15 @@ impl RootedTree {
             if place[y] < place[x] {
                 let e = led[x];
                 edges[front] = e;
-                directions[front] = self.direction(usize::from(e), x);
-                x = self.across(usize::from(e), x);
+                directions[front] = self.complex.direction(usize::from(e), x);
+                x = self.complex.across(usize::from(e), x);
                 front += 1;
             } else {
                 let e = led[y];
-                y = self.across(usize::from(e), y);
+                y = self.complex.across(usize::from(e), y);
                 back -= 1;
                 edges[back] = e;
-                directions[back] = self.direction(usize::from(e), y);
+                directions[back] = self.complex.direction(usize::from(e), y);
             }
         }
         next

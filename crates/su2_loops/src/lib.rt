@@ -59,7 +59,7 @@ fn counted_mask<F: Fn(u64, u64) -> u64>(path: &[u8], put: F) -> u64
     mask
 }
 
-// -1.0 for an odd count, else 1.0. As on the lecture slide it is 1 minus twice the remainder by two, on whole numbers and without a branch.
+// -1.0 for an odd count, else 1.0. As docs/SCOPE.md has it, it is 1 minus twice the remainder by two, on whole numbers and without a branch.
 // Then it is turned into a float.
 fn sign_of(count: u32) -> f64
     ensures value { result ≡ of_int binary64 (parity_sign count) }

@@ -1,18 +1,16 @@
-use Rattle.std.proofs.Common.{◌≡◌, ◌*◌, ◌∙◌}
+use Rattle.std.proofs.Common.{◌*◌, ◌∙◌}
 use Rattle.complex.specs.Complex.{entries}
-use Rattle.complex.specs.Search.{across}
-use Rattle.cycles.specs.Cycles.{toward, extended}
 use Rattle.mathematics.proofs.Signed.{back8}
+use Rattle.cycles.specs.Cycles.{extended}
+use Rattle.cycles.proofs.PathTables.{toward_across}
 use Rattle.cycles.proofs.extend.Goals as goal
 
 pub copy_row-requires : goal.copy_row-requires
-unfolding entries across
-copy_row-requires c =
-    let parent : c.across.result ≡ across (entries c.args.c.now.edges (2 * c.args.e) 2) c.args.w = c.across.ensures ∙ rw (c.edge-a.ensures.second, c.edge-a.ensures.first) in
-    rw parent (c.requires.3, c.requires.2, c.requires.4, c.requires.1, c.requires.5)
+copy_row-requires c = rw c.across-parent.ensures (c.requires.3, c.requires.2, c.requires.4, c.requires.1, c.requires.6)
 
 pub returns : goal.returns
-unfolding extended toward entries across
+unfolding extended entries
 returns c =
-    let parent : c.across.result ≡ across (entries c.args.c.now.edges (2 * c.args.e) 2) c.args.w = c.across.ensures ∙ rw (c.edge-a.ensures.second, c.edge-a.ensures.first) in
-    rw (back8 c.toward.result c.toward.type_inv, c.toward.ensures, c.edge-a.ensures.second, c.copy_row.ensures, parent)
+    let sides = entries c.args.c.now.edges (2 * c.args.e) 2 in
+    let way = (rw c.across-parent.ensures at c.direction.ensures) ∙ toward_across sides c.args.w c.requires.4 c.requires.5 in
+    rw (back8 c.direction.result c.direction.type_inv, way, c.copy_row.ensures, c.across-parent.ensures)

@@ -13,7 +13,7 @@ extend-requires c =
     let turn = zip_turn (take c.args.tree.found c.args.tree.tree_edges) (walked_queue c.args.tree) c.loop-e.yielded c.into_iter-e-iterator.result c.loop-e.e-iterator c.next.new.self _ (search rules) (search rules) c.loop-e.yielded_by _ c.in-Some.is c.next.ensures.steps in
     let step = step_read c.args.c c.args.tree c.requires (length c.loop-e.yielded) turn.0 in
     let r = extend_ready c.args.c c.args.tree c.requires (length c.loop-e.yielded) step.0 in
-    rw (c.from.ensures, c.from-in-loop-e.ensures, turn.2 0, turn.3 0, step.1, step.2) (r.0, r.1, r.2, r.3, r.4, c.loop-e.invariant.long)
+    rw (c.from.ensures, c.from-in-loop-e.ensures, turn.2 0, turn.3 0, step.1, step.2) (r.0, r.1, r.2, r.3, r.4, r.5, c.loop-e.invariant.long)
 
 pub loop-e-preserved : goal.loop-e-preserved
 loop-e-preserved c =

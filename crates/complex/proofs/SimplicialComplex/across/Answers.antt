@@ -2,7 +2,7 @@ use Rattle.std.proofs.Common.{sym, ◌∙◌}
 use borrow.Author.Tests.{eq-eqb, ne_eqb}
 use Rattle.complex.specs.Complex.{entries}
 use Rattle.complex.specs.Search.{across}
-use Rattle.loops.proofs.climbing.RootedTree.across.Goals as goal
+use Rattle.complex.proofs.SimplicialComplex.across.Goals as goal
 
 pub returns-then-a-v : goal.returns-then-a-v
 unfolding entries across
