@@ -23,7 +23,7 @@ use plaquettes::rows::row_energy;
 use plaquettes::target::{Sizes, list_states};
 use triangles::{all_sides, sides_at};
 
-// The electric part goes to the beginning of the result.
+// The electric part goes to the beginning of the result. By number: a proof knows nothing of what a loop over a zip with iter_mut wrote.
 fn write_electric(list: &[i32], n: usize, m: usize, factor: f64, vector: &[f64], res: &mut [f64])
     requires { SmallRows list.now n m × (n ≤ length vector.now) × (n ≤ length res.old) }
     ensures { res.new ≡ front (electric_parts factor m list.now vector.now n) res.old }

@@ -35,7 +35,8 @@ pub struct RunTables<'a> {
     pub cycle: &'a [i8],
 }
 
-// How far a is above b.
+// How far a is above b. `walker` has this and the next for itself, but not the same: its excess is 0 where a is not above b, and its sign comes
+// first; both ask and tell something else.
 fn gap(a: i32, b: i32) -> usize
     requires { (nat_abs a ≤ 1001) × (nat_abs b ≤ 1001) × (lt_z b a ≡ true) }
     ensures { result ≡ nat_abs (a -ℤ b) }
@@ -118,7 +119,8 @@ impl<'a> RunTables<'a> {
         move_run(row, self.sides, self.cycle, by, s.lambda, r)
     }
 
-    // The next run from state i on, where the next target is not before j; past the last the number of states.
+    // The next run from state i on, where the next target is not before j; past the last the number of states, since the walk goes on from what
+    // is told and so ends there.
     pub fn find_run(&self, i: usize, j: usize) -> Run
         requires { Runs self.now × (i ≤ self.now.sizes.states) × (j ≤ self.now.sizes.states) }
         ensures { RunFound self.now.list.now self.now.sizes self.now.sides self.now.edges.now.list self.now.edges.now.count self.now.cycle.now i j result }

@@ -1,5 +1,5 @@
 -- What is judged of a path, and values as the machine compares them.
-use Prim.Native.Nat.{ℕ, suc, ◌+◌, ◌<◌, ◌≤◌, min}
+use Prim.Native.Nat.{ℕ, ◌+◌, ◌<◌, ◌≤◌, min}
 use mathlib.Core.List.{List, [], ◌∷◌, ◌++◌}
 use mathlib.Core.Bool.{Bool, true, false, ◌&&◌, ◌||◌, not}
 use mathlib.Core.Path.{◌≡◌, refl, sym, ap, ◌∙◌}
@@ -9,11 +9,11 @@ use lib.Dec.{eqb, ltb}
 use lib.IntN.{ℤ, pos, negsuc, nat_abs}
 use lib.ListN.{get_or, length, take, length-append}
 use lib.Seq.{take_all}
-use mir.Syntax.{Width, w32}
+use mir.Syntax.{Width}
 use mir.Val.{SFits, to_z, of_z}
 use mir.Facts.{to_z-of_z}
 use Rattle.mathematics.specs.Integers.{equal}
-use Rattle.mathematics.specs.Tests.{every_entry, every}
+use Rattle.mathematics.specs.Tests.{every_entry}
 use Rattle.mathematics.proofs.Front.{take_next}
 use Rattle.mathematics.proofs.Integers.{equal_true, equal_self}
 use Rattle.mathematics.proofs.Tests.{all_at, all_last, and_parts, same_tests}
@@ -55,15 +55,6 @@ path_fits m es ds many right =
   where
     parts : (k : ℕ) → k < length es → (ltb (get_or es k 0) m ≡ true) × ((equal (get_or ds k (pos 0)) (pos 1) || equal (get_or ds k (pos 0)) (negsuc 0)) ≡ true)
     parts k h = and_parts _ _ (rw (path_at es ds many k h) at (all_at (step_right m) (0, pos 0) (path_of es ds) right k (rw (path_long es ds many) h)))
-
--- ---- one pair of values more is compared
-pub values_more : {P : Type 0} (s t : List ℤ) (xs : List P) (p : P) (so_far : Bool) (x y : ℤ) → so_far ≡ every (λ k. equal (get_or s k (pos 0)) (get_or t k (pos 0))) (length xs)
-    → x ≡ get_or s (length xs) (pos 0) → y ≡ get_or t (length xs) (pos 0) → SFits w32 x → SFits w32 y
-    → (so_far && eqb (of_z w32 x) (of_z w32 y)) ≡ every (λ k. equal (get_or s k (pos 0)) (get_or t k (pos 0))) (length (xs ++ (p ∷ [])))
-unfolding every
-values_more s t xs p so_far x y before is is' fx fy =
-    let more : length (xs ++ (p ∷ [])) ≡ suc (length xs) = omega (arith, length-append xs (p ∷ [])) in
-    rw (more, before, equal_bits w32 x y fx fy, is, is')
 
 -- ---- one step more of a path, as it is read
 pub step_more : {P : Type 0} (m : ℕ) (es : List ℕ) (ds : List ℤ) → length ds ≡ length es → (xs : List P) (p : P) (so_far r : Bool) (e : ℕ) (d : ℤ)

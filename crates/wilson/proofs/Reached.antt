@@ -1,7 +1,7 @@
 -- What a walk reaches, sought in the list of the basis, and the sum over the states, one state more.
-use Prim.Native.Nat.{ℕ, ◌+◌, ◌<◌, ◌≤◌}
+use Prim.Native.Nat.{ℕ, ◌+◌, ◌*◌, ◌<◌, ◌≤◌}
 use mathlib.Core.List.{List, []}
-use mathlib.Core.Bool.{true, false, ◌&&◌}
+use mathlib.Core.Bool.{Bool, true, false, ◌&&◌}
 use mathlib.Core.Path.{◌≡◌, refl, sym, ◌∙◌}
 use native.Mathlib.Omega.{arith}
 use native.Mathlib.Numerals.{add-one}
@@ -9,7 +9,8 @@ use borrow.Author.Tests.{lt-ltb, ltb-true}
 use lib.Dec.{ltb}
 use lib.IntN.{ℤ, pos, nat_abs}
 use lib.Ieee.{Float}
-use lib.ListN.{get_or, length}
+use lib.ListN.{get_or, length, length-take, length-drop}
+use Rattle.std.specs.Bool.{Decides}
 use lib.Seq.{ext_get_or}
 use Rattle.mathematics.specs.Entries.{Each}
 use Rattle.mathematics.proofs.Ordered.{at_each}
@@ -38,6 +39,13 @@ same_rows s t long h = ext_get_or (pos 0) s t long (λ e k. equal_true _ _ (ever
 same_itself : (s : List ℤ) → same_values s s ≡ true
 unfolding same_values
 same_itself s = at_every _ (length s) (λ e k. equal_self (get_or s e (pos 0)))
+
+-- a test of equal lists compares row j of a list with a configuration
+pub row_compared : (list config : List ℤ) (j : ℕ) → j * length config + length config ≤ length list → (r : Bool) → Decides r (row (length config) list j ≡ config)
+    → same_values (row (length config) list j) config ≡ r
+row_compared list config j room r decides =
+    let long : length (row (length config) list j) ≡ length config = rw (length-take, length-drop) (omega arith) in
+    same_tests _ _ (λ h. decides.1 (same_rows _ config long h)) (λ h. rw (decides.0 h) (same_itself config))
 
 -- the steps of a path are over edges
 path_inside : (m : ℕ) (es : List ℕ) (ds : List ℤ) → PathFits m es ds → Each (λ (x : Step). x.0 < m) (path_of es ds)

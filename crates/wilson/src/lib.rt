@@ -18,7 +18,8 @@ use enumeration::basis::Basis;
 use hilbert::search::advance;
 use matrices::weights::all_bounded;
 use numbers::sizes::MOST_EDGES;
-use plaquettes::target::{Sizes, copy_state};
+use plaquettes::rows::row_at;
+use plaquettes::target::{Sizes, copy_state, list_states};
 use walker::blocks::within;
 
 // A path: the edges of its steps, and the direction of each.
@@ -72,18 +73,6 @@ impl Path<'_> {
     }
 }
 
-// Whether two rows of one length have the same values.
-fn same_values(s: &[i32], t: &[i32]) -> bool
-    requires { length s.now ≡ length t.now }
-    ensures { result ≡ same_values s.now t.now }
-{
-    let mut so_far = true;
-    for (x, y) in s.iter().zip(t) {
-        so_far &= *x == *y;
-    }
-    so_far
-}
-
 // Where row j is the configuration, the product of the amplitudes i and j is added. There is a row for each amplitude.
 fn add_reached(
     list: &[i32],
@@ -99,17 +88,14 @@ fn add_reached(
     if amplitudes.len() <= j {
         return total;
     }
-    let m = configuration.len();
-    let at = j * m;
-    if same_values(&list[at..at + m], configuration) {
+    if row_at(list, configuration.len(), j) == configuration {
         return total + amplitudes[i] * amplitudes[j];
     }
     total
 }
 
 // The sum over the states of a list, rising. The walk stops at the first step that leaves the band, and the next state follows. What the
-// walks reach rises with the states, so that each is sought from the place of the last on. By
-// number: state i and amplitude i go together.
+// walks reach rises with the states, so that each is sought from the place of the last on. By number: state i and amplitude i go together.
 fn wilson_sum(
     list: &[i32],
     s: Sizes,
@@ -125,8 +111,7 @@ fn wilson_sum(
     let mut from = 0;
     let mut total = 0.0;
     for i in 0..s.states {
-        let at = i * m;
-        copy_state(&mut reached, &list[at..at + m]);
+        copy_state(&mut reached, row_at(list, m, i));
         if !path.walk(&mut reached, m, s.lambda) {
             continue;
         }
@@ -160,11 +145,6 @@ pub fn wilson_loop(
     if states.len() < amplitudes.len() * w.n_edges {
         return Err(Refusal::NoRoom);
     }
-    let s = Sizes {
-        states: basis.write(states),
-        edges: w.n_edges,
-        free: w.n_free,
-        lambda,
-    };
+    let s = list_states(&basis, states);
     Ok(wilson_sum(states, s, &w.free, amplitudes, path))
 }

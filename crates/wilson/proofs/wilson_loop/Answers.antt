@@ -6,8 +6,8 @@ use Rattle.complex.specs.Complex.{complex_of}
 use Rattle.answers.proofs.Passing.{answer_passed}
 use Rattle.enumeration.specs.Enumeration.{short}
 use Rattle.enumeration.proofs.Bases.{basis_refused, basis_passed}
-use Rattle.hilbert.proofs.Prepared.{told_refused, states_listed, short_by, written_by}
-use Rattle.plaquettes.proofs.Listed.{basis_listed}
+use Rattle.hilbert.proofs.Prepared.{told_refused, states_listed, short_by}
+use Rattle.plaquettes.proofs.Listed.{listed_counted}
 use Rattle.wilson.specs.Wilson.{wilson_call}
 use Rattle.wilson.proofs.Judging.{path_fits, lengths_told}
 use Rattle.wilson.proofs.wilson_loop.Goals as goal
@@ -54,34 +54,35 @@ returns-then-states-amplitudes c =
     let room : short (complex_of c.args.c) c.args.lambda (length c.args.states.now) ≡ true = rw (short_by basis (length c.args.states.now), ← same) (lt-ltb _ _ c.if-states-amplitudes.true) in
     refuses _ (basis_passed c.in_ok-basis.ensures (past lengths (past (rw steps) (past (rw bounded) (here room))))) refl
 
-pub write-requires : goal.write-requires
-write-requires c =
+pub list_states-s-requires : goal.list_states-s-requires
+list_states-s-requires c =
     let same = eqb-true _ _ (not-false _ (or_fell _ _ c.if-amplitudes-count.false).0) ∙ c.count.ensures in
     rw (← same) c.if-states-amplitudes.false
 
 pub wilson_sum-requires : goal.wilson_sum-requires
 wilson_sum-requires c =
     let basis = c.in_ok-basis.ensures.basis in
+    let listed = c.list_states-s.ensures _ _ basis in
     let fell = or_fell _ _ c.if-amplitudes-count.false in
     let same = eqb-true _ _ (not-false _ fell.0) ∙ c.count.ensures in
     let steps = rw basis.walks.walks.edges at (sym c.is_right.ensures ∙ c.if-not-is_right.false) in (
       record {
         complex = _;
-        basis = basis_listed _ _ _ _ basis.walks _ _ _ (rw basis.truncated at c.write.ensures) _ refl;
-        one_each = same ∙ sym c.write.ensures.count;
+        basis = listed.basis;
+        one_each = sym (listed_counted listed (same ∙ states_listed basis));
       },
-      rw basis.walks.walks.edges (path_fits _ _ _ (eqb-true _ _ (not-false _ fell.1)) steps),
+      rw listed.basis.edges (path_fits _ _ _ (eqb-true _ _ (not-false _ fell.1)) steps),
     )
 
 pub returns : goal.returns
 unfolding wilson_call
 returns c =
     let basis = c.in_ok-basis.ensures.basis in
+    let listed = c.list_states-s.ensures _ _ basis in
     let lengths = lengths_told _ _ _ _ _ (c.count.ensures ∙ states_listed basis) c.if-amplitudes-count.false in
     let steps = rw basis.walks.walks.edges at (sym c.is_right.ensures ∙ c.if-not-is_right.false) in
     let bounded = sym c.all_bounded.ensures ∙ c.if-not-all_bounded.false in
     let same = eqb-true _ _ (not-false _ (or_fell _ _ c.if-amplitudes-count.false).0) ∙ c.count.ensures in
     let room : short (complex_of c.args.c) c.args.lambda (length c.args.states.now) ≡ false = rw (short_by basis (length c.args.states.now), ← same) (le-ltb _ _ c.if-states-amplitudes.false) in
     ends _ (basis_passed c.in_ok-basis.ensures (past lengths (past (rw steps) (past (rw bounded) (past room none)))))
-    (c.wilson_sum.ensures _ (basis_listed _ _ _ _ basis.walks _ _ _ (rw basis.truncated at c.write.ensures) _ refl))
-    (written_by basis _ _ _ c.write.ensures).1 tt
+    (rw listed.truncated at (c.wilson_sum.ensures _ listed.basis)) listed.list tt

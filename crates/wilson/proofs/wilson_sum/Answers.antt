@@ -1,5 +1,4 @@
-use Rattle.std.proofs.Common.{◌≡◌, ◌≤◌, refl, sym, ap, ◌∙◌, arith, rules, length, take, List, [], get_or, true}
-use native.Mathlib.Nat.{mul-le-mul}
+use Rattle.std.proofs.Common.{◌≡◌, refl, sym, ap, ◌∙◌, arith, length, take, List, [], get_or, true}
 use lib.IntN.{ℤ, pos}
 use lib.Seq.{length-take-le, get_or-take}
 use Rattle.matrices.proofs.Literals.{zero}
@@ -8,7 +7,6 @@ use Rattle.gauss_law.specs.Listing.{states}
 use Rattle.hilbert.specs.Basis.{place}
 use Rattle.plaquettes.specs.Targets.{BasisList}
 use Rattle.hilbert.specs.Search.{row}
-use Rattle.hilbert.proofs.Searching.{row_part}
 use Rattle.plaquettes.proofs.Targets.{edges_few, row_within, row_is, row_long, list_long, list_rows}
 use Rattle.wilson.specs.Wilson.{wilson_sum, stays, walked, path_of}
 use Rattle.wilson.proofs.Places.{place_within}
@@ -19,28 +17,21 @@ pub loop-i-init : goal.loop-i-init
 unfolding wilson_sum
 loop-i-init c = (omega arith, refl, λ complex basis. rw zero (summed_none complex _ _ _ basis _ _ _ c.requires.1))
 
-pub overflow_mul-at : goal.overflow_mul-at
-overflow_mul-at c =
-    let basis = c.requires.0.basis in
-    let few : c.loop-i.i ≤ 1048576 = omega (arith, basis.few) in
-    let h = mul-le-mul few (edges_few _ _ _ _ basis) in
-    search rules
-
-pub slice_bounds-copy_state-end : goal.slice_bounds-copy_state-end
-slice_bounds-copy_state-end c = let h = row_within _ _ _ _ c.requires.0.basis c.loop-i.i c.loop-i-test.true in search rules
+pub row_at-requires : goal.row_at-requires
+row_at-requires c = row_within _ _ _ _ c.requires.0.basis c.loop-i.i c.loop-i-test.true
 
 pub copy_state-requires : goal.copy_state-requires
 copy_state-requires c =
     let basis = c.requires.0.basis in
     let inside = c.loop-i-test.true in
-    (c.loop-i.invariant.1, rw (row_part c.args.list.now c.args.s.edges c.loop-i.i, row_long _ _ _ _ basis c.loop-i.i inside) (edges_few _ _ _ _ basis))
+    (c.loop-i.invariant.1, rw (c.row_at.ensures, row_long _ _ _ _ basis c.loop-i.i inside) (edges_few _ _ _ _ basis))
 
 pub walk-requires : goal.walk-requires
 walk-requires c =
     let basis = c.requires.0.basis in
     let inside = c.loop-i-test.true in
     let front : take c.args.s.edges c.copy_state.new.row ≡ row c.args.s.edges c.args.list.now c.loop-i.i =
-    ap (λ n. take n c.copy_state.new.row) (sym (row_long _ _ _ _ basis c.loop-i.i inside)) ∙ (rw (row_part c.args.list.now c.args.s.edges c.loop-i.i) at c.copy_state.ensures.1) in
+    ap (λ n. take n c.copy_state.new.row) (sym (row_long _ _ _ _ basis c.loop-i.i inside)) ∙ (rw c.row_at.ensures at c.copy_state.ensures.1) in
     let small = row_small _ _ _ _ basis c.loop-i.i inside in (
       c.copy_state.array_long,
       edges_few _ _ _ _ basis,
@@ -54,7 +45,7 @@ loop-i-preserved-then-not-walk c =
     let basis = c.requires.0.basis in
     let inside = c.loop-i-test.true in
     let front : take c.args.s.edges c.copy_state.new.row ≡ row c.args.s.edges c.args.list.now c.loop-i.i =
-    ap (λ n. take n c.copy_state.new.row) (sym (row_long _ _ _ _ basis c.loop-i.i inside)) ∙ (rw (row_part c.args.list.now c.args.s.edges c.loop-i.i) at c.copy_state.ensures.1) in (
+    ap (λ n. take n c.copy_state.new.row) (sym (row_long _ _ _ _ basis c.loop-i.i inside)) ∙ (rw c.row_at.ensures at c.copy_state.ensures.1) in (
       c.loop-i.invariant.0,
       c.walk.array_long,
       λ complex own.
@@ -83,7 +74,7 @@ loop-i-preserved c =
     let basis = c.requires.0.basis in
     let inside = c.loop-i-test.true in
     let front : take c.args.s.edges c.copy_state.new.row ≡ row c.args.s.edges c.args.list.now c.loop-i.i =
-    ap (λ n. take n c.copy_state.new.row) (sym (row_long _ _ _ _ basis c.loop-i.i inside)) ∙ (rw (row_part c.args.list.now c.args.s.edges c.loop-i.i) at c.copy_state.ensures.1) in
+    ap (λ n. take n c.copy_state.new.row) (sym (row_long _ _ _ _ basis c.loop-i.i inside)) ∙ (rw c.row_at.ensures at c.copy_state.ensures.1) in
     let few = edges_few _ _ _ _ basis in
     let long : length (take c.args.s.edges c.walk.new.row) ≡ c.args.s.edges = length-take-le c.args.s.edges c.walk.new.row (omega (arith, c.walk.array_long, few)) in
     let config = take c.args.s.edges c.walk.new.row in
