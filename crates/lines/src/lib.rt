@@ -1,4 +1,6 @@
-// The lines that `basis list` prints, each written at a place of a lent list; a writer answers the place behind what it wrote.
+// The lines that `basis list` prints, each written at a place of a lent list; a writer answers the place behind what it wrote. The list and
+// the place are two parameters and no struct: `Put` says in each contract what the list was, what it is and which place is told, and of a
+// struct that holds a `&mut` list it would need the same three, with the place read from it before and after.
 #![tactic(auto)]
 
 ghost use Rattle.std.specs.Prelude.{◌≡◌, ◌∷◌, [], ◌++◌, ◌+◌, ◌<◌, ◌≤◌, length};
@@ -108,6 +110,7 @@ pub fn write_first_line(
     write_byte(out, next, b'\n')
 }
 
+// The number and no `Refusal`: the line is defined by the number, and any number is written.
 pub fn write_refused_line(out: &mut [u8], at: usize, number: usize) -> usize
     requires { at + length (refused_line number) ≤ length out.old }
     ensures { Put (refused_line number) out.old at out.new result }

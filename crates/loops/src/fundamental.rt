@@ -30,7 +30,8 @@ impl RootedTree {
         self.path_length(a, b) + 1
     }
 
-    // The number of steps of all loops.
+    // The number of steps of all loops. Added up by hand: the library's `sum` over a `map` was tried. It asks that the sum over each run of the
+    // chain fits, and the proof lacked what a run of these calls sums to.
     fn total_steps(&self, free: EdgeList) -> usize
         requires { FreeOf (complex_of self.now.complex) free }
         ensures { result ≡ length (all_steps (complex_of self.now.complex)) }

@@ -63,8 +63,8 @@ fn write_sides(all: &mut [u8; 768], t: usize, s: Sides)
     all[3 * t + 2] = s.third as u8;
 }
 
-// The edges of all triangles of an accepted record, which is not judged again: those of triangle t from place 3t on. By number: triangle
-// t is asked of the record.
+// The edges of all triangles of an accepted record, which is not judged again: those of triangle t from place 3t on. By number: the
+// number is the place, and `sides_of` is asked by number where one triangle is wanted.
 pub fn all_sides(c: SimplicialComplex) -> [u8; 768]
     requires { refusal (complex_of c) ≡ 0 }
     ensures { AllSides (complex_of c) result }
