@@ -1,6 +1,6 @@
 // The lines that `basis list` prints, each written at a place of a lent list; a writer answers the place behind what it wrote. The list and
-// the place are two parameters and no struct: `Put` says in each contract what the list was, what it is and which place is told, and of a
-// struct that holds a `&mut` list it would need the same three, with the place read from it before and after.
+// the place are two parameters. A struct of both was tried for `write_byte`: its contract is the same `Put`, of `self.old.out`, `self.old.at`,
+// `self.new.out` and `self.new.at`, and a caller that lends the list to the struct needs one clause more, on what the lent list then is.
 #![tactic(auto)]
 
 ghost use Rattle.std.specs.Prelude.{◌≡◌, ◌∷◌, [], ◌++◌, ◌+◌, ◌<◌, ◌≤◌, length};
