@@ -1,4 +1,4 @@
-// The U(1) Hamiltonian as row lists.
+// The U(1) Hamiltonian as row lists. Each list is lent by a caller of the C interface, and stays a parameter of its own.
 ghost use Rattle.std.specs.Prelude.{◌+◌, ◌*◌, ◌^◌, ◌<◌, ◌≤◌, length};
 ghost use Rattle.mathematics.specs.Calls.{Answered};
 ghost use Rattle.answers.specs.Refusal.{answer_of};

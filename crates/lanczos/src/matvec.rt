@@ -62,7 +62,7 @@ fn add_magnetic(
     }
 }
 
-// The product goes to the beginning of the result. The lists are the caller's, and stay parameters of their own, here and above.
+// The product goes to the beginning of the result. The lists are the caller's, and stay parameters of their own, here, above and below.
 fn write_product(
     c: SimplicialComplex,
     p: KSParams,

@@ -55,7 +55,8 @@ pub fn next_staying(list: &[i32], s: Sizes, sides: Sides, by: i32, from: usize) 
 }
 
 // Where a triangle's move takes the state at a place, or the number of states: where the move does not keep that state, what the search tells
-// where none is left. The targets of the states before it are before a given place, and its own is not.
+// where none is left: with an `Option` that number would be tested here and the `Option` again by the caller. The targets of the states before
+// it are before a given place, and its own is not.
 pub fn find_pair(list: &[i32], s: Sizes, sides: Sides, by: i32, place: usize, from: usize) -> usize
     requires { MovableRows list.now s sides × (nat_abs by ≤ 1) × (place < s.states) × (from ≤ s.states) }
     ensures { PairFound list.now s sides by place from result }

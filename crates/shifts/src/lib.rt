@@ -46,7 +46,7 @@ fn shifted_row(configuration: &[i32], edge: usize, value: i32) -> [i32; MOST_EDG
 }
 
 // The place of a configuration with a delta added on one edge. The basis goes to the beginning of the first list, the shifted
-// configuration to the beginning of the second. All is judged first.
+// configuration to the beginning of the second. All is judged first. The lists are the caller's, and stay parameters of their own.
 pub fn apply_shift(
     c: SimplicialComplex,
     lambda: usize,

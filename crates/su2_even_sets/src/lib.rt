@@ -86,7 +86,7 @@ pub fn closing_loops(c: SimplicialComplex) -> Forest
     ensures { Keeps (grown (complex_of c).edges c.n_edges) result }
 {
     let mut forest = Forest::separate();
-    // By number: an edge closes a loop or joins two parts under its number.
+    // By number: `edge` gives the ends as places of the tables, and the edge closes a loop under its number.
     for e in 0..c.n_edges {
         let (a, b) = c.edge(e);
         forest.grow(c.n_vertices, a, b, e);

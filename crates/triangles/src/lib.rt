@@ -21,7 +21,7 @@ pub struct Sides {
     pub third: usize,
 }
 
-// The edges of triangle t by the index of the edges.
+// The edges of triangle t by the index of the edges, which is fixed memory: there is no heap.
 pub fn sides_of(c: &SimplicialComplex, table: &[u8; 4096], t: usize) -> Sides
     requires { (t < 256) × Sided table.now (entries c.now.triangles (3 * t) 3) }
     ensures { result ≡ sides_in table.now (entries c.now.triangles (3 * t) 3) }

@@ -95,7 +95,8 @@ fn add_reached(
 }
 
 // The sum over the states of a list, rising. The walk stops at the first step that leaves the band, and the next state follows. What the
-// walks reach rises with the states, so that each is sought from the place of the last on. By number: state i and amplitude i go together.
+// walks reach rises with the states, so that each is sought from the place of the last on. By number: `add_reached` takes rows and
+// amplitudes by their numbers. `free` is the whole table, as `advance` takes it.
 fn wilson_sum(
     list: &[i32],
     s: Sizes,
