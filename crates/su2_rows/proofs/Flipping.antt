@@ -10,7 +10,7 @@ use native.Mathlib.Omega.{arith}
 use lib.Bits.{bit_xor, xor_comm}
 use lib.Ieee.{Float, nan}
 use lib.ListN.{get_or, length, take, set}
-use lib.Seq.{take_all, take_at, get_or-set_same, get_or-set_other}
+use lib.Seq.{take_all, get_or-set_same, get_or-set_other}
 use Rattle.mathematics.specs.Bits.{bit}
 use Rattle.mathematics.specs.Counting.{below}
 use Rattle.mathematics.specs.Entries.{Each}
@@ -139,30 +139,19 @@ row_flipped old new values by same long flipped =
 pub row_whole : (n : ℕ) (columns : List ℕ) (values : List Float) → length columns ≡ n → length columns ≡ length values → take n (pairs columns values) ≡ pairs columns values
 row_whole n columns values many long = take_all n (pairs columns values) (omega (arith, many, pairs_length columns values long))
 
--- ---- the entries at the beginning of two lists
-pub pairs_take : (n : ℕ) (columns : List ℕ) (values : List Float) → pairs (take n columns) (take n values) ≡ take n (pairs columns values)
-unfolding pairs
-pairs_take zero [] values = refl
-pairs_take zero (j ∷ columns) [] = refl
-pairs_take zero (j ∷ columns) (x ∷ values) = refl
-pairs_take (suc n) [] values = refl
-pairs_take (suc n) (j ∷ columns) [] = refl
-pairs_take (suc n) (j ∷ columns) (x ∷ values) = ap (λ l. (j, x) ∷ l) (pairs_take n columns values)
-
--- a row before what is kept behind it
-pub pairs_front : (n : ℕ) (columns rest : List ℕ) (values others : List Float) → length columns ≡ n → length values ≡ n → take n (pairs (columns ++ rest) (values ++ others)) ≡ pairs columns values
-pairs_front n columns rest values others many as_many = sym (pairs_take n (columns ++ rest) (values ++ others)) ∙ ap₂ pairs (take_at columns rest n many) (take_at values others n as_many)
+-- ---- the tables of the triangles
+-- are those of row 0
+pub flips_first : (places : List ℕ) (terms : List Float) → length places ≡ length terms → pairs places terms ≡ flip_entries places terms (length places) 0
+flips_first places terms long =
+    sym (row_whole (length places) places terms refl long)
+    ∙ entries_are (λ t. bit_xor 0 (get_or places t 0)) (λ t. get_or terms t nan) places terms long (length places) (omega arith) (λ t b. refl) (λ t b. refl)
 
 module _ (places : List ℕ) (terms : List Float) (n : ℕ) where
-  -- the tables are those of row 0
-  pub flips_first : n ≤ length places → length places ≡ length terms → take n (pairs places terms) ≡ flip_entries places terms n 0
-  flips_first room long = entries_are (λ t. bit_xor 0 (get_or places t 0)) (λ t. get_or terms t nan) places terms long n room (λ t b. refl) (λ t b. refl)
-
   flips_moved : (i i' : ℕ) → flipped_entries (bit_xor i i') (flip_entries places terms n i) ≡ flip_entries places terms n i'
   flips_moved i i' =
       map-map (λ (e : ℕ × Float). (bit_xor e.0 (bit_xor i i'), e.1)) (λ t. (bit_xor i (get_or places t 0), get_or terms t nan)) (below n)
       ∙ map_same (λ t. (bit_xor (bit_xor i (get_or places t 0)) (bit_xor i i'), get_or terms t nan)) (λ t. (bit_xor i' (get_or places t 0), get_or terms t nan)) (below n) (λ t. ap (λ (j : ℕ). (j, get_or terms t nan)) (xor_moved i i' (get_or places t 0)))
 
-  -- and flipped become those of another
+  -- and flipped become those of another row
   pub flips_next : (i i' : ℕ) {now new : List (ℕ × Float)} → SameEntries (flip_entries places terms n i) now → Sorted (flipped_entries (bit_xor i i') now) new → SameEntries (flip_entries places terms n i') new
   flips_next i i' so_far flipped = same_then (rw (flips_moved i i') at (same_map (λ (e : ℕ × Float). (bit_xor e.0 (bit_xor i i'), e.1)) so_far)) flipped.same

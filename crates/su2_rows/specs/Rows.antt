@@ -1,5 +1,5 @@
 -- The two-valued Hamiltonian as row lists: for each state the columns that have an entry, rising, with their values.
-use Rattle.std.specs.Prelude.{ℕ, ◌+◌, ◌-◌, ◌*◌, ◌^◌, ◌≤◌, ◌<◌, List, [], ◌∷◌, ◌++◌, map, Bool, true, ◌||◌, ◌≡◌, ltb, Float, get_or, length, take}
+use Rattle.std.specs.Prelude.{ℕ, ◌+◌, ◌-◌, ◌*◌, ◌^◌, ◌≤◌, ◌<◌, List, [], ◌∷◌, ◌++◌, map, Bool, true, ◌||◌, ◌≡◌, ltb, Float, get_or, length}
 use Rattle.std.specs.Int.Bits.{bit_xor}
 use Rattle.std.specs.Int.Count.{ones}
 use Rattle.std.specs.Float.{binary64, nan}
@@ -12,7 +12,6 @@ use Rattle.matrices.specs.declared.coupling.KSParams.{KSParams}
 use Rattle.matrices.specs.Coupling.{su2_right}
 use Rattle.matrices.specs.Weights.{weight, weights_tests}
 use Rattle.matrices.specs.Squares.{energy}
-use Rattle.rows.specs.Entries.{pairs}
 use Rattle.rows.specs.Row.{row_of, diagonal_first, Sorted}
 use Rattle.rows.specs.RowLists.{rows_to, row_starts, row_columns, row_values, RowAppended, AllRowsFit}
 use Rattle.gauss_law.specs.Listing.{limit}
@@ -21,7 +20,6 @@ use Rattle.su2_even_sets.specs.EvenSets.{su2_states, mask_place}
 use Rattle.su2_masks.specs.Basis.{su2_tests}
 use Rattle.su2_masks.specs.Flips.{triangle_mask, flips}
 use Rattle.su2_masks.specs.Place.{FewLoops}
-use Rattle.su2_rows.specs.declared.tables.Flips.{Flips}
 use Rattle.su2_rows.specs.Once.{ColumnsOnce}
 
 -- the electric factor times the number of edges in state i
@@ -73,10 +71,6 @@ su2_rows_call c p given weights work starts columns values =
 -- entries with their columns flipped by the same bits
 abbrev pub flipped_entries : ℕ → List (ℕ × Float) → List (ℕ × Float)
 flipped_entries by entries = map (λ e. (bit_xor e.0 by, e.1)) entries
-
--- the entries of the triangles in a row
-abbrev pub flips_in : Flips → List (ℕ × Float)
-flips_in f = take f.count (pairs f.places f.terms)
 
 -- the entries of the triangles in row i, by the tables of n triangles: the flip and the term of each
 abbrev pub flip_entries : List ℕ → List Float → ℕ → ℕ → List (ℕ × Float)

@@ -1,4 +1,4 @@
-use Rattle.std.proofs.Common.{◌≡◌, ◌<◌, length, refl, ap, arith}
+use Rattle.std.proofs.Common.{◌≡◌, ◌<◌, length, ap, arith}
 use lib.Ieee.{binary64, mul}
 use lib.ListN.{length-set}
 use Rattle.complex.specs.Complex.{complex_of}
@@ -9,17 +9,18 @@ use Rattle.matrices.specs.Weights.{weight, is_given, given_list}
 use Rattle.matrices.proofs.Weighing.{weight_there}
 use Rattle.su2_masks.proofs.Placing.{loops_readable}
 use Rattle.su2_rows.proofs.TableRows.{place_few, table_more}
-use Rattle.su2_rows.proofs.tables.Flips.of.Goals as goal
+use Rattle.su2_rows.proofs.tables.write_tables.Goals as goal
 
 pub all_sides-all-requires : goal.all_sides-all-requires
 all_sides-all-requires c = (accepted _).1 c.requires.0.of.accepted
 
 pub loop-t-init : goal.loop-t-init
 loop-t-init c =
+    let long = triangles_long c.args.c in
     record {
-      few = omega (arith, triangles_long c.args.c, c.requires.0.of.accepted.few_triangles);
-      places_long = refl;
-      terms_long = refl;
+      few = omega (arith, long, c.requires.0.of.accepted.few_triangles);
+      places_long = omega (arith, long, c.requires.2);
+      terms_long = omega (arith, long, c.requires.3);
       made = record { places_are = λ k h. absurd (omega arith); terms_are = λ k h. absurd (omega arith) };
     }
 
@@ -57,6 +58,5 @@ loop-t-preserved c =
 
 pub returns : goal.returns
 returns c =
-    let long = triangles_long c.args.c in
-    let past : c.loop-t.t ≡ length (complex_of c.args.c).triangles = omega arith in
-    (rw past at c.loop-t.invariant.made, omega arith)
+    let past : c.loop-t.t ≡ length (complex_of c.args.c).triangles = omega (arith, triangles_long c.args.c) in
+    rw past at c.loop-t.invariant.made
