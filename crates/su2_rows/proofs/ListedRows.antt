@@ -41,10 +41,6 @@ pub entries_made : (r : SimplicialComplex) {f : Forest} → FewLoops (complex_of
 entries_made r l p right w n k number is = sym (entries_number (complex_of r) l.of.accepted p right w ∙ rw (triangles_long r, ← number) (sym is))
 
 -- ---- the rows of the tables
--- the triangles of a record are few
-pub rows_few : (r : SimplicialComplex) {f : Forest} {p : KSParams} {n starts_room columns_room values_room : ℕ} → RowsOf (complex_of r) f p n starts_room columns_room values_room → r.n_triangles ≤ 256
-rows_few r m = rw (← (triangles_long r)) m.loops.of.accepted.few_triangles
-
 module _ (c : Complex) (f : Forest) (p : KSParams) (n starts_room columns_room values_room : ℕ) (m : RowsOf c f p n starts_room columns_room values_room) where
   module _ (w : ℕ → Float) (places : List ℕ) (terms : List Float) (tables : Tables c p w (length c.triangles) places terms) (states rest : List ℕ) (begins : states ≡ su2_states c ++ rest) where
     abbrev entries : ℕ → List (ℕ × Float)

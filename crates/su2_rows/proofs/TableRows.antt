@@ -6,9 +6,10 @@ use native.Mathlib.Decide.{ℕ_discrete}
 use native.Mathlib.Omega.{arith}
 use lib.Bits.{bit_xor}
 use lib.Ieee.{Float, binary64, nan, mul}
-use lib.ListN.{get_or, length, set}
+use lib.ListN.{get_or, length, set, take}
 use lib.Pow.{pow_mono, pow_pos}
 use lib.Seq.{get_or-set_same, get_or-set_other}
+use Rattle.std.proofs.lemmas.List.{get_or-take, length-take-le}
 use Rattle.mathematics.proofs.Below.{below_each}
 use Rattle.mathematics.proofs.Maps.{map_each}
 use Rattle.mathematics.proofs.Ordered.{each_to}
@@ -70,3 +71,16 @@ table_more c p w places terms t place x room room' so_far is term =
     term_at : (k : ℕ) → k < t + 1 → Dec (k ≡ t) → get_or (set terms t x) k nan ≡ mul binary64 p.magnetic (w k)
     term_at k h (yes e) = rw (e, get_or-set_same terms t x nan room') term
     term_at k h (no e) = rw (get_or-set_other terms t k x nan e) (so_far.terms_are k (omega arith))
+
+-- the front of two lists says the same, and no more
+pub tables_front : {c : Complex} {p : KSParams} {w : ℕ → Float} {n : ℕ} {places : List ℕ} {terms : List Float} (k : ℕ) → k ≡ n → k ≤ length places → k ≤ length terms → Tables c p w n places terms
+    → Tables c p w n (take k places) (take k terms) × (length (take k places) ≡ n) × (length (take k places) ≡ length (take k terms))
+tables_front {places} {terms} k e places_long terms_long of =
+    let many = length-take-le k places places_long in (
+      record {
+        places_are = λ t h. get_or-take k places t 0 (rw e h) ∙ of.places_are t h;
+        terms_are = λ t h. get_or-take k terms t nan (rw e h) ∙ of.terms_are t h;
+      },
+      many ∙ e,
+      many ∙ sym (length-take-le k terms terms_long),
+    )

@@ -9,12 +9,11 @@ ghost use Rattle.su2_even_sets.specs.EvenSets.{su2_states};
 ghost use Rattle.su2_rows.specs.Rows.{su2_row, su2_entries, su2_rows_call, RowsOf};
 
 use crate::fill::write_rows;
-use crate::tables::write_tables;
+use crate::tables::Flips;
 use answers::refusal::Refusal;
 use complex::SimplicialComplex;
 use matrices::coupling::{KSParams, is_su2};
 use matrices::weights::accept_weights;
-use numbers::sizes::MOST_TRIANGLES;
 use su2_even_sets::Forest;
 use su2_masks::accepted::accepted_loops;
 use su2_masks::write_masks;
@@ -34,11 +33,10 @@ fn write_lists(
     requires { RowsOf (complex_of c) f p n (length starts.old) (length columns.old) (length values.old) × Weighed (length (complex_of c).triangles) (is_given weights) (given_list weights) × ((rest : List ℕ) × (states.now ≡ su2_states (complex_of c) ++ rest)) }
     ensures { RowsWritten (su2_row (complex_of c) p (weight (is_given weights.entry) (given_list weights.entry))) n (su2_entries (complex_of c) p (weight (is_given weights.entry) (given_list weights.entry))) starts.old columns.old values.old starts.new columns.new values.new }
 {
-    let mut places = [0u32; MOST_TRIANGLES];
-    let mut terms = [0.0f64; MOST_TRIANGLES];
-    let places = &mut places[..c.n_triangles];
-    let terms = &mut terms[..c.n_triangles];
-    write_tables(places, terms, c, f, p, weights);
+    let mut flips = Flips::of(c, f, p, weights);
+    let many = flips.count;
+    let places = &mut flips.places[..many];
+    let terms = &mut flips.terms[..many];
     write_rows(
         n, p.electric, states, places, terms, starts, columns, values,
     );

@@ -1,5 +1,5 @@
 // What all rows need of each triangle, found once.
-ghost use Rattle.std.specs.Prelude.{◌≤◌, length};
+ghost use Rattle.std.specs.Prelude.{◌≡◌, ◌≤◌, length};
 ghost use Rattle.complex.specs.Complex.{complex_of};
 ghost use Rattle.matrices.specs.Weights.{weight, Weighed, is_given, given_list};
 ghost use Rattle.su2_masks.specs.Place.{FewLoops};
@@ -8,6 +8,7 @@ ghost use Rattle.su2_rows.specs.Rows.{Tables};
 use complex::SimplicialComplex;
 use matrices::coupling::KSParams;
 use matrices::weights::weight_at;
+use numbers::sizes::MOST_TRIANGLES;
 use su2_even_sets::Forest;
 use su2_masks::flip::triangle_place;
 use triangles::{all_sides, sides_at};
@@ -30,5 +31,30 @@ pub fn write_tables(
         let place = triangle_place(f, sides_at(&all, t));
         places[t] = place as u32;
         terms[t] = p.magnetic * weight_at(weights, t);
+    }
+}
+
+// These tables as one value. There is no heap: both have room for the most triangles, and the count says how many there are.
+#[derive(Drop)]
+pub struct Flips {
+    pub places: [u32; MOST_TRIANGLES],
+    pub terms: [f64; MOST_TRIANGLES],
+    pub count: usize,
+}
+
+impl Flips {
+    // Those of an accepted record.
+    pub fn of(c: SimplicialComplex, f: Forest, p: KSParams, weights: Option<&[f64]>) -> Flips
+        requires { FewLoops (complex_of c) f × Weighed (length (complex_of c).triangles) (is_given weights) (given_list weights) }
+        ensures { Tables (complex_of c) p (weight (is_given weights.entry) (given_list weights.entry)) (length (complex_of c).triangles) result.places result.terms × (result.count ≡ length (complex_of c).triangles) }
+    {
+        let mut places = [0; MOST_TRIANGLES];
+        let mut terms = [0.0; MOST_TRIANGLES];
+        write_tables(&mut places, &mut terms, c, f, p, weights);
+        Flips {
+            places,
+            terms,
+            count: c.n_triangles,
+        }
     }
 }
