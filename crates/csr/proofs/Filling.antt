@@ -19,7 +19,7 @@ use Rattle.rows.specs.RowLists.{RowAppended, RowsWritten, RowFits}
 use Rattle.rows.proofs.RowsWritten.{row_copied, none_written}
 use Rattle.rows.proofs.SortedRows.{fits_at, added_next, added_written}
 use Rattle.hilbert.specs.Search.{row}
-use Rattle.moves.specs.declared.row.RowRoom.{RowRoom}
+use Rattle.csr.specs.declared.fill.RowRoom.{RowRoom}
 use Rattle.rows.proofs.Pairs.{pairs_length}
 use Rattle.moves.specs.Numbers.{lower, number_in}
 use Rattle.moves.specs.Moves.{tables, collected, pointed, Pointers}

@@ -1,5 +1,5 @@
 // All rows, one after the other. While they are made, the list of starts holds the numbers of the states and the lengths of the rows.
-ghost use Rattle.std.specs.Prelude.{◌≡◌, List, ℕ, ◌+◌, ◌*◌, ◌^◌, ◌<◌, ◌≤◌, get_or, length};
+ghost use Rattle.std.specs.Prelude.{◌≡◌, List, ℕ, ◌+◌, ◌*◌, ◌^◌, ◌<◌, ◌≤◌, get_or, length, replicate};
 ghost use Rattle.rows.specs.Entries.{pairs};
 ghost use Rattle.rows.specs.Row.{ColumnsDiffer};
 ghost use Rattle.rows.specs.RowLists.{RowFits};
@@ -9,13 +9,37 @@ ghost use Rattle.csr.specs.Fill.{entries_from, Walking, RowFound, RowDone, WalkA
 ghost use Rattle.csr.specs.Views.{walk_by};
 
 use crate::words::set_length;
-use moves::row::{RowRoom, RowState};
+use moves::row::RowState;
 use moves::seek::lower;
 use moves::tables::MoveTables;
 use plaquettes::rows::{row_at, row_energy};
 use plaquettes::target::Sizes;
 use rows::lists::copy_row;
 use rows::row::sort_row;
+
+// Room for a row: for each move a pointer to the place from which its next target is sought, and lists of columns and values. The memory is fixed: the
+// library has no heap.
+#[derive(Drop)]
+struct RowRoom {
+    pointers: [usize; 512],
+    columns: [u32; 513],
+    values: [f64; 513],
+    ghost columns_long: { length columns ≡ 513 },
+    ghost values_long: { length values ≡ 513 },
+}
+
+impl RowRoom {
+    // All pointers at the first state.
+    fn new() -> RowRoom
+        ensures { result.pointers ≡ replicate 512 0 }
+    {
+        RowRoom {
+            pointers: [0; 512],
+            columns: [0; 513],
+            values: [0.0; 513],
+        }
+    }
+}
 
 // What each row is made of: a list that begins with the states, its sizes, the electric factor and the moves.
 #[derive(Clone, Copy)]
@@ -40,7 +64,13 @@ impl RowTables<'_> {
             number: lower(words[i]),
             diagonal: row_energy(self.list, s.edges, i, self.electric),
         };
-        let found = self.moves.collect_row(row, &words[..s.states], room);
+        let found = self.moves.collect_row(
+            row,
+            &words[..s.states],
+            &mut room.pointers,
+            &mut room.columns,
+            &mut room.values,
+        );
         sort_row(&mut room.columns, &mut room.values, found);
         found
     }

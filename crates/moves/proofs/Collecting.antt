@@ -17,8 +17,9 @@ use lib.ListN.{get_or, length, set, take, length-set, get_or-eq_default}
 use lib.Seq.{get_or-set_same, get_or-set_other}
 use Rattle.rows.specs.Row.{kept}
 use Rattle.rows.specs.RowLists.{EntryPushed}
+use Rattle.rows.proofs.SortedRows.{pushed_few}
 use Rattle.moves.specs.Numbers.{sought}
-use Rattle.moves.specs.Moves.{Moves, change_in, goes, arrives, collected, pointed, Pointers, MovePushed}
+use Rattle.moves.specs.Moves.{Moves, change_in, goes, arrives, collected, pointed, Pointers}
 
 -- an option that is given where a test holds, with one value
 pub kept_or_none : (r : Option ℕ) (b : Bool) (x : ℕ) → is_some r ≡ b → {P : ℕ → Type 0} → IfSome r P → ((y : ℕ) → P y → y ≡ x) → r ≡ cond b (Some x) None
@@ -44,19 +45,6 @@ pointer_set n pointers k q h p =
         at true t = rw (e, get_or-set_same pointers k q 0 (ltb-true k (length pointers) t)) h
         at false t = rw (get_or-eq_default (set pointers k q) 0 {n = j} (rw (e, length-set pointers k q) (ltb-false k (length pointers) t))) (omega arith)
     go j (no e) = rw (get_or-set_other pointers k j q 0 e) (p.below j)
-
-module _ (value : Float) (n k m : ℕ) (pointers : List ℕ) (old : List (ℕ × Float)) where
-  -- no place
-  pub move_none : (target : Option ℕ) → target ≡ None → (taken : Bool) (p : ℕ) → target ≡ cond taken (Some p) None → MovePushed taken p value n k m pointers old m pointers old
-  move_none target none true p is = absurd (none-some p (sym none ∙ is))
-  move_none target none false p is = record { entries = sym (append-nil (take m old)); room = omega arith; pointers_are = refl }
-
-  -- a place, and its pointer behind it
-  pub move_some : (target : Option ℕ) (q : ℕ) → target ≡ Some q → (r : ℕ) (new : List (ℕ × Float)) → EntryPushed old m (q, value) true r new → (pointer : ℕ) → pointer ≡ min (q + 1) n
-      → (taken : Bool) (p : ℕ) → target ≡ cond taken (Some p) None → MovePushed taken p value n k m pointers old r (set pointers k pointer) new
-  move_some target q some r new pushed pointer pointer_is taken p is =
-      let same = cond_some taken p q (sym is ∙ some) in
-      rw (same.0, same.1, pointer_is) (record { entries = pushed.front; room = omega (arith, pushed.count); pointers_are = refl })
 
 module _ (v : Moves) (L : ℕ) (numbers : ℕ → ℕ) (n : ℕ) (s : List ℤ) (a : ℕ) (pointers : List ℕ) where
   -- the pointer of a move stays until its turn
@@ -105,23 +93,41 @@ module _ (v : Moves) (L : ℕ) (numbers : ℕ → ℕ) (n : ℕ) (s : List ℤ) 
   unfolding arrives
   arrives_kept k now e = rw (e, pointed_kept k k (omega arith))
 
+  -- the entries of the first k moves at the front of a list, and the pointers after them
   module _ (i : ℕ) (x : Float) where
-    -- the diagonal first
-    pub diagonal_collected : (old new : List (ℕ × Float)) (r : ℕ) → EntryPushed old 0 (i, x) (kept x) r new → take r new ≡ collected v L numbers n s a pointers i x 0
-    unfolding collected
-    diagonal_collected old new r pushed = pushed.front
+    pub record Gathered (k m : ℕ) (now : List ℕ) (l : List (ℕ × Float)) : Type 0 where
+      pub entries : take m l ≡ collected v L numbers n s a pointers i x k
+      pub few : m ≤ k + 1
+      pub moved : now ≡ pointed v L numbers n s a pointers k
+
+    -- the diagonal alone
+    pub gathered_first : {old new : List (ℕ × Float)} {r : ℕ} {b : Bool} → b ≡ kept x → EntryPushed old 0 (i, x) b r new → Gathered 0 r pointers new
+    unfolding collected pointed
+    gathered_first e pushed = record { entries = rw (← e) pushed.front; few = pushed_few pushed; moved = refl }
 
     -- then a move more
-    module _ (k m : ℕ) (now : List ℕ) (old : List (ℕ × Float)) (r : ℕ) (after : List ℕ) (new : List (ℕ × Float)) (taken : Bool) (is : taken ≡ goes v L s k)
-        (pointers_are : now ≡ pointed v L numbers n s a pointers k)
-        (pushed : MovePushed taken (sought numbers (a + change_in (get_or v.keys k 0)) (get_or now k 0) (n - get_or now k 0)) (get_or v.terms k nan) n k m now old r after new) where
-      pub move_collected : take m old ≡ collected v L numbers n s a pointers i x k → take r new ≡ collected v L numbers n s a pointers i x (k + 1)
-      unfolding collected
-      move_collected so_far = rw (add-one k) (pushed.entries ∙ rw (so_far, is, arrives_kept k now pointers_are))
+    module _ {k m : ℕ} {now : List ℕ} {old : List (ℕ × Float)} (so_far : Gathered k m now old) (target : Option ℕ)
+        (is : target ≡ cond (goes v L s k) (Some (sought numbers (a + change_in (get_or v.keys k 0)) (get_or now k 0) (n - get_or now k 0))) None) where
+      -- which does not stay
+      pub gathered_none : target ≡ None → Gathered (k + 1) m now old
+      unfolding collected pointed
+      gathered_none none = go (goes v L s k) refl
+        where
+          go : (b : Bool) → goes v L s k ≡ b → Gathered (k + 1) m now old
+          go true e = absurd (none-some _ (sym none ∙ rw e at is))
+          go false e = record { entries = rw (add-one k, e) (so_far.entries ∙ sym (append-nil _)); few = omega (arith, so_far.few); moved = rw (add-one k, e) so_far.moved }
 
-      pub move_pointed : after ≡ pointed v L numbers n s a pointers (k + 1)
-      unfolding pointed
-      move_pointed = rw (add-one k) (pushed.pointers_are ∙ rw (arrives_kept k now pointers_are, is, pointers_are))
+      -- or leads to a place
+      pub gathered_some : (p : ℕ) → target ≡ Some p → (r : ℕ) (new : List (ℕ × Float)) → EntryPushed old m (p, get_or v.terms k nan) true r new → Gathered (k + 1) r (set now k (min (p + 1) n)) new
+      unfolding collected pointed
+      gathered_some p some r new pushed =
+          let stays = cond_some (goes v L s k) _ p (sym is ∙ some) in
+          let place : p ≡ arrives v numbers n a pointers k = sym stays.1 ∙ arrives_kept k now so_far.moved in
+          record {
+            entries = rw (add-one k, stays.0, ← place) (pushed.front ∙ rw so_far.entries refl);
+            few = omega (arith, pushed_few pushed, so_far.few);
+            moved = rw (add-one k, stays.0, ← place, ← so_far.moved) refl;
+          }
 
 -- ---- numbers that agree at the first n places
 sought_agree : (f g : ℕ → ℕ) (wanted p k : ℕ) → ((q : ℕ) → p ≤ q → q < p + k → f q ≡ g q) → sought f wanted p k ≡ sought g wanted p k

@@ -1,5 +1,5 @@
 -- The moves of all triangles in tables, and what they make of a row.
-use Rattle.std.specs.Prelude.{ℕ, zero, suc, ◌+◌, ◌*◌, ◌-◌, ◌/◌, ◌%◌, ◌<◌, ◌≤◌, min, Bool, cond, ◌≡◌, ltb, ℤ, pos, negsuc, Float, get_or, length, set, take, replicate}
+use Rattle.std.specs.Prelude.{ℕ, zero, suc, ◌+◌, ◌*◌, ◌-◌, ◌/◌, ◌%◌, ◌<◌, ◌≤◌, min, Bool, cond, ◌≡◌, ltb, ℤ, pos, negsuc, Float, get_or, length, set, replicate}
 use mathlib.Core.List.{List, [], ◌∷◌, ◌++◌, flat_map}
 use Rattle.std.specs.Float.{nan}
 use Rattle.mathematics.specs.Counting.{below}
@@ -122,9 +122,3 @@ pub record StateMoves (v : Moves) (count L : ℕ) (s : List ℤ) : Type 0 where
 pub record Pointers (n : ℕ) (pointers : List ℕ) : Type 0 where
   pub long : length pointers ≡ 512
   pub below : (k : ℕ) → get_or pointers k 0 ≤ n
-
--- an entry for a move behind the first m, where it is taken, and its pointer behind the place
-pub record MovePushed (taken : Bool) (place : ℕ) (value : Float) (n k m : ℕ) (pointers : List ℕ) (old : List (ℕ × Float)) (r : ℕ) (pointers' : List ℕ) (new : List (ℕ × Float)) : Type 0 where
-  pub entries : take r new ≡ take m old ++ cond taken ((place, value) ∷ []) []
-  pub room : r ≤ m + 1
-  pub pointers_are : pointers' ≡ cond taken (set pointers k (min (place + 1) n)) pointers

@@ -4,7 +4,7 @@ ghost use Rattle.complex.specs.Complex.{entries};
 ghost use Rattle.rows.specs.Entries.{pairs};
 ghost use Rattle.moves.specs.Numbers.{sought, number_in};
 ghost use Rattle.plaquettes.specs.Pairs.{stays, Movable};
-ghost use Rattle.moves.specs.Moves.{triangle_of, unit_of, move_in, change_in, goes, collected, pointed, StateMoves, Pointers, MovePushed};
+ghost use Rattle.moves.specs.Moves.{triangle_of, unit_of, move_in, change_in, goes, collected, pointed, StateMoves, Pointers};
 ghost use Rattle.moves.specs.Views.{moves_of};
 
 use crate::seek::seek;
@@ -38,52 +38,6 @@ pub struct RowState<'a> {
     pub diagonal: f64,
 }
 
-// Room for a row: for each move a pointer to the place from which its next target is sought, and lists of columns and values. The memory is fixed: the
-// library has no heap.
-#[derive(Drop)]
-pub struct RowRoom {
-    pub pointers: [usize; 512],
-    pub columns: [u32; 513],
-    pub values: [f64; 513],
-    ghost columns_long: { length columns ≡ 513 },
-    ghost values_long: { length values ≡ 513 },
-}
-
-impl RowRoom {
-    // All pointers at the first state.
-    pub fn new() -> RowRoom
-        ensures { result.pointers ≡ replicate 512 0 }
-    {
-        RowRoom {
-            pointers: [0; 512],
-            columns: [0; 513],
-            values: [0.0; 513],
-        }
-    }
-
-    // The place that move k leads to, one of n, goes behind the first m entries with its value, and its pointer behind that place; nothing where there is none.
-    #[tactic(auto, using(crate::proofs::Collecting::move_none, crate::proofs::Collecting::move_some))]
-    fn push_move(&mut self, k: usize, place: Option<usize>, n: usize, value: f64, m: usize) -> usize
-        requires { (n ≤ 2 ^ 20) × (k < 512) × (m < 513) × ((p : ℕ) → place ≡ Some p → p ≤ n) }
-        ensures { (taken : Bool) (p : ℕ) → place ≡ cond taken (Some p) None → MovePushed taken p value n k m self.old.pointers (pairs self.old.columns self.old.values) result self.new.pointers (pairs self.new.columns self.new.values) }
-    {
-        match place {
-            Some(p) => {
-                self.pointers[k] = (p + 1).min(n);
-                push_entry(
-                    &mut self.columns,
-                    &mut self.values,
-                    m,
-                    p as u32,
-                    value,
-                    true,
-                )
-            }
-            None => m,
-        }
-    }
-}
-
 impl MoveTables<'_> {
     // Whether the move of a key keeps the three values of a state within -lambda to lambda.
     #[tactic(auto, unfolding(crate::specs::Moves::triangle_of, crate::specs::Moves::move_in))]
@@ -106,26 +60,30 @@ impl MoveTables<'_> {
             .then(|| seek(words, from, row.number + change_in(key)))
     }
 
-    // The entries of a row: the diagonal where it is kept, then those of the moves that stay. How many there are is told. By number: move k, its value and
-    // its pointer go together.
-    pub fn collect_row(&self, row: RowState<'_>, words: &[u32], room: &mut RowRoom) -> usize
-        requires { (length self.now.keys.now ≤ 512) × StateMoves (moves_of self.now) (length self.now.keys.now) self.now.lambda row.state.now × Pointers (length words.now) room.old.pointers × (length words.now ≤ 2 ^ 20) × (row.i < 2 ^ 20) × (row.number < 2 ^ 20) }
-        ensures entries { take result (pairs room.new.columns room.new.values) ≡ collected (moves_of self.now) self.now.lambda (number_in words.now) (length words.now) row.entry.state.now row.entry.number room.old.pointers row.entry.i row.entry.diagonal (length self.now.keys.now) }
+    // The entries of a row go to the beginning of two lists: the diagonal where it is kept, then those of the moves that stay. How many there are is told.
+    // By number: move k, its value and its pointer go together. Columns and values stand apart, as in the lists of the exported functions.
+    pub fn collect_row(
+        &self,
+        row: RowState<'_>,
+        words: &[u32],
+        pointers: &mut [usize],
+        row_columns: &mut [u32],
+        row_values: &mut [f64],
+    ) -> usize
+        requires { (length self.now.keys.now ≤ 512) × StateMoves (moves_of self.now) (length self.now.keys.now) self.now.lambda row.state.now × Pointers (length words.now) pointers.old × (length words.now ≤ 2 ^ 20) × (row.i < 2 ^ 20) × (row.number < 2 ^ 20) × (length self.now.keys.now < length row_columns.old) × (length row_columns.old ≡ length row_values.old) }
+        ensures entries { take result (pairs row_columns.new row_values.new) ≡ collected (moves_of self.now) self.now.lambda (number_in words.now) (length words.now) row.entry.state.now row.entry.number pointers.old row.entry.i row.entry.diagonal (length self.now.keys.now) }
         ensures few { result ≤ length self.now.keys.now + 1 }
-        ensures pointers { room.new.pointers ≡ pointed (moves_of self.now) self.now.lambda (number_in words.now) (length words.now) row.entry.state.now row.entry.number room.old.pointers (length self.now.keys.now) }
+        ensures pointers { pointers.new ≡ pointed (moves_of self.now) self.now.lambda (number_in words.now) (length words.now) row.entry.state.now row.entry.number pointers.old (length self.now.keys.now) }
     {
+        let column = row.i as u32;
         let kept = is_kept(row.diagonal);
-        let mut m = push_entry(
-            &mut room.columns,
-            &mut room.values,
-            0,
-            row.i as u32,
-            row.diagonal,
-            kept,
-        );
+        let mut m = push_entry(row_columns, row_values, 0, column, row.diagonal, kept);
         for k in 0..self.keys.len() {
-            let place = self.target(k, row, words, room.pointers[k]);
-            m = room.push_move(k, place, words.len(), self.terms[k], m);
+            if let Some(place) = self.target(k, row, words, pointers[k]) {
+                let value = self.terms[k];
+                pointers[k] = (place + 1).min(words.len());
+                m = push_entry(row_columns, row_values, m, place as u32, value, true);
+            }
         }
         m
     }

@@ -15,16 +15,17 @@ pub collect_row-found-requires : goal.collect_row-found-requires
 collect_row-found-requires c =
     let walking = c.requires.0 in
     let long : length (take c.args.self.now.sizes.states c.args.words.now) ≡ c.args.self.now.sizes.states = length-take-le c.args.self.now.sizes.states c.args.words.now c.requires.3 in
-    (walking.moves_few, rw c.row_at.ensures (walking.each c.args.i c.requires.2), rw long c.requires.4, omega (arith, long, walking.few), omega (arith, c.requires.2, walking.few), c.lower.ensures.1)
+    (walking.moves_few, rw c.row_at.ensures (walking.each c.args.i c.requires.2), rw long c.requires.4, omega (arith, long, walking.few), omega (arith, c.requires.2, walking.few), c.lower.ensures.1, omega (arith, walking.moves_few, c.args.room.now.columns_long), c.args.room.now.columns_long ∙ sym c.args.room.now.values_long)
 
 pub sort_row-requires : goal.sort_row-requires
 unfolding electric_term
 sort_row-requires c =
     let long : length (take c.args.self.now.sizes.states c.args.words.now) ≡ c.args.self.now.sizes.states = length-take-le c.args.self.now.sizes.states c.args.words.now c.requires.3 in
     let told : c.row_energy.result ≡ energy c.args.self.now.electric (squares (row c.args.self.now.sizes.edges c.args.self.now.list.now c.args.i)) = c.row_energy.ensures in
-    let room = c.collect_row-found.new.room in (
-      omega (arith, c.collect_row-found.ensures.few, c.requires.0.moves_few, room.columns_long),
-      room.columns_long ∙ sym room.values_long,
+    let columns = c.collect_row-found.auto.row_columns ∙ c.args.room.now.columns_long in
+    let values = c.collect_row-found.auto.row_values ∙ c.args.room.now.values_long in (
+      omega (arith, c.collect_row-found.ensures.few, c.requires.0.moves_few, columns),
+      columns ∙ sym values,
       collected_differ (walk_by c.args.self.now c.args.words.now) c.args.words.now refl _ long _ _ _ _ _ c.row_at.ensures c.lower.ensures.0 told _ c.collect_row-found.ensures.entries c.requires.5,
     )
 

@@ -1,29 +1,24 @@
-use Rattle.std.proofs.Common.{refl, arith, length}
-use Rattle.rows.proofs.SortedRows.{pushed_few}
+use Rattle.std.proofs.Common.{length}
 use Rattle.moves.specs.Numbers.{number_in}
-use Rattle.moves.specs.Moves.{goes, pointed, Pointers}
+use Rattle.moves.specs.Moves.{Pointers}
 use Rattle.moves.specs.Views.{moves_of}
-use Rattle.moves.proofs.Collecting.{pointers_same, pointed_pointers, diagonal_collected, move_collected, move_pointed}
+use Rattle.moves.proofs.Collecting.{pointers_same, pointed_pointers, gathered_first, gathered_none, gathered_some}
 use Rattle.moves.proofs.tables.MoveTables.collect_row.Goals as goal
+use Rattle.moves.proofs.tables.MoveTables.collect_row.Goals.{in-Some, in_default}
 
 pub loop-k-init : goal.loop-k-init
-unfolding pointed
-loop-k-init c =
-    let pushed = rw c.is_kept-kept.ensures at c.push_entry-m.ensures in
-    record { collected = diagonal_collected _ _ _ _ _ _ _ _ _ _ _ _ pushed; few = pushed_few c.push_entry-m.ensures; pointed = refl }
+loop-k-init c = gathered_first _ _ _ _ _ _ _ _ _ c.is_kept-kept.ensures c.push_entry-m.ensures
 
-pub target-place-requires : goal.target-place-requires
-target-place-requires c =
+pub target-requires : goal.target-requires
+target-requires c =
     let a = c.args in
-    let pointers : Pointers (length a.words.now) c.loop-k.room.pointers =
-    pointers_same c.loop-k.invariant.pointed (pointed_pointers (moves_of a.self.now) a.self.now.lambda (number_in a.words.now) (length a.words.now) a.row.state.now a.row.number a.room.now.pointers c.loop-k.k c.requires.2) in
+    let pointers : Pointers (length a.words.now) c.loop-k.pointers =
+    pointers_same c.loop-k.invariant.moved (pointed_pointers (moves_of a.self.now) a.self.now.lambda (number_in a.words.now) (length a.words.now) a.row.state.now a.row.number a.pointers.now c.loop-k.k c.requires.2) in
     (c.loop-k-test.true, c.requires.1, c.requires.5, pointers.below c.loop-k.k)
 
 pub loop-k-preserved : goal.loop-k-preserved
 loop-k-preserved c =
-    let pushed = c.push_move-m.ensures (goes (moves_of c.args.self.now) c.args.self.now.lambda c.args.row.state.now c.loop-k.k) _ c.target-place.ensures.is in
-    record {
-      collected = move_collected (moves_of c.args.self.now) _ _ _ _ _ _ _ _ _ _ _ _ _ _ _ _ refl c.loop-k.invariant.pointed pushed c.loop-k.invariant.collected;
-      few = omega (arith, pushed.room, c.loop-k.invariant.few);
-      pointed = move_pointed (moves_of c.args.self.now) _ _ _ _ _ _ c.args.row.i c.args.row.diagonal _ _ _ _ _ _ _ _ refl c.loop-k.invariant.pointed pushed;
-    }
+    elim c.match-target.branch [
+      | in-Some w ↦ rw (w.pointers-is, w.row_columns-is, w.row_values-is, w.m-is) (rw w.min.ensures (gathered_some _ _ _ _ _ _ _ _ _ c.loop-k.invariant _ c.target.ensures.is _ w.in-Some.is _ _ w.push_entry-m-in-Some.ensures))
+      | in_default w ↦ rw (w.pointers-is, w.row_columns-is, w.row_values-is, w.m-is) (gathered_none _ _ _ _ _ _ _ _ _ c.loop-k.invariant _ c.target.ensures.is w.in_default.is)
+    ]
