@@ -17,7 +17,7 @@ use Rattle.std.proofs.Math.Seq.{get_or-append_seam}
 use mir.Syntax.{w8, w32}
 use mir.Val.{SFits, to_z, of_z}
 use mir.Facts.{to_z_pos}
-use Rattle.mathematics.proofs.Signed.{zero8, small_back}
+use Rattle.mathematics.proofs.Signed.{zero_bits, small_back}
 use Rattle.mathematics.proofs.Integers.{positive, negative, parts, parts_size, one_part, the, ◌⊞◌, ◌⊟◌, ⊖◌, times_one, times_minus_one, equal_true}
 use Rattle.mathematics.proofs.Tests.{and_parts}
 use Rattle.gauss_law.specs.Gauss.{within}
@@ -65,7 +65,7 @@ module _ (L : ℕ) (x : ℤ) (small : nat_abs x ≤ L) where
 -- nothing is added
 pub room_still : (L : ℕ) (x s : ℤ) → nat_abs x ≤ L → SFits w8 s → of_z w8 s ≡ 0 → (most : ℕ) → 1 ≤ most → Room L x s most most
 room_still L x s small fits none most h =
-    record { some = h; limited = omega arith; inside = λ d l. rw (equal_true s (pos 0) (sym (zero8 s fits.sfits) ∙ eq-eqb _ 0 none), *ℤ-zero (pos d), +ℤ_idr x) small }
+    record { some = h; limited = omega arith; inside = λ d l. rw (equal_true s (pos 0) (sym (zero_bits w8 s fits) ∙ eq-eqb _ 0 none), *ℤ-zero (pos d), +ℤ_idr x) small }
 
 -- ---- the edges of a cycle, one after the other
 module _ (L : ℕ) (row z : List ℤ) (edges : List ℕ) (most : ℕ) where
@@ -101,7 +101,7 @@ covering_passed edges count z n h fits none =
     }
   where
     go : (e : ℕ) → e < n + 1 → get_or z e (pos 0) ≢ pos 0 → Dec (e ≡ n) → (q : ℕ) × (q < count) × (get_or edges q 0 ≡ e)
-    go e l apart (yes is) = absurd (apart (ap (λ k. get_or z k (pos 0)) is ∙ equal_true _ _ (sym (zero8 (get_or z n (pos 0)) fits.sfits) ∙ eq-eqb _ 0 none)))
+    go e l apart (yes is) = absurd (apart (ap (λ k. get_or z k (pos 0)) is ∙ equal_true _ _ (sym (zero_bits w8 (get_or z n (pos 0)) fits) ∙ eq-eqb _ 0 none)))
     go e l apart (no is) = h.all e (omega arith) apart
 
 -- another goes last

@@ -10,7 +10,7 @@ use mir.Val.{SFits, of_z}
 use Rattle.mathematics.specs.Calls.{Call}
 use Rattle.exports.specs.Exports.{Exported}
 use Rattle.recorded.specs.Answers.{tells, leaves, agrees}
-use Rattle.recorded.proofs.Numbers.{equal_bits}
+use Rattle.mathematics.proofs.Signed.{equal_bits}
 
 -- the numbers are compared by their bits
 module _ {B : Type 0} {call : Call ℕ B} {r : ℤ} {l : B} (h : Exported call r l) (ok : mag r < 2 ^ 63) {told : ℤ} (fits : SFits w64 told) where

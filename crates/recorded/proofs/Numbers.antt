@@ -1,25 +1,18 @@
--- Numbers in bytes, low byte first; signed numbers by their bits; floats by theirs.
+-- Numbers in bytes, low byte first, and floats by their bits.
 use Prim.Native.Nat.{ℕ, ◌+◌, ◌%◌, ◌<◌, ◌≤◌}
 use Rattle.std.specs.Int.{from_le_bytes, w32, w64}
 use Rattle.std.specs.List.{slice_get}
 use Rattle.std.specs.Option.{unwrap_or}
 use Rattle.std.proofs.lemmas.Option.{unwrap_or-slice_get}
 use mathlib.Core.List.{List, [], ◌∷◌}
-use mathlib.Core.Bool.{Bool, true, not}
-use mathlib.Core.Path.{◌≡◌, sym, subst, ap, ◌∙◌}
+use mathlib.Core.Bool.{Bool, not}
+use mathlib.Core.Path.{◌≡◌}
 use native.Mathlib.Omega.{arith}
-use borrow.Author.Tests.{eqb-true, eq-eqb, lt-ltb, le-ltb}
-use lib.Dec.{T, eqb, ltb}
-use lib.IntN.{ℤ}
+use borrow.Author.Tests.{lt-ltb, le-ltb}
+use lib.Dec.{T, ltb}
 use lib.Ieee.{binary64, nan_bits, of_bits}
 use lib.Ieee.Bits.{nan_bits_above}
 use lib.ListN.{get_or}
-use mir.Syntax.{Width}
-use mir.Val.{SFits, to_z, of_z}
-use mir.Facts.{to_z-of_z}
-use Rattle.mathematics.specs.Integers.{equal}
-use Rattle.mathematics.proofs.Tests.{same_tests}
-use Rattle.mathematics.proofs.Integers.{equal_true, equal_self}
 use Rattle.recorded.specs.Bytes.{number_at, float_of}
 
 -- ---- unsigned numbers
@@ -37,14 +30,6 @@ four_bytes b at = let none : at + 0 ≡ at = omega arith in rw none (omega arith
 pub eight_bytes : (b : List ℕ) (at : ℕ) → from_le_bytes w64 (get_or b at 0 ∷ get_or b (at + 1) 0 ∷ get_or b (at + 2) 0 ∷ get_or b (at + 3) 0 ∷ get_or b (at + 4) 0 ∷ get_or b (at + 5) 0 ∷ get_or b (at + 6) 0 ∷ get_or b (at + 7) 0 ∷ []) ≡ number_at 8 b at
 unfolding number_at
 eight_bytes b at = let none : at + 0 ≡ at = omega arith in rw none (omega arith)
-
--- ---- signed numbers
--- their bits are equal just where they are
-pub equal_bits : (w : Width) (x y : ℤ) → SFits w x → SFits w y → eqb (of_z w x) (of_z w y) ≡ equal x y
-equal_bits w x y fx fy =
-    same_tests (eqb (of_z w x) (of_z w y)) (equal x y)
-    (λ e. subst (λ z. equal x z ≡ true) (sym (to_z-of_z fx) ∙ ap (to_z w) (eqb-true (of_z w x) (of_z w y) e) ∙ to_z-of_z fy) (equal_self x))
-    (λ e. eq-eqb (of_z w x) (of_z w y) (ap (of_z w) (equal_true x y e)))
 
 -- ---- floats
 -- the test of a NaN's pattern

@@ -81,7 +81,7 @@ impl Entry for i8 {
         byte_at(bytes, place).cast_signed()
     }
 
-    #[tactic(auto, using(crate::proofs::Numbers::one_byte, crate::proofs::Numbers::equal_bits))]
+    #[tactic(auto, using(crate::proofs::Numbers::one_byte, mathematics::proofs::Signed::equal_bits))]
     fn is_at(self, bytes: &[u8], place: usize) -> bool {
         self == byte_at(bytes, place).cast_signed()
     }
@@ -106,7 +106,7 @@ impl Entry for i32 {
         u32_at(bytes, place).cast_signed()
     }
 
-    #[tactic(auto, using(crate::proofs::Numbers::equal_bits))]
+    #[tactic(auto, using(mathematics::proofs::Signed::equal_bits))]
     fn is_at(self, bytes: &[u8], place: usize) -> bool {
         self == u32_at(bytes, place).cast_signed()
     }

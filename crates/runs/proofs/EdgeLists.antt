@@ -24,7 +24,7 @@ use Rattle.runs.specs.Edges.{kind, of_kind, Edges, Listed, picked}
 use mir.Syntax.{w8}
 use mir.Val.{of_z}
 use Rattle.std.proofs.Common.{FitsSigned}
-use Rattle.mathematics.proofs.Signed.{zero8}
+use Rattle.mathematics.proofs.Signed.{zero_bits}
 use Rattle.walker.proofs.Candidates.{within}
 use Rattle.walker.proofs.Interval.{moves, inside_span, span_inside, within_entries, entries_within, rows_by_tests}
 use Rattle.walker.proofs.Narrowing.{span_bound}
@@ -51,10 +51,10 @@ module _ (z y : List ℤ) (k e : ℕ) (l : List ℕ) (h : Edges z y k e l (lengt
 -- the test of a sign in the machine
 module _ (x : ℤ) (sign : FitsSigned w8 x) where
   pub sign_zero : of_z w8 x ≡ 0 → equal x (pos 0) ≡ true
-  sign_zero h = sym (zero8 x sign.sfits) ∙ eq-eqb (of_z w8 x) 0 h
+  sign_zero h = sym (zero_bits w8 x sign) ∙ eq-eqb (of_z w8 x) 0 h
 
   pub sign_some : (of_z w8 x ≡ 0 → ⊥) → equal x (pos 0) ≡ false
-  sign_some h = sym (zero8 x sign.sfits) ∙ ne_eqb (of_z w8 x) 0 h
+  sign_some h = sym (zero_bits w8 x sign) ∙ ne_eqb (of_z w8 x) 0 h
 
 -- ---- what stands in them
 module _ (z y : List ℤ) (k m : ℕ) (small : m ≤ 63) (list : List ℕ) (count : ℕ) (h : Edges z y k m list count) where

@@ -1,4 +1,4 @@
--- What is judged of a path, and values as the machine compares them.
+-- What is judged of a path.
 use Prim.Native.Nat.{ℕ, ◌+◌, ◌<◌, ◌≤◌, min}
 use mathlib.Core.List.{List, [], ◌∷◌, ◌++◌}
 use mathlib.Core.Bool.{Bool, true, false, ◌&&◌, ◌||◌, not}
@@ -20,13 +20,6 @@ use Rattle.mathematics.proofs.Tests.{all_at, all_last, and_parts, same_tests}
 use Rattle.wilson.specs.Wilson.{path_of, step_right}
 use Rattle.wilson.specs.Walking.{PathFits}
 use Rattle.wilson.proofs.Walks.{path_long, path_at}
-
--- ---- two values are equal just where their bits are
-pub equal_bits : (w : Width) (x y : ℤ) → SFits w x → SFits w y → eqb (of_z w x) (of_z w y) ≡ equal x y
-equal_bits w x y fx fy =
-    same_tests (eqb (of_z w x) (of_z w y)) (equal x y)
-    (λ e. rw (sym (to_z-of_z fx) ∙ ap (to_z w) (eqb-true (of_z w x) (of_z w y) e) ∙ to_z-of_z fy) (equal_self y))
-    (λ e. eq-eqb (of_z w x) (of_z w y) (ap (of_z w) (equal_true x y e)))
 
 -- ---- one step more is judged
 pub path_more : (m : ℕ) (es : List ℕ) (ds : List ℤ) → length ds ≡ length es → (k : ℕ) → k < length es

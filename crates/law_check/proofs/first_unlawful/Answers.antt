@@ -4,7 +4,7 @@ use mir.Val.{SFits}
 use borrow.Author.Tests.{eq-eqb}
 use Rattle.mathematics.specs.Counting.{below, keep}
 use Rattle.mathematics.proofs.Integers.{equal_true}
-use Rattle.mathematics.proofs.Signed.{back64, zero64}
+use Rattle.mathematics.proofs.Signed.{back64, zero_bits}
 use Rattle.law_check.specs.Law.{lowest_broken, first_found}
 use Rattle.law_check.proofs.Findings.{none_next, lowest_at}
 use Rattle.law_check.proofs.first_unlawful.Goals as goal
@@ -24,7 +24,7 @@ pub loop-vertex-preserved : goal.loop-vertex-preserved
 loop-vertex-preserved c =
     let x = get_or c.args.sums.now c.loop-vertex.vertex (pos 0) in
     let f : SFits w64 x = search rules in
-    none_next _ _ _ c.loop-vertex.invariant (equal_true x (pos 0) (sym (zero64 x f.sfits) ∙ eq-eqb _ _ c.if-sum-ne0.false))
+    none_next _ _ _ c.loop-vertex.invariant (equal_true x (pos 0) (sym (zero_bits w64 x f) ∙ eq-eqb _ _ c.if-sum-ne0.false))
 
 pub returns : goal.returns
 returns c =

@@ -1,6 +1,6 @@
 use Rattle.std.proofs.Common.{arith, pos, w8}
 use lib.IntN.{negsuc}
-use Rattle.wilson.proofs.Judging.{equal_bits}
+use Rattle.mathematics.proofs.Signed.{equal_bits}
 use Rattle.wilson.proofs.is_direction.Goals as goal
 
 pub returns : goal.returns
