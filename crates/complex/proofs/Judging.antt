@@ -53,68 +53,74 @@ module _ (c : SimplicialComplex) (table : List ℕ) where
     unfolding simplices_right
     repeated_edge rise h = refused_by c table 7 (λ z. omega arith) (rw (by_tests c, right, rise, h))
 
-    pub edges_right : every_entry (rising c.n_vertices) (edges_of c) ≡ true → distinct same (edges_of c) ≡ true → simplices_right c.n_vertices (edges_of c) ≡ true
-    unfolding simplices_right
-    edges_right rise h = rw (rise, h)
+-- the edges passed both of their tests, and the table is their index
+pub record Indexed (c : SimplicialComplex) (table : List ℕ) : Type 0 where
+  pub right : counts_of c ≡ true
+  pub edges : simplices_right c.n_vertices (edges_of c) ≡ true
+  pub index : EdgeTable table (edges_of c)
 
-    module _ (edges : simplices_right c.n_vertices (edges_of c) ≡ true) where
-      pub wrong_triangle : every_entry (λ s. rising c.n_vertices s && sides_listed (edges_of c) s) (triangles_of c) ≡ false → Judged c table 8
-      unfolding triangles_right simplices_right complex_of
-      wrong_triangle h =
-          let e : (every_entry (rising c.n_vertices) (triangles_of c) && every_entry (sides_listed (edges_of c)) (triangles_of c)) ≡ false =
-          sym (all_and (rising c.n_vertices) (sides_listed (edges_of c)) (triangles_of c)) ∙ h in
-          refused_by c table 8 (λ z. omega arith) (rw (by_tests c, right, edges, falls _ (distinct same (triangles_of c)) _ e))
-        where
-          falls : (a d b : Bool) → (a && b) ≡ false → ((a && d) && b) ≡ false
-          falls true true b h = h
-          falls true false b h = refl
-          falls false d b h = refl
+pub edges_right : (c : SimplicialComplex) → every_entry (rising c.n_vertices) (edges_of c) ≡ true → distinct same (edges_of c) ≡ true → simplices_right c.n_vertices (edges_of c) ≡ true
+unfolding simplices_right
+edges_right c rise h = rw (rise, h)
 
-      module _ (fit : every_entry (λ s. rising c.n_vertices s && sides_listed (edges_of c) s) (triangles_of c) ≡ true) (index : EdgeTable table (edges_of c)) where
-        fit_parts : (every_entry (rising c.n_vertices) (triangles_of c) ≡ true) × (every_entry (sides_listed (edges_of c)) (triangles_of c) ≡ true)
-        fit_parts =
-            and_parts (every_entry (rising c.n_vertices) (triangles_of c)) (every_entry (sides_listed (edges_of c)) (triangles_of c))
-            (sym (all_and (rising c.n_vertices) (sides_listed (edges_of c)) (triangles_of c)) ∙ fit)
+module _ {c : SimplicialComplex} {table : List ℕ} (i : Indexed c table) where
+  pub wrong_triangle : every_entry (λ s. rising c.n_vertices s && sides_listed (edges_of c) s) (triangles_of c) ≡ false → Judged c table 8
+  unfolding triangles_right simplices_right complex_of
+  wrong_triangle h =
+      let e : (every_entry (rising c.n_vertices) (triangles_of c) && every_entry (sides_listed (edges_of c)) (triangles_of c)) ≡ false =
+      sym (all_and (rising c.n_vertices) (sides_listed (edges_of c)) (triangles_of c)) ∙ h in
+      refused_by c table 8 (λ z. omega arith) (rw (by_tests c, i.right, i.edges, falls _ (distinct same (triangles_of c)) _ e))
+    where
+      falls : (a d b : Bool) → (a && b) ≡ false → ((a && d) && b) ≡ false
+      falls true true b h = h
+      falls true false b h = refl
+      falls false d b h = refl
 
-        all_fitting : every_entry (fitting c.n_vertices (edges_of c)) (triangles_of c) ≡ true
-        unfolding fitting
-        all_fitting =
-            at_all (fitting c.n_vertices (edges_of c)) [] (triangles_of c)
-            (λ i il.
-            rw (eq-eqb (length (get_or (triangles_of c) i [])) 3 (simplices_sized 3 c.triangles c.n_triangles i il))
-            (all_at (λ s. rising c.n_vertices s && sides_listed (edges_of c) s) [] (triangles_of c) fit i il))
+  module _ (fit : every_entry (λ s. rising c.n_vertices s && sides_listed (edges_of c) s) (triangles_of c) ≡ true) where
+    fit_parts : (every_entry (rising c.n_vertices) (triangles_of c) ≡ true) × (every_entry (sides_listed (edges_of c)) (triangles_of c) ≡ true)
+    fit_parts =
+        and_parts (every_entry (rising c.n_vertices) (triangles_of c)) (every_entry (sides_listed (edges_of c)) (triangles_of c))
+        (sym (all_and (rising c.n_vertices) (sides_listed (edges_of c)) (triangles_of c)) ∙ fit)
 
-        short : length (edges_of c) ≤ 63
-        short = rw (simplices_length 2 c.edges c.n_edges) (counts _ _ _ right).edges
+    all_fitting : every_entry (fitting c.n_vertices (edges_of c)) (triangles_of c) ≡ true
+    unfolding fitting
+    all_fitting =
+        at_all (fitting c.n_vertices (edges_of c)) [] (triangles_of c)
+        (λ k kl.
+        rw (eq-eqb (length (get_or (triangles_of c) k [])) 3 (simplices_sized 3 c.triangles c.n_triangles k kl))
+        (all_at (λ s. rising c.n_vertices s && sides_listed (edges_of c) s) [] (triangles_of c) fit k kl))
 
-        pub all_keyed : (i : ℕ) → i < c.n_triangles → Keyed table (entries c.triangles (3 * i) 3)
-        all_keyed i il =
-            rw (simplex_at 3 c.triangles c.n_triangles i il) at
-            (fitting_keyed c.n_vertices (edges_of c) (counts _ _ _ right).vertices short table index (get_or (triangles_of c) i [])
-            (all_at (fitting c.n_vertices (edges_of c)) [] (triangles_of c) all_fitting i (rw (simplices_length 3 c.triangles c.n_triangles) il)))
+    short : length (edges_of c) ≤ 63
+    short = rw (simplices_length 2 c.edges c.n_edges) (counts _ _ _ i.right).edges
 
-        -- the triangles differ where their keys do
-        by_keys : (b : Bool) → b ≡ distinct eqb (map (triangle_key table) (triangles_of c)) → distinct same (triangles_of c) ≡ b
-        by_keys b e =
-            sym (triangles_differ c.n_vertices (edges_of c) (counts _ _ _ right).vertices short table index (triangles_of c) all_fitting) ∙ sym e
+    pub all_keyed : (k : ℕ) → k < c.n_triangles → Keyed table (entries c.triangles (3 * k) 3)
+    all_keyed k kl =
+        rw (simplex_at 3 c.triangles c.n_triangles k kl) at
+        (fitting_keyed c.n_vertices (edges_of c) (counts _ _ _ i.right).vertices short table i.index (get_or (triangles_of c) k [])
+        (all_at (fitting c.n_vertices (edges_of c)) [] (triangles_of c) all_fitting k (rw (simplices_length 3 c.triangles c.n_triangles) kl)))
 
-        pub repeated_triangle : false ≡ distinct eqb (map (triangle_key table) (triangles_of c)) → Judged c table 8
-        unfolding triangles_right simplices_right complex_of
-        repeated_triangle e =
-            refused_by c table 8 (λ z. omega arith) (rw (by_tests c, right, edges, fit_parts.0, by_keys false e))
+    -- the triangles differ where their keys do
+    by_keys : (b : Bool) → b ≡ distinct eqb (map (triangle_key table) (triangles_of c)) → distinct same (triangles_of c) ≡ b
+    by_keys b e =
+        sym (triangles_differ c.n_vertices (edges_of c) (counts _ _ _ i.right).vertices short table i.index (triangles_of c) all_fitting) ∙ sym e
 
-        -- the last test decides
-        pub last_test : true ≡ distinct eqb (map (triangle_key table) (triangles_of c)) → (b : Bool) → b ≡ connected (edges_of c) c.n_vertices → Judged c table (cond b 0 9)
-        unfolding triangles_right simplices_right complex_of
-        last_test e b joined =
-            record {
-              number = rw (by_tests c, right, edges, fit_parts.0, by_keys true e, fit_parts.1, ← joined) (go b);
-              index = λ z. index;
-            }
-          where
-            go : (b : Bool) → ◌≡◌ {A = ℕ} (cond b 0 9) (cond (not b) 9 0)
-            go true = refl
-            go false = refl
+    pub repeated_triangle : false ≡ distinct eqb (map (triangle_key table) (triangles_of c)) → Judged c table 8
+    unfolding triangles_right simplices_right complex_of
+    repeated_triangle e =
+        refused_by c table 8 (λ z. omega arith) (rw (by_tests c, i.right, i.edges, fit_parts.0, by_keys false e))
+
+    -- the last test decides
+    pub last_test : true ≡ distinct eqb (map (triangle_key table) (triangles_of c)) → (b : Bool) → b ≡ connected (edges_of c) c.n_vertices → Judged c table (cond b 0 9)
+    unfolding triangles_right simplices_right complex_of
+    last_test e b joined =
+        record {
+          number = rw (by_tests c, i.right, i.edges, fit_parts.0, by_keys true e, fit_parts.1, ← joined) (go b);
+          index = λ z. i.index;
+        }
+      where
+        go : (b : Bool) → ◌≡◌ {A = ℕ} (cond b 0 9) (cond (not b) 9 0)
+        go true = refl
+        go false = refl
 
 -- what the later functions ask of a record whose counts are right and whose edges rise
 module _ (c : SimplicialComplex) (right : counts_of c ≡ true) (rise : every_entry (rising c.n_vertices) (edges_of c) ≡ true) where

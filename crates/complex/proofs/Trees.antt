@@ -97,36 +97,41 @@ module _ (n : ℕ) (t : SpanningTree) (fits : Fits n t) where
             stands = grown_stands;
           }
 
--- the edge of half-edge d is looked at from the vertex of d, with w opposite
-module _ (edges : List ℕ) (n m : ℕ) (ok : Searchable edges n m) (t : SpanningTree) (fits : Fits n t) (d w : ℕ) (inside : d < 2 * m) (is : w ≡ get_or edges (opposite d) 0) where
+-- the edge of half-edge d is looked at from the vertex of d, with w at the other end o
+module _ {edges : List ℕ} {n m : ℕ} (ok : Searchable edges n m) {t : SpanningTree} (fits : Fits n t) {d : ℕ} (inside : d < 2 * m) {o : ℕ} (there : o ≡ opposite d) {w : ℕ} (is : w ≡ get_or edges o 0) where
   joins : Joins (get_or (simplices 2 edges m) (d / 2) []) (get_or edges d 0) w
-  joins = rw is (half_joins edges m d inside)
+  joins = rw (is, there) (half_joins edges m d inside)
 
   same_across : across (get_or (simplices 2 edges m) (d / 2) []) (get_or edges d 0) ≡ w
   same_across = joins_across (get_or (simplices 2 edges m) (d / 2) []) (get_or edges d 0) w joins
 
-  pub look_inside : w < n
-  look_inside =
+  below : w < n
+  below =
       rw same_across at (across_below n (simplices 2 edges m) ok.ends (d / 2) (get_or edges d 0) (rw (simplices_length 2 edges m) (omega arith)))
+
+  -- w has a flag
+  pub look_inside : w < 64
+  look_inside = lt_of_lt_of_le below ok.vertices_fit
 
   -- w was seen before
   pub look_kept : (get_or t.visited w 0 ≡ 0 → ⊥) → Searched n t (look (simplices 2 edges m) (get_or edges d 0) (search_of t) (d / 2))
   look_kept z =
-      let u = flag_other n t fits w (lt_of_lt_of_le look_inside ok.vertices_fit) z in
+      let u = flag_other n t fits w look_inside z in
       record { fits = fits; stands = sym (look_old (simplices 2 edges m) (get_or edges d 0) (search_of t) (d / 2) (rw same_across u)) }
 
   module _ (unseen : get_or t.visited w 0 ≡ 0) where
     new : listed eqb w (search_of t).seen ≡ false
-    new = flag_zero n t fits w (lt_of_lt_of_le look_inside ok.vertices_fit) unseen
+    new = flag_zero n t fits w look_inside unseen
 
-    pub look_room : t.found + 1 < n
-    look_room = has_room n t fits w look_inside new
+    -- there is room for w
+    pub look_room : t.found + 1 < 64
+    look_room = lt_of_lt_of_le (has_room n t fits w below new) ok.vertices_fit
 
     pub look_grown : Searched n (grown t w (d / 2)) (look (simplices 2 edges m) (get_or edges d 0) (search_of t) (d / 2))
     look_grown =
         let touch = joins_touches (get_or (simplices 2 edges m) (d / 2) []) (get_or edges d 0) w joins in
         rw (look_new (simplices 2 edges m) (get_or edges d 0) (search_of t) (d / 2) touch (rw same_across new), same_across)
-        (grown_searched n t fits w look_inside new (d / 2) ok.vertices_fit)
+        (grown_searched n t fits w below new (d / 2) ok.vertices_fit)
 
 module _ (edges : List ℕ) (n m : ℕ) (t : SpanningTree) (fits : Fits n t) (h : ℕ) where
   pub serve_none : t.found < h → Searched n t (serve (simplices 2 edges m) (search_of t) h)

@@ -2,7 +2,7 @@
 use Prim.Native.Nat.{ℕ, zero, suc, ◌+◌, ◌<◌, ◌≤◌, min}
 use mathlib.Core.List.{List, [], ◌∷◌, ◌++◌}
 use mathlib.Core.Bool.{true, ◌||◌}
-use mathlib.Core.Path.{◌≡◌, refl, sym, ap, ◌∙◌}
+use mathlib.Core.Path.{◌≡◌, refl, sym, ap, ap₂, ◌∙◌}
 use mathlib.Core.Logic.{◌≢◌}
 use native.Mathlib.Omega.{arith}
 use native.Mathlib.Decide.{ℕ_discrete}
@@ -16,8 +16,8 @@ use Rattle.std.proofs.lemmas.List.{get_or_append_left}
 use Rattle.std.proofs.Math.Seq.{get_or-append_seam}
 use mir.Syntax.{w8, w32}
 use mir.Val.{SFits, to_z, of_z}
-use mir.Facts.{to_z_pos}
-use Rattle.mathematics.proofs.Signed.{zero_bits, small_back}
+use mir.Facts.{to_z_pos, to_z-of_z}
+use Rattle.mathematics.proofs.Signed.{size_sign, size_fits, zero_bits, small_back}
 use Rattle.mathematics.proofs.Integers.{positive, negative, parts, parts_size, one_part, the, ◌⊞◌, ◌⊟◌, ⊖◌, times_one, times_minus_one, equal_true}
 use Rattle.mathematics.proofs.Tests.{and_parts}
 use Rattle.gauss_law.specs.Gauss.{within}
@@ -29,10 +29,13 @@ use Rattle.plaquettes.proofs.Listed.{row_sized}
 use Rattle.lanczos.specs.Runs.{Covers, Room, Banded, CycleRun, RunRows}
 
 -- one more than the bound, as the code makes it
-pub top_back : (L : ℕ) → L ≤ 1000 → to_z w32 (of_z w32 (to_z w32 L +ℤ pos 1)) ≡ pos (L + 1)
+abbrev top : ℕ → ℤ
+top L = to_z w32 (of_z w32 (to_z w32 L +ℤ pos 1))
+
+top_back : (L : ℕ) → L ≤ 1000 → top L ≡ pos (L + 1)
 top_back L h = rw (to_z_pos w32 {n = L} (omega arith)) (small_back (pos (L + 1)) (omega arith))
 
-pub below_top : (L : ℕ) (y : ℤ) → nat_abs y ≤ L → lt_z y (pos (L + 1)) ≡ true
+below_top : (L : ℕ) (y : ℤ) → nat_abs y ≤ L → lt_z y (pos (L + 1)) ≡ true
 below_top L (pos n) h = lt-ltb n (L + 1) (omega arith)
 below_top L (negsuc n) h = refl
 
@@ -59,8 +62,27 @@ module _ (L : ℕ) (x : ℤ) (small : nat_abs x ≤ L) where
       (omega (arith, k, parts_size x, one_part x, parts_size (pos (L + 1) -ℤ neg_ℤ x), one_part (pos (L + 1) -ℤ neg_ℤ x), parts (the (pos (L + 1)) ⊟ (⊖ the x)), parts_size (x -ℤ pos d), one_part (x -ℤ pos d), parts (the x ⊟ the (pos d))))
   room_inside (negsuc (suc n)) h d l = absurd (omega arith)
 
-  pub room_is : (s : ℤ) → nat_abs s ≤ 1 → (most r : ℕ) → 1 ≤ most → r ≡ min most (nat_abs (pos (L + 1) -ℤ x *ℤ s)) → Room L x s most r
+  room_is : (s : ℤ) → nat_abs s ≤ 1 → (most r : ℕ) → 1 ≤ most → r ≡ min most (nat_abs (pos (L + 1) -ℤ x *ℤ s)) → Room L x s most r
   room_is s h most r positive e = record { some = omega (arith, e, room_some s h); limited = omega (arith, e); inside = λ d l. room_inside s h d (omega (arith, e)) }
+
+-- how far it is above the value times its sign, as the code makes that
+module _ {L : ℕ} (few : L ≤ 1000) (x s : ℤ) (small : nat_abs x ≤ L) (unit : nat_abs s ≤ 1) {t : ℤ} (told : t ≡ to_z w32 (of_z w32 x) *ℤ to_z w8 (of_z w8 s)) where
+  turned_is : t ≡ x *ℤ s
+  turned_is = told ∙ ap₂ ◌*ℤ◌ (small_back x (omega arith)) (to_z-of_z (size_fits w8 s (omega arith)))
+
+  turned_small : nat_abs t ≤ L
+  turned_small = rw turned_is (omega (arith, size_sign x s unit, small))
+
+  turned_back : to_z w32 (of_z w32 t) ≡ t
+  turned_back = small_back t (omega (arith, turned_small, few))
+
+  pub gap_asked : (nat_abs (top L) ≤ 1001) × (nat_abs (to_z w32 (of_z w32 t)) ≤ 1001) × (lt_z (to_z w32 (of_z w32 t)) (top L) ≡ true)
+  gap_asked =
+      rw (top_back L few, turned_back) (omega (arith, few), omega (arith, turned_small, few), below_top L t turned_small)
+
+  pub room_told : {gap most r : ℕ} → 1 ≤ most → gap ≡ nat_abs (top L -ℤ to_z w32 (of_z w32 t)) → r ≡ min most gap → Room L x s most r
+  room_told some apart is =
+      room_is L x small s unit _ _ some (rw (apart, top_back L few, turned_back, turned_is) at is)
 
 -- nothing is added
 pub room_still : (L : ℕ) (x s : ℤ) → nat_abs x ≤ L → SFits w8 s → of_z w8 s ≡ 0 → (most : ℕ) → 1 ≤ most → Room L x s most most

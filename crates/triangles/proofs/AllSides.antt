@@ -7,11 +7,16 @@ use native.Mathlib.Omega.{arith}
 use native.Mathlib.Decide.{ℕ_discrete}
 use lib.ListN.{get_or, length, set, length-set}
 use lib.Seq.{get_or-set_same, get_or-set_other}
-use Rattle.complex.specs.Complex.{Complex, entries}
+use Rattle.complex.specs.declared.SimplicialComplex.{SimplicialComplex}
+use Rattle.complex.specs.Complex.{Complex, entries, complex_of}
+use Rattle.complex.specs.Judge.{refusal, Accepted}
+use Rattle.complex.specs.Numbering.{EdgeTable}
 use Rattle.complex.specs.Sides.{sides}
+use Rattle.complex.proofs.Accepting.{accepted}
 use Rattle.complex.proofs.Triangles.{three}
 use Rattle.triangles.specs.declared.Sides.{Sides}
-use Rattle.triangles.specs.Indices.{SidesOf, AllSides, with_sides}
+use Rattle.triangles.specs.Indices.{SidesOf, AllSides, with_sides, sides_in}
+use Rattle.triangles.proofs.SidesFound.{triangles_long, sides_read, sides_below}
 
 module _ (all : List ℕ) (t : ℕ) (s : Sides) where
   abbrev one : List ℕ
@@ -43,7 +48,7 @@ module _ (all : List ℕ) (t : ℕ) (s : Sides) where
         (sym (get_or-set_same two (3 * t + 2) s.third 0 third))
 
     -- the edges of one triangle more stand in the list
-    pub sides_more : (c : Complex) → ((k : ℕ) → k < t → sides c k ≡ entries all (3 * k) 3) → sides c t ≡ s.first ∷ s.second ∷ s.third ∷ []
+    sides_more : (c : Complex) → ((k : ℕ) → k < t → sides c k ≡ entries all (3 * k) 3) → sides c t ≡ s.first ∷ s.second ∷ s.third ∷ []
         → (k : ℕ) → k < t + 1 → sides c k ≡ entries (with_sides all t s) (3 * k) 3
     sides_more c so_far is k h = go (ℕ_discrete k t)
       where
@@ -54,3 +59,25 @@ module _ (all : List ℕ) (t : ℕ) (s : Sides) where
 -- the edges that stand at the places of a triangle are its own
 pub own_sides : (c : Complex) (all : List ℕ) → AllSides c all → (t : ℕ) (s : Sides) → t < length c.triangles → entries all (3 * t) 3 ≡ s.first ∷ s.second ∷ s.third ∷ [] → SidesOf c t s
 own_sides c all of t s number e = record { number = number; are = of.are t number ∙ e }
+
+-- the edges of triangle t were read off the table of an accepted record
+module _ (c : SimplicialComplex) (h : refusal (complex_of c) ≡ 0) {table : List ℕ} (index : EdgeTable table (complex_of c).edges) {t : ℕ} (inside : t < c.n_triangles) {s : Sides} (told : s ≡ sides_in table (entries c.triangles (3 * t) 3)) where
+  right : Accepted (complex_of c)
+  right = (accepted c).0 h
+
+  listed : t < length (complex_of c).triangles
+  listed = rw (triangles_long c) inside
+
+  own : sides (complex_of c) t ≡ s.first ∷ s.second ∷ s.third ∷ []
+  own = rw told (sides_read c t h table index inside)
+
+  pub sides_small : (t < 256) × (s.first < 256) × (s.second < 256) × (s.third < 256)
+  sides_small =
+      let below = sides_below (complex_of c) t s own right listed in
+      (omega (arith, listed, right.few_triangles), omega (arith, below.0, right.few_edges), omega (arith, below.1, right.few_edges), omega (arith, below.2, right.few_edges))
+
+  -- they go to their places
+  pub sides_next : (all : List ℕ) → length all ≡ 768 → ((k : ℕ) → k < t → sides (complex_of c) k ≡ entries all (3 * k) 3)
+      → (k : ℕ) → k < t + 1 → sides (complex_of c) k ≡ entries (with_sides all t s) (3 * k) 3
+  sides_next all long so_far =
+      sides_more all t s (omega (arith, listed, right.few_triangles, long)) (complex_of c) so_far own
