@@ -2,21 +2,18 @@
 use Prim.Native.Nat.{ℕ, ◌+◌, ◌<◌, ◌≤◌, min}
 use mathlib.Core.List.{List, [], ◌∷◌, ◌++◌}
 use mathlib.Core.Bool.{Bool, true, false, ◌&&◌, ◌||◌, not}
-use mathlib.Core.Path.{◌≡◌, refl, sym, ap, ◌∙◌}
+use mathlib.Core.Path.{◌≡◌, refl, ap, ◌∙◌}
 use native.Mathlib.Omega.{arith}
-use borrow.Author.Tests.{eq-eqb, eqb-true, ltb-true}
+use borrow.Author.Tests.{ltb-true}
 use lib.Dec.{eqb, ltb}
 use lib.IntN.{ℤ, pos, negsuc, nat_abs}
 use lib.ListN.{get_or, length, take, length-append}
 use lib.Seq.{take_all}
-use mir.Syntax.{Width}
-use mir.Val.{SFits, to_z, of_z}
-use mir.Facts.{to_z-of_z}
 use Rattle.mathematics.specs.Integers.{equal}
 use Rattle.mathematics.specs.Tests.{every_entry}
 use Rattle.mathematics.proofs.Front.{take_next}
-use Rattle.mathematics.proofs.Integers.{equal_true, equal_self}
-use Rattle.mathematics.proofs.Tests.{all_at, all_last, and_parts, same_tests}
+use Rattle.mathematics.proofs.Integers.{equal_true}
+use Rattle.mathematics.proofs.Tests.{all_at, all_last, and_parts}
 use Rattle.wilson.specs.Wilson.{path_of, step_right}
 use Rattle.wilson.specs.Walking.{PathFits}
 use Rattle.wilson.proofs.Walks.{path_long, path_at}
