@@ -37,22 +37,24 @@ across_read c e v = across (entries c.edges (2 * e) 2) v
 abbrev pub step_read : SimplicialComplex → ℕ → ℕ → Step
 step_read c e v = (e, cond (eqb (get_or c.edges (2 * e) 0) v) (pos 1) (negsuc 0))
 
--- two vertices of a record, as a loop keeps them: there is a step between them just where they are not the same
-pub record Between (c : SimplicialComplex) (a b : ℕ) : Type 0 where
+-- What a loop knows of its two vertices: there is a step between them just where they are not the same, and an edge led to the one found later.
+pub record Between (c : SimplicialComplex) (r : TreeParents) (a b : ℕ) : Type 0 where
   pub first : a < c.n_vertices
   pub second : b < c.n_vertices
   pub few : c.n_vertices ≤ 64
   pub none : a ≡ b → length (path (complex_of c) a b) ≡ 0
   pub some : a ≢ b → 1 ≤ length (path (complex_of c) a b)
+  pub first_led : a ≢ b → get_or r.place b 0 < get_or r.place a 0 → led_by r a < 63
+  pub second_led : a ≢ b → get_or r.place a 0 ≤ get_or r.place b 0 → led_by r b < 63
 
 -- a climbs to u, or b does, and the path between them has one step less
 pub record FirstClimbs (c : SimplicialComplex) (r : TreeParents) (a b u : ℕ) : Type 0 where
-  pub between : Between c u b
+  pub between : Between c r u b
   pub path_is : path (complex_of c) a b ≡ step_read c (led_by r a) a ∷ path (complex_of c) u b
   pub shorter : length (path (complex_of c) a b) ≡ suc (length (path (complex_of c) u b))
 
 pub record SecondClimbs (c : SimplicialComplex) (r : TreeParents) (a b u : ℕ) : Type 0 where
-  pub between : Between c a u
+  pub between : Between c r a u
   pub path_is : path (complex_of c) a b ≡ path (complex_of c) a u ++ (step_read c (led_by r b) u ∷ [])
   pub shorter : length (path (complex_of c) a b) ≡ suc (length (path (complex_of c) a u))
 
@@ -135,47 +137,51 @@ module _ {c : SimplicialComplex} {r : TreeParents} (h : Parented c r) where
     step_is w = rw (← led_is, start_at c.edges c.n_edges (led_by r v) edge_few)
 
   -- ---- a turn
-  pub between : {a b : ℕ} → a < c.n_vertices → b < c.n_vertices → Between c a b
-  unfolding complex_of
-  between {a} {b} la lb =
-      record { first = la; second = lb; few = good.few_vertices; none = λ q. ap length (path_met q); some = λ apart. walk_some (accepted_path K good a b la lb).walk apart }
-
-  module _ {a b : ℕ} (t : Between c a b) (apart : a ≢ b) where
+  module _ {a b : ℕ} (la : a < c.n_vertices) (lb : b < c.n_vertices) (apart : a ≢ b) where
     sa : Seen a
-    sa = seen a t.first
+    sa = seen a la
 
     sb : Seen b
-    sb = seen b t.second
+    sb = seen b lb
 
-    -- a was found later, and the code reads the edge e that led to it and the vertex u across that
-    module _ {e : ℕ} (l : get_or r.place b 0 < get_or r.place a 0) (led : e ≡ led_by r a) where
-      first_later : (p.root a ≡ false) × Together es p (parent es p a) b × (path K a b ≡ step_from es (p.edge a) a ∷ path K (parent es p a) b)
-      unfolding path
-      first_later = later_climbs es found.seen found.tree p kin a b sa sb (together a b sa sb) apart (rw (h.places a t.first, h.places b t.second) at l)
+    first_later : get_or r.place b 0 < get_or r.place a 0 → (p.root a ≡ false) × Together es p (parent es p a) b × (path K a b ≡ step_from es (p.edge a) a ∷ path K (parent es p a) b)
+    unfolding path
+    first_later l = later_climbs es found.seen found.tree p kin a b sa sb (together a b sa sb) apart (rw (h.places a la, h.places b lb) at l)
 
-      pub first_edge : e < 63
-      first_edge = let few = edges_few in let k = edge_few a sa first_later.0 in omega arith
+    second_later : get_or r.place a 0 ≤ get_or r.place b 0
+        → (p.root b ≡ false) × Together es p a (parent es p b) × (path K a b ≡ path K a (parent es p b) ++ (step_from es (p.edge b) (parent es p b) ∷ []))
+    unfolding path
+    second_later l = later_reached es found.seen found.tree p kin a b sa sb (together a b sa sb) apart (rw (h.places a la, h.places b lb) at l)
 
-      pub first_climbs : {u : ℕ} → u ≡ across_read c e a → FirstClimbs c r a b u
-      first_climbs {u} to =
-          let n = first_later.0 in
-          let up = up_is a sa n led to in
-          let step : path K a b ≡ step_read c (led_by r a) a ∷ path K u b = rw (up, ← (step_is a sa n a)) first_later.2 in
-          record { between = between (rw up (up_inside a sa n)) t.second; path_is = step; shorter = ap length step }
+  pub between : {a b : ℕ} → a < c.n_vertices → b < c.n_vertices → Between c r a b
+  unfolding complex_of
+  between {a} {b} la lb =
+      let few = edges_few in
+      record {
+        first = la;
+        second = lb;
+        few = good.few_vertices;
+        none = λ q. ap length (path_met q);
+        some = λ apart. walk_some (accepted_path K good a b la lb).walk apart;
+        first_led = λ apart l. let k = edge_few a (sa la lb apart) (first_later la lb apart l).0 in omega arith;
+        second_led = λ apart l. let k = edge_few b (sb la lb apart) (second_later la lb apart l).0 in omega arith;
+      }
 
-    -- b was
-    module _ {e : ℕ} (l : get_or r.place a 0 ≤ get_or r.place b 0) (led : e ≡ led_by r b) where
-      second_later : (p.root b ≡ false) × Together es p a (parent es p b) × (path K a b ≡ path K a (parent es p b) ++ (step_from es (p.edge b) (parent es p b) ∷ []))
-      unfolding path
-      second_later = later_reached es found.seen found.tree p kin a b sa sb (together a b sa sb) apart (rw (h.places a t.first, h.places b t.second) at l)
+  -- the code reads the edge e that led to the one found later, and the vertex u across it
+  module _ {a b e u : ℕ} (t : Between c r a b) (apart : a ≢ b) where
+    pub first_climbs : get_or r.place b 0 < get_or r.place a 0 → e ≡ led_by r a → u ≡ across_read c e a → FirstClimbs c r a b u
+    first_climbs l led to =
+        let later = first_later t.first t.second apart l in
+        let s = seen a t.first in
+        let up = up_is a s later.0 led to in
+        let step : path K a b ≡ step_read c (led_by r a) a ∷ path K u b = rw (up, ← (step_is a s later.0 a)) later.2 in
+        record { between = between (rw up (up_inside a s later.0)) t.second; path_is = step; shorter = ap length step }
 
-      pub second_edge : e < 63
-      second_edge = let few = edges_few in let k = edge_few b sb second_later.0 in omega arith
-
-      pub second_climbs : {u : ℕ} → u ≡ across_read c e b → SecondClimbs c r a b u
-      second_climbs {u} to =
-          let n = second_later.0 in
-          let up = up_is b sb n led to in
-          let step : path K a b ≡ path K a u ++ (step_read c (led_by r b) u ∷ []) = rw (up, ← (step_is b sb n (parent es p b))) second_later.2 in
-          let long = length-append (path K a u) (step_read c (led_by r b) u ∷ []) in
-          record { between = between t.first (rw up (up_inside b sb n)); path_is = step; shorter = ap length step ∙ (omega arith) }
+    pub second_climbs : get_or r.place a 0 ≤ get_or r.place b 0 → e ≡ led_by r b → u ≡ across_read c e b → SecondClimbs c r a b u
+    second_climbs l led to =
+        let later = second_later t.first t.second apart l in
+        let s = seen b t.second in
+        let up = up_is b s later.0 led to in
+        let step : path K a b ≡ path K a u ++ (step_read c (led_by r b) u ∷ []) = rw (up, ← (step_is b s later.0 (parent es p b))) later.2 in
+        let long = length-append (path K a u) (step_read c (led_by r b) u ∷ []) in
+        record { between = between t.first (rw up (up_inside b s later.0)); path_is = step; shorter = ap length step ∙ (omega arith) }

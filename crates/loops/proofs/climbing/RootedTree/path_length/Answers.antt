@@ -1,5 +1,5 @@
 use Rattle.std.proofs.Common.{arith}
-use Rattle.loops.proofs.Climbs.{between, first_edge, first_climbs, second_edge, second_climbs, path_short}
+use Rattle.loops.proofs.Climbs.{between, first_climbs, second_climbs, path_short}
 use Rattle.loops.proofs.climbing.RootedTree.path_length.Goals as goal
 
 pub loop-x-init : goal.loop-x-init
@@ -9,9 +9,6 @@ pub overflow_add-n : goal.overflow_add-n
 overflow_add-n c = omega (arith, path_short c.args.self.now.parented c.requires.0 c.requires.1, c.loop-x.invariant.counted)
 
 -- ---- the first was found later
-pub across-x-requires : goal.across-x-requires
-across-x-requires c = first_edge c.args.self.now.parented c.loop-x.invariant.between c.loop-x-test.true c.if-place-y.true c.from.ensures
-
 pub loop-x-preserved-then-place-y : goal.loop-x-preserved-then-place-y
 loop-x-preserved-then-place-y c =
     let inv = c.loop-x.invariant in
@@ -19,9 +16,6 @@ loop-x-preserved-then-place-y c =
     record { between = climbed.between; counted = omega (arith, climbed.shorter, inv.counted) }
 
 -- ---- the second was
-pub across-y-requires : goal.across-y-requires
-across-y-requires c = second_edge c.args.self.now.parented c.loop-x.invariant.between c.loop-x-test.true c.if-place-y.false c.from-else-place-y.ensures
-
 pub loop-x-preserved : goal.loop-x-preserved
 loop-x-preserved c =
     let inv = c.loop-x.invariant in

@@ -2,7 +2,7 @@ use Rattle.std.proofs.Common.{◌≡◌, ◌+◌, ◌-◌, length, refl, ◌∙�
 use Rattle.mathematics.proofs.Signed.{back8}
 use Rattle.complex.specs.Complex.{complex_of}
 use Rattle.loops.specs.Loops.{path}
-use Rattle.loops.proofs.Climbs.{between, first_edge, first_climbs, second_edge, second_climbs, path_met}
+use Rattle.loops.proofs.Climbs.{between, first_climbs, second_climbs, path_met}
 use Rattle.loops.proofs.Filling.{none_filled, front_filled, back_filled, all_filled}
 use Rattle.loops.proofs.climbing.RootedTree.write_path.Goals as goal
 
@@ -16,12 +16,6 @@ loop-x-init c =
     }
 
 -- ---- the first was found later
-pub direction-requires : goal.direction-requires
-direction-requires c = first_edge c.args.self.now.parented c.loop-x.invariant.between c.loop-x-test.true c.if-place-y.true c.from.ensures
-
-pub across-x-requires : goal.across-x-requires
-across-x-requires c = first_edge c.args.self.now.parented c.loop-x.invariant.between c.loop-x-test.true c.if-place-y.true c.from-then-place-y.ensures
-
 pub loop-x-preserved-then-place-y : goal.loop-x-preserved-then-place-y
 loop-x-preserved-then-place-y c =
     let inv = c.loop-x.invariant in
@@ -35,12 +29,6 @@ loop-x-preserved-then-place-y c =
     }
 
 -- ---- the second was
-pub across-y-requires : goal.across-y-requires
-across-y-requires c = second_edge c.args.self.now.parented c.loop-x.invariant.between c.loop-x-test.true c.if-place-y.false c.from-else-place-y.ensures
-
-pub direction-requires-else-place-y : goal.direction-requires-else-place-y
-direction-requires-else-place-y c = second_edge c.args.self.now.parented c.loop-x.invariant.between c.loop-x-test.true c.if-place-y.false c.from-else-place-y-2.ensures
-
 pub loop-x-preserved : goal.loop-x-preserved
 loop-x-preserved c =
     let inv = c.loop-x.invariant in
