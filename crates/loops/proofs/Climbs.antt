@@ -12,10 +12,11 @@ use Rattle.mathematics.specs.Lists.{listed}
 use Rattle.mathematics.proofs.Lists.{listed_at, numbers_equal}
 use Rattle.complex.specs.declared.SimplicialComplex.{SimplicialComplex}
 use Rattle.complex.specs.Complex.{Simplex, Complex, complex_of, entries}
-use Rattle.complex.specs.Search.{Search, whole_search, across, SpansReached}
+use Rattle.complex.specs.Search.{Search, whole_search, across}
 use Rattle.complex.specs.Judge.{Accepted}
 use Rattle.complex.proofs.Accepting.{accepted}
 use Rattle.complex.proofs.Simplices.{simplex_at, start_at}
+use Rattle.gauss_law.specs.Listing.{tree_edges}
 use Rattle.gauss_law.proofs.Accepted.{accepted_spans}
 use Rattle.gauss_law.proofs.Spanned.{edges_long}
 use Rattle.loops.specs.declared.climbing.TreeParents.{TreeParents}
@@ -24,8 +25,7 @@ use Rattle.loops.specs.Walks.{Step, Walk, stay, onward}
 use Rattle.loops.specs.Loops.{parents, path}
 use Rattle.loops.specs.Climbing.{Parented}
 use Rattle.loops.proofs.TreePaths.{tree_path_met, later_climbs, later_reached}
-use Rattle.loops.proofs.SearchParents.{search_parents, search_together}
-use Rattle.loops.proofs.AcceptedLoops.{accepted_seen, accepted_path, path_few}
+use Rattle.loops.proofs.AcceptedLoops.{accepted_seen, accepted_parents, accepted_together, accepted_path, tree_below, path_few}
 
 -- what the code reads: the edge that led to v, the vertex across an edge from v, and the step over an edge from v
 abbrev pub led_by : TreeParents → ℕ → ℕ
@@ -79,15 +79,11 @@ module _ {c : SimplicialComplex} {r : TreeParents} (h : Parented c r) where
   abbrev found : Search
   found = whole_search (complex_of c).edges (complex_of c).vertices
 
-  spans : SpansReached es K.vertices found
-  spans = accepted_spans K good
-
   abbrev Seen : ℕ → Type 0
   Seen v = listed eqb v found.seen ≡ true
 
   kin : ParentsOf es found.seen found.tree p
-  unfolding parents
-  kin = search_parents es K.vertices found spans
+  kin = accepted_parents K good
 
   seen : (v : ℕ) → v < c.n_vertices → Seen v
   unfolding complex_of
@@ -95,11 +91,10 @@ module _ {c : SimplicialComplex} {r : TreeParents} (h : Parented c r) where
 
   inside : (v : ℕ) → Seen v → v < c.n_vertices
   unfolding complex_of
-  inside v s = let i = listed_at eqb numbers_equal 0 v found.seen s in rw i.2 at (spans.below i.0 i.1)
-
-  together : (a b : ℕ) → Seen a → Seen b → Together es p a b
-  unfolding parents
-  together a b sa sb = search_together es K.vertices found spans a b sa sb
+  inside v s =
+      let spans = accepted_spans K good in
+      let i = listed_at eqb numbers_equal 0 v found.seen s in
+      rw i.2 at (spans.below i.0 i.1)
 
   pub edges_few : c.n_edges ≤ 63
   edges_few = let few = good.few_edges in omega (arith, edges_long c)
@@ -118,10 +113,8 @@ module _ {c : SimplicialComplex} {r : TreeParents} (h : Parented c r) where
     led_is = h.edges v (inside v s) n
 
     edge_few : led_by r v < c.n_edges
-    edge_few =
-        let i = kin.edge v s n in
-        let k = spans.numbered i.0 i.1 in
-        rw led_is (rw (i.2, edges_long c) at k)
+    unfolding tree_edges
+    edge_few = rw led_is (rw (edges_long c) at (tree_below K good (p.edge v) (kin.edge v s n)))
 
     -- the vertex across e, the edge that led to v
     up_is : {e u : ℕ} → e ≡ led_by r v → u ≡ across_read c e v → u ≡ parent es p v
@@ -138,20 +131,14 @@ module _ {c : SimplicialComplex} {r : TreeParents} (h : Parented c r) where
 
   -- ---- a turn
   module _ {a b : ℕ} (la : a < c.n_vertices) (lb : b < c.n_vertices) (apart : a ≢ b) where
-    sa : Seen a
-    sa = seen a la
-
-    sb : Seen b
-    sb = seen b lb
-
     first_later : get_or r.place b 0 < get_or r.place a 0 → (p.root a ≡ false) × Together es p (parent es p a) b × (path K a b ≡ step_from es (p.edge a) a ∷ path K (parent es p a) b)
-    unfolding path
-    first_later l = later_climbs es found.seen found.tree p kin a b sa sb (together a b sa sb) apart (rw (h.places a la, h.places b lb) at l)
+    unfolding path complex_of
+    first_later l = later_climbs es found.seen found.tree p kin a b (seen a la) (seen b lb) (accepted_together K good a b la lb) apart (rw (h.places a la, h.places b lb) at l)
 
     second_later : get_or r.place a 0 ≤ get_or r.place b 0
         → (p.root b ≡ false) × Together es p a (parent es p b) × (path K a b ≡ path K a (parent es p b) ++ (step_from es (p.edge b) (parent es p b) ∷ []))
-    unfolding path
-    second_later l = later_reached es found.seen found.tree p kin a b sa sb (together a b sa sb) apart (rw (h.places a la, h.places b lb) at l)
+    unfolding path complex_of
+    second_later l = later_reached es found.seen found.tree p kin a b (seen a la) (seen b lb) (accepted_together K good a b la lb) apart (rw (h.places a la, h.places b lb) at l)
 
   pub between : {a b : ℕ} → a < c.n_vertices → b < c.n_vertices → Between c r a b
   unfolding complex_of
@@ -163,8 +150,8 @@ module _ {c : SimplicialComplex} {r : TreeParents} (h : Parented c r) where
         few = good.few_vertices;
         none = λ q. ap length (path_met q);
         some = λ apart. walk_some (accepted_path K good a b la lb).walk apart;
-        first_led = λ apart l. let k = edge_few a (sa la lb apart) (first_later la lb apart l).0 in omega arith;
-        second_led = λ apart l. let k = edge_few b (sb la lb apart) (second_later la lb apart l).0 in omega arith;
+        first_led = λ apart l. let k = edge_few a (seen a la) (first_later la lb apart l).0 in omega arith;
+        second_led = λ apart l. let k = edge_few b (seen b lb) (second_later la lb apart l).0 in omega arith;
       }
 
   -- the code reads the edge e that led to the one found later, and the vertex u across it
