@@ -20,7 +20,7 @@ use Rattle.gauss_law.specs.Listing.{tree_edges}
 use Rattle.gauss_law.proofs.Accepted.{accepted_spans}
 use Rattle.gauss_law.proofs.Spanned.{edges_long}
 use Rattle.loops.specs.declared.climbing.TreeParents.{TreeParents}
-use Rattle.loops.specs.Parents.{Parents, ParentsOf, parent, Together, step_from}
+use Rattle.loops.specs.Parents.{Parents, ParentsOf, parent, step_from}
 use Rattle.loops.specs.Walks.{Step, Walk, stay, onward}
 use Rattle.loops.specs.Loops.{parents, path}
 use Rattle.loops.specs.Climbing.{Parented}
@@ -131,12 +131,12 @@ module _ {c : SimplicialComplex} {r : TreeParents} (h : Parented c r) where
 
   -- ---- a turn
   module _ {a b : ℕ} (la : a < c.n_vertices) (lb : b < c.n_vertices) (apart : a ≢ b) where
-    first_later : get_or r.place b 0 < get_or r.place a 0 → (p.root a ≡ false) × Together es p (parent es p a) b × (path K a b ≡ step_from es (p.edge a) a ∷ path K (parent es p a) b)
+    first_later : get_or r.place b 0 < get_or r.place a 0 → (p.root a ≡ false) × (path K a b ≡ step_from es (p.edge a) a ∷ path K (parent es p a) b)
     unfolding path complex_of
     first_later l = later_climbs es found.seen found.tree p kin a b (seen a la) (seen b lb) (accepted_together K good a b la lb) apart (rw (h.places a la, h.places b lb) at l)
 
     second_later : get_or r.place a 0 ≤ get_or r.place b 0
-        → (p.root b ≡ false) × Together es p a (parent es p b) × (path K a b ≡ path K a (parent es p b) ++ (step_from es (p.edge b) (parent es p b) ∷ []))
+        → (p.root b ≡ false) × (path K a b ≡ path K a (parent es p b) ++ (step_from es (p.edge b) (parent es p b) ∷ []))
     unfolding path complex_of
     second_later l = later_reached es found.seen found.tree p kin a b (seen a la) (seen b lb) (accepted_together K good a b la lb) apart (rw (h.places a la, h.places b lb) at l)
 
@@ -161,7 +161,7 @@ module _ {c : SimplicialComplex} {r : TreeParents} (h : Parented c r) where
         let later = first_later t.first t.second apart l in
         let s = seen a t.first in
         let up = up_is a s later.0 led to in
-        let step : path K a b ≡ step_read c (led_by r a) a ∷ path K u b = rw (up, ← (step_is a s later.0 a)) later.2 in
+        let step : path K a b ≡ step_read c (led_by r a) a ∷ path K u b = rw (up, ← (step_is a s later.0 a)) later.1 in
         record { between = between (rw up (up_inside a s later.0)) t.second; path_is = step; shorter = ap length step }
 
     pub second_climbs : get_or r.place a 0 ≤ get_or r.place b 0 → e ≡ led_by r b → u ≡ across_read c e b → SecondClimbs c r a b u
@@ -169,6 +169,6 @@ module _ {c : SimplicialComplex} {r : TreeParents} (h : Parented c r) where
         let later = second_later t.first t.second apart l in
         let s = seen b t.second in
         let up = up_is b s later.0 led to in
-        let step : path K a b ≡ path K a u ++ (step_read c (led_by r b) u ∷ []) = rw (up, ← (step_is b s later.0 (parent es p b))) later.2 in
+        let step : path K a b ≡ path K a u ++ (step_read c (led_by r b) u ∷ []) = rw (up, ← (step_is b s later.0 (parent es p b))) later.1 in
         let long = length-append (path K a u) (step_read c (led_by r b) u ∷ []) in
         record { between = between t.first (rw up (up_inside b s later.0)); path_is = step; shorter = ap length step ∙ (omega arith) }

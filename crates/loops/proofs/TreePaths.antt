@@ -231,32 +231,25 @@ module _ (es : List Simplex) (seen tree : List ℕ) (p : Parents) (good : Parent
 
   module _ (a b : ℕ) (sa : Seen a) (sb : Seen b) (t : Together es p a b) (apart : a ≢ b) where
     -- a was found later
-    pub later_climbs : p.place b < p.place a
-        → (p.root a ≡ false) × Together es p (parent es p a) b × (tree_path es p a b ≡ step_from es (p.edge a) a ∷ tree_path es p (parent es p a) b)
+    pub later_climbs : p.place b < p.place a → (p.root a ≡ false) × (tree_path es p a b ≡ step_from es (p.edge a) a ∷ tree_path es p (parent es p a) b)
     later_climbs l =
         let u = later_under b sb l t.2 t.1 in
         let low = good.earlier a sa u.0 in
-        let k = p.place a + p.place b in
-        let together : Together es p (parent es p a) b = (t.0, u.1, t.2) in (
+        let k = p.place a + p.place b in (
           u.0,
-          together,
           sym (enough (suc k) a b (omega arith) sa sb t)
               ∙ climb_up es p k a b apart l
-              ∙ ap (λ m. step_from es (p.edge a) a ∷ m) (enough k (parent es p a) b (omega arith) (good.parent_seen a sa u.0) sb together),
+              ∙ ap (λ m. step_from es (p.edge a) a ∷ m) (enough k (parent es p a) b (omega arith) (good.parent_seen a sa u.0) sb (t.0, u.1, t.2)),
         )
 
     -- b was found later
-    pub later_reached : p.place a ≤ p.place b
-        → (p.root b ≡ false) × Together es p a (parent es p b) × (tree_path es p a b ≡ tree_path es p a (parent es p b) ++ (step_from es (p.edge b) (parent es p b) ∷ []))
+    pub later_reached : p.place a ≤ p.place b → (p.root b ≡ false) × (tree_path es p a b ≡ tree_path es p a (parent es p b) ++ (step_from es (p.edge b) (parent es p b) ∷ []))
     later_reached l =
-        let l' = lower_place sa sb apart l in
-        let u = later_under a sa l' t.1 t.2 in
+        let u = later_under a sa (lower_place sa sb apart l) t.1 t.2 in
         let low = good.earlier b sb u.0 in
-        let k = p.place a + p.place b in
-        let together : Together es p a (parent es p b) = (t.0, t.1, u.1) in (
+        let k = p.place a + p.place b in (
           u.0,
-          together,
           sym (enough (suc k) a b (omega arith) sa sb t)
               ∙ climb_down es p k a b apart l
-              ∙ ap (λ m. m ++ (step_from es (p.edge b) (parent es p b) ∷ [])) (enough k a (parent es p b) (omega arith) sa (good.parent_seen b sb u.0) together),
+              ∙ ap (λ m. m ++ (step_from es (p.edge b) (parent es p b) ∷ [])) (enough k a (parent es p b) (omega arith) sa (good.parent_seen b sb u.0) (t.0, t.1, u.1)),
         )
