@@ -1,13 +1,13 @@
 -- The free edges of a record and their ends as the code reads them, and how long their loops are.
 use Prim.Native.Nat.{ℕ, ◌+◌, ◌*◌, ◌<◌, ◌≤◌}
-use mathlib.Core.List.{List, [], ◌∷◌, ◌++◌, map, map-append}
+use mathlib.Core.List.{List, [], ◌∷◌, ◌++◌, map}
 use mathlib.Core.Path.{◌≡◌, sym, ap, ◌∙◌}
 use native.Mathlib.Omega.{arith}
 use lib.IntN.{negsuc}
 use lib.ListN.{get_or, set, length, length-append, length-map}
 use Rattle.mathematics.specs.Writing.{put}
 use Rattle.mathematics.proofs.Ordered.{each_at}
-use Rattle.mathematics.proofs.Puts.{put_one, put_more, put_length}
+use Rattle.mathematics.proofs.Puts.{put_one, put_length}
 use Rattle.complex.specs.declared.SimplicialComplex.{SimplicialComplex}
 use Rattle.complex.specs.Complex.{Complex, complex_of}
 use Rattle.complex.proofs.Simplices.{start_at, end_at}
@@ -21,7 +21,7 @@ use Rattle.loops.specs.Loops.{path, first_end, second_end, loop_of, loop_steps}
 use Rattle.loops.specs.Climbing.{Parented}
 use Rattle.loops.proofs.AcceptedLoops.{steps_most}
 use Rattle.loops.proofs.Climbs.{good}
-use Rattle.loops.proofs.LoopLists.{NextFree}
+use Rattle.loops.proofs.LoopLists.{NextFree, put_behind}
 
 -- edge f has the ends a and b in a record
 pub record EndsRead (c : SimplicialComplex) (f a b : ℕ) : Type 0 where
@@ -74,14 +74,7 @@ module _ {c : SimplicialComplex} {r : TreeParents} (h : Parented c r) where
 
       pub loop_put : set mid last x ≡ put out at (map g (loop_of K f))
       loop_put =
-          let p = map g (path K a b) in
-          let k : last ≡ at + length p = rw (length-map (path K a b) g) next in
-          put_one mid last x last_room
-          ∙ ap (λ l. put l last (x ∷ [])) put_path
-          ∙ ap (λ n. put (put out at p) n (x ∷ [])) k
-          ∙ put_more out at p (x ∷ []) fits
-          ∙ ap (λ y. put out at (p ++ (y ∷ []))) own
-          ∙ ap (put out at) (sym (ap (map g) loop_is ∙ map-append g (path K a b) ((f, negsuc 0) ∷ [])))
+          put_behind g (path K a b) ((f, negsuc 0) ∷ []) out at loop_is (omega (arith, loop_long)) put_path next (rw own (put_one mid last (g (f, negsuc 0)) last_room))
 
   -- ---- the free edges
   -- the steps of the first j loops
