@@ -1,7 +1,7 @@
 -- The free edges of a record and their ends as the code reads them, and how long their loops are.
 use Prim.Native.Nat.{ℕ, ◌+◌, ◌*◌, ◌<◌, ◌≤◌}
 use mathlib.Core.List.{List, [], ◌∷◌, ◌++◌, map}
-use mathlib.Core.Path.{◌≡◌, sym, ap, ◌∙◌}
+use mathlib.Core.Path.{◌≡◌, refl, sym, ap, ◌∙◌}
 use native.Mathlib.Omega.{arith}
 use lib.IntN.{negsuc}
 use lib.ListN.{get_or, set, length, length-append, length-map}
@@ -17,11 +17,11 @@ use Rattle.gauss_law.proofs.Free.{free_below}
 use Rattle.gauss_law.proofs.Spanned.{edges_long}
 use Rattle.loops.specs.declared.climbing.TreeParents.{TreeParents}
 use Rattle.loops.specs.Walks.{Step}
-use Rattle.loops.specs.Loops.{path, first_end, second_end, loop_of, loop_steps}
+use Rattle.loops.specs.Loops.{path, first_end, second_end, loop_of, loop_steps, all_steps}
 use Rattle.loops.specs.Climbing.{Parented}
 use Rattle.loops.proofs.AcceptedLoops.{steps_most}
 use Rattle.loops.proofs.Climbs.{good}
-use Rattle.loops.proofs.LoopLists.{NextFree, put_behind}
+use Rattle.loops.proofs.LoopLists.{NextFree, no_steps, steps_count, steps_long, put_behind}
 
 -- edge f has the ends a and b in a record
 pub record EndsRead (c : SimplicialComplex) (f a b : ℕ) : Type 0 where
@@ -31,6 +31,15 @@ pub record EndsRead (c : SimplicialComplex) (f a b : ℕ) : Type 0 where
 
 pub ends_read : {c : SimplicialComplex} {f a b : ℕ} → f < c.n_edges → a ≡ get_or c.edges (2 * f) 0 → b ≡ get_or c.edges (2 * f + 1) 0 → EndsRead c f a b
 ends_read inside first second = record { inside = inside; first = first; second = second }
+
+-- What a loop over a list of the free edges knows of it: its entries are edges, and the steps of their loops come one loop after the other.
+pub record Listed (c : SimplicialComplex) (items : List ℕ) : Type 0 where
+  pub same : items ≡ free_edges (complex_of c)
+  pub inside : (j : ℕ) → j < length items → get_or items j 0 < c.n_edges
+  pub none : length (loop_steps (complex_of c) 0) ≡ 0
+  pub next : (j : ℕ) → j < length items → length (loop_steps (complex_of c) (j + 1)) ≡ length (loop_steps (complex_of c) j) + length (loop_of (complex_of c) (get_or items j 0))
+  pub room : (j : ℕ) → j < length items → length (loop_steps (complex_of c) j) + length (loop_of (complex_of c) (get_or items j 0)) ≤ length (all_steps (complex_of c))
+  pub few : (j : ℕ) → j ≤ length items → length (loop_steps (complex_of c) j) ≤ 3969
 
 -- e is the entry j of a list of the free edges
 pub next_free : {K : Complex} {items : List ℕ} {j e : ℕ} → items ≡ free_edges K → j < length items → e ≡ get_or items j 0 → NextFree K j e
@@ -77,9 +86,14 @@ module _ {c : SimplicialComplex} {r : TreeParents} (h : Parented c r) where
           put_behind g (path K a b) ((f, negsuc 0) ∷ []) out at loop_is (omega (arith, loop_long)) put_path next (rw own (put_one mid last (g (f, negsuc 0)) last_room))
 
   -- ---- the free edges
-  -- the steps of the first j loops
-  pub steps_fit : {j : ℕ} → j ≤ length (free_edges K) → length (loop_steps K j) ≤ 3969
-  steps_fit {j} l = steps_most K (good h) j l
-
-  pub edge_inside : {j e : ℕ} → NextFree K j e → e < c.n_edges
-  edge_inside {j} n = let i = each_at 0 (free_below K) j n.more in rw n.is (omega (arith, edges_long c))
+  pub listed : {items : List ℕ} → items ≡ free_edges K → Listed c items
+  listed {items} same =
+      let many = ap length same in
+      record {
+        same = same;
+        inside = λ j l. rw same (let i = each_at 0 (free_below K) j (rw same at l) in omega (arith, edges_long c));
+        none = ap length (no_steps K);
+        next = λ j l. steps_count (next_free same l refl);
+        room = λ j l. rw (← steps_count (next_free same l refl)) (steps_long K (j + 1) (length (free_edges K)) (omega arith));
+        few = λ j l. steps_most K (good h) j (omega arith);
+      }
