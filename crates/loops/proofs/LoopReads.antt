@@ -23,14 +23,26 @@ use Rattle.loops.proofs.AcceptedLoops.{steps_most}
 use Rattle.loops.proofs.Climbs.{good}
 use Rattle.loops.proofs.LoopLists.{NextFree, no_steps, steps_count, steps_long, put_behind}
 
--- edge f has the ends a and b in a record
-pub record EndsRead (c : SimplicialComplex) (f a b : ℕ) : Type 0 where
-  pub inside : f < c.n_edges
-  pub first : a ≡ get_or c.edges (2 * f) 0
-  pub second : b ≡ get_or c.edges (2 * f + 1) 0
+-- a and b are the ends of edge f, and its loop is the path from a to b and then the edge back
+pub record Ends (c : SimplicialComplex) (f a b : ℕ) : Type 0 where
+  pub first : a < c.n_vertices
+  pub second : b < c.n_vertices
+  pub is : loop_of (complex_of c) f ≡ path (complex_of c) a b ++ ((f, negsuc 0) ∷ [])
+  pub long : length (loop_of (complex_of c) f) ≡ length (path (complex_of c) a b) + 1
 
-pub ends_read : {c : SimplicialComplex} {f a b : ℕ} → f < c.n_edges → a ≡ get_or c.edges (2 * f) 0 → b ≡ get_or c.edges (2 * f + 1) 0 → EndsRead c f a b
-ends_read inside first second = record { inside = inside; first = first; second = second }
+-- the path and then the edge back are written to a list; x is g of that step
+module _ {c : SimplicialComplex} {f a b : ℕ} (e : Ends c f a b) {A : Type 0} (g : Step → A) {x : A} (own : x ≡ g (f, negsuc 0)) (at : ℕ) (out : List A) {last : ℕ} {mid : List A}
+    (next : last ≡ at + length (path (complex_of c) a b)) (put_path : mid ≡ put out at (map g (path (complex_of c) a b))) (room : at + length (loop_of (complex_of c) f) ≤ length out) where
+  pub last_room : last < length mid
+  last_room =
+      let p = path (complex_of c) a b in
+      let fits : at + length (map g p) ≤ length out = rw (length-map p g) (omega (arith, e.long)) in
+      let long = ap length put_path ∙ put_length out at (map g p) fits in
+      omega (arith, e.long)
+
+  pub loop_put : set mid last x ≡ put out at (map g (loop_of (complex_of c) f))
+  loop_put =
+      put_behind g (path (complex_of c) a b) ((f, negsuc 0) ∷ []) out at e.is (omega (arith, e.long)) put_path next (rw own (put_one mid last (g (f, negsuc 0)) last_room))
 
 -- What a loop over a list of the free edges knows of it: its entries are edges, and the steps of their loops come one loop after the other.
 pub record Listed (c : SimplicialComplex) (items : List ℕ) : Type 0 where
@@ -49,41 +61,14 @@ module _ {c : SimplicialComplex} {r : TreeParents} (h : Parented c r) where
   abbrev K : Complex
   K = complex_of c
 
-  -- ---- the loop of edge f
-  module _ {f a b : ℕ} (e : EndsRead c f a b) where
-    first_is : a ≡ first_end K f
-    unfolding complex_of
-    first_is = e.first ∙ sym (start_at c.edges c.n_edges f e.inside)
-
-    second_is : b ≡ second_end K f
-    unfolding complex_of
-    second_is = e.second ∙ sym (end_at c.edges c.n_edges f e.inside)
-
-    pub ends_inside : (a < c.n_vertices) × (b < c.n_vertices)
-    unfolding complex_of
-    ends_inside = let k = accepted_ends K (good h) f (rw (edges_long c) e.inside) in rw (first_is, second_is) (omega (arith, k.0, k.1), k.1)
-
-    loop_is : loop_of K f ≡ path K a b ++ ((f, negsuc 0) ∷ [])
-    unfolding loop_of
-    loop_is = rw (← first_is, ← second_is)
-
-    pub loop_long : length (loop_of K f) ≡ length (path K a b) + 1
-    loop_long = ap length loop_is ∙ length-append (path K a b) ((f, negsuc 0) ∷ [])
-
-    -- the path and then the edge back are written to a list; x is g of that step
-    module _ {A : Type 0} (g : Step → A) {x : A} (own : x ≡ g (f, negsuc 0)) (at : ℕ) (out : List A) {last : ℕ} {mid : List A}
-        (next : last ≡ at + length (path K a b)) (put_path : mid ≡ put out at (map g (path K a b))) (room : at + length (loop_of K f) ≤ length out) where
-      fits : at + length (map g (path K a b)) ≤ length out
-      fits = rw (length-map (path K a b) g) (omega (arith, loop_long))
-
-      pub last_room : last < length mid
-      last_room =
-          let long : length mid ≡ length out = ap length put_path ∙ put_length out at (map g (path K a b)) fits in
-          omega (arith, loop_long)
-
-      pub loop_put : set mid last x ≡ put out at (map g (loop_of K f))
-      loop_put =
-          put_behind g (path K a b) ((f, negsuc 0) ∷ []) out at loop_is (omega (arith, loop_long)) put_path next (rw own (put_one mid last (g (f, negsuc 0)) last_room))
+  pub ends : {f a b : ℕ} → f < c.n_edges → a ≡ get_or c.edges (2 * f) 0 → b ≡ get_or c.edges (2 * f + 1) 0 → Ends c f a b
+  unfolding complex_of loop_of
+  ends {f} {a} {b} inside first second =
+      let first_is : a ≡ first_end K f = first ∙ sym (start_at c.edges c.n_edges f inside) in
+      let second_is : b ≡ second_end K f = second ∙ sym (end_at c.edges c.n_edges f inside) in
+      let k = accepted_ends K (good h) f (rw (edges_long c) inside) in
+      let is : loop_of K f ≡ path K a b ++ ((f, negsuc 0) ∷ []) = rw (first_is, second_is) in
+      record { first = rw first_is (omega (arith, k.0, k.1)); second = rw second_is k.1; is = is; long = ap length is ∙ length-append (path K a b) ((f, negsuc 0) ∷ []) }
 
   -- ---- the free edges
   pub listed : {items : List ℕ} → items ≡ free_edges K → Listed c items
