@@ -16,6 +16,7 @@ use Rattle.mathematics.proofs.Tests.{and_parts, and_both, same_tests}
 use Rattle.mathematics.proofs.Maps.{keep_map}
 use Rattle.mathematics.proofs.Integers.{positive, negative, parts, parts_size, one_part, the, ◌⊞◌, ◌⊟◌, ⊖◌, test_less, test_not_less, times_one, times_minus_one, minus_one_times}
 use Rattle.cycles.specs.Cycles.{with_cycle}
+use Rattle.walker.specs.Steps.{Small}
 use Rattle.walker.specs.Walker.{excess, entry_start, entry_stop, first_within, end_within, block_rows, block}
 use Rattle.cycles.proofs.Adding.{added_length, added_at}
 use Rattle.mathematics.proofs.Below.{keep_between}
@@ -31,22 +32,25 @@ excess_parts a b = go (lt_z b a) refl
 
 -- ---- one entry
 module _ (L n d : ℕ) where
+  -- in natural numbers
+  sum_size : (y : ℤ) → nat_abs (y +ℤ pos d) ≡ (positive y + d - negative y) + (negative y - (positive y + d))
+  unfolding positive negative
+  sum_size y = omega (arith, parts_size (y +ℤ pos d), one_part (y +ℤ pos d), parts (the y ⊞ the (pos d)))
+
+  below_size : (y : ℤ) → excess (neg_ℤ (pos L)) y ≡ negative y - (positive y + L)
+  unfolding positive negative
+  below_size y = omega (arith, excess_parts (neg_ℤ (pos L)) y, parts (⊖ the (pos L)), one_part (neg_ℤ (pos L)))
+
+  above_size : (y : ℤ) → excess (pos (suc L)) y ≡ suc L + negative y - positive y
+  unfolding positive negative
+  above_size y = omega (arith, excess_parts (pos (suc L)) y)
+
   -- d more than y
   sum_inside : (y : ℤ) → nat_abs (y +ℤ pos d) ≤ L → (excess (neg_ℤ (pos L)) y ≤ d) × (d < excess (pos (suc L)) y)
-  unfolding positive negative
-  sum_inside y r =
-      let size = parts_size (y +ℤ pos d) in
-      let one = one_part (y +ℤ pos d) in
-      let sum = parts (the y ⊞ the (pos d)) in
-      (omega (arith, excess_parts (neg_ℤ (pos L)) y, parts (⊖ the (pos L)), one_part (neg_ℤ (pos L))), omega (arith, excess_parts (pos (suc L)) y))
+  sum_inside y r = (omega (arith, sum_size y, below_size y), omega (arith, sum_size y, above_size y))
 
   inside_sum : (y : ℤ) → excess (neg_ℤ (pos L)) y ≤ d → d < excess (pos (suc L)) y → nat_abs (y +ℤ pos d) ≤ L
-  unfolding positive negative
-  inside_sum y a b =
-      let size = parts_size (y +ℤ pos d) in
-      let one = one_part (y +ℤ pos d) in
-      let sum = parts (the y ⊞ the (pos d)) in
-      omega (arith, excess_parts (neg_ℤ (pos L)) y, parts (⊖ the (pos L)), one_part (neg_ℤ (pos L)), excess_parts (pos (suc L)) y)
+  inside_sum y a b = omega (arith, sum_size y, below_size y, above_size y)
 
   -- the sign goes over to the entry
   plus_size : (x : ℤ) → nat_abs (x +ℤ pos d *ℤ pos 1) ≡ nat_abs (pos 1 *ℤ x +ℤ pos d)
@@ -88,7 +92,7 @@ unfolding end_within
 stop_bound L n s z zero = omega arith
 stop_bound L n s z (suc m) = omega (arith, stop_bound L n s z m)
 
-module _ (L n : ℕ) (s z : List ℤ) (signs : (e : ℕ) → nat_abs (get_or z e (pos 0)) ≤ 1) where
+module _ (L n : ℕ) (s z : List ℤ) (signs : Small 1 z) where
   abbrev pub moves : ℕ → ℕ → ℤ
   moves d e = get_or s e (pos 0) +ℤ pos d *ℤ get_or z e (pos 0)
 
