@@ -83,15 +83,15 @@ module _ (c : Complex) (accepted : Accepted c) where
   listed_edge : (e : ℕ) → e < length c.edges → In 0 e (below (length c.edges))
   listed_edge e h = (e, rw (length_below (length c.edges)) h, below_at (length c.edges) e 0 h)
 
+  pub ends_below : (f : ℕ) → f < length c.edges → (first_end c f < c.vertices) × (second_end c f < c.vertices)
+  ends_below f inside = let e = accepted_ends c accepted f inside in (omega (arith, e.0, e.1), e.1)
+
   module _ (f : ℕ) (free : Member f (free_edges c)) where
     inside : f < length c.edges
     inside = each_member (free_below c) free
 
-    pub ends_below : (first_end c f < c.vertices) × (second_end c f < c.vertices)
-    ends_below = let e = accepted_ends c accepted f inside in (omega (arith, e.0, e.1), e.1)
-
     loop_path : IsPath c.edges (tree_edges c) (first_end c f) (second_end c f) (path c (first_end c f) (second_end c f))
-    loop_path = accepted_path (first_end c f) (second_end c f) ends_below.0 ends_below.1
+    loop_path = let e = ends_below f inside in accepted_path (first_end c f) (second_end c f) e.0 e.1
 
     -- no tree edge is free
     pub tree_not_free : (e : ℕ) → In 0 e (tree_edges c) → e ≢ f

@@ -12,14 +12,13 @@ use Rattle.complex.specs.declared.SimplicialComplex.{SimplicialComplex}
 use Rattle.complex.specs.Complex.{Complex, complex_of}
 use Rattle.complex.proofs.Simplices.{start_at, end_at}
 use Rattle.gauss_law.specs.Listing.{free_edges}
-use Rattle.gauss_law.proofs.Accepted.{accepted_ends}
 use Rattle.gauss_law.proofs.Free.{free_below}
 use Rattle.gauss_law.proofs.Spanned.{edges_long}
 use Rattle.loops.specs.declared.climbing.TreeParents.{TreeParents}
 use Rattle.loops.specs.Walks.{Step}
 use Rattle.loops.specs.Loops.{path, first_end, second_end, loop_of, loop_steps, all_steps}
 use Rattle.loops.specs.Climbing.{Parented}
-use Rattle.loops.proofs.AcceptedLoops.{steps_most}
+use Rattle.loops.proofs.AcceptedLoops.{ends_below, steps_most}
 use Rattle.loops.proofs.Climbs.{good}
 use Rattle.loops.proofs.LoopLists.{NextFree, no_steps, steps_count, steps_long, put_behind}
 
@@ -66,9 +65,9 @@ module _ {c : SimplicialComplex} {r : TreeParents} (h : Parented c r) where
   ends {f} {a} {b} inside first second =
       let first_is : a ≡ first_end K f = first ∙ sym (start_at c.edges c.n_edges f inside) in
       let second_is : b ≡ second_end K f = second ∙ sym (end_at c.edges c.n_edges f inside) in
-      let k = accepted_ends K (good h) f (rw (edges_long c) inside) in
+      let e = ends_below K (good h) f (rw (edges_long c) inside) in
       let is : loop_of K f ≡ path K a b ++ ((f, negsuc 0) ∷ []) = rw (first_is, second_is) in
-      record { first = rw first_is (omega (arith, k.0, k.1)); second = rw second_is k.1; is = is; long = ap length is ∙ length-append (path K a b) ((f, negsuc 0) ∷ []) }
+      record { first = rw first_is e.0; second = rw second_is e.1; is = is; long = ap length is ∙ length-append (path K a b) ((f, negsuc 0) ∷ []) }
 
   -- ---- the free edges
   pub listed : {items : List ℕ} → items ≡ free_edges K → Listed c items
