@@ -35,7 +35,7 @@ module _ (m n L : ℕ) (cycles : List ℤ) (fit : CyclesFit m n L cycles) where
       go (yes l) = rw (row_at m fit.edges_few cycles j e l) (fit.signs (63 * j + e))
       go (no l) = rw (get_or-eq_default (row m cycles j) (pos 0) {n = e} (omega (arith, cycle_long j h))) (omega arith)
 
--- ---- turns of a loop, each of which takes a cycle away at most 2000 times
+-- ---- turns of a loop, each of which takes a cycle away at most 2 L times
 -- the values after j turns
 pub record Turned (m j : ℕ) (s : List ℤ) : Type 0 where
   pub sized : length s ≡ m
@@ -59,7 +59,7 @@ module _ {m n L j : ℕ} {cycles s : List ℤ} (fit : CyclesFit m n L cycles) (h
       (sym (ap₂ lt_z (small_back (get_or s i (pos 0)) (omega (arith, h.small i, inside))) (to_z_pos w32 L (omega (arith, fit.truncation)))) ∙ test)
 
   -- one turn more: the j-th cycle is added -K times, r in the code
-  module _ {K : ℕ} {r : ℤ} (is : r ≡ neg_ℤ (pos K)) (few : K ≤ 2000) where
+  module _ {K : ℕ} {r : ℤ} (is : r ≡ neg_ℤ (pos K)) (few : K ≤ 2 * L) where
     abbrev z : List ℤ
     z = row m cycles j
 
@@ -70,7 +70,7 @@ module _ {m n L j : ℕ} {cycles s : List ℤ} (fit : CyclesFit m n L cycles) (h
     signs = cycle_signs m n L cycles fit j inside
 
     size : nat_abs (neg_ℤ (pos K)) ≤ 2000
-    size = omega (arith, size_neg (pos K))
+    size = omega (arith, size_neg (pos K), fit.truncation)
 
     back : to_z w32 (of_z w32 r) ≡ neg_ℤ (pos K)
     back = rw is (small_back (neg_ℤ (pos K)) (omega (arith, size)))

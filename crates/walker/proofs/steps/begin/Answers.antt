@@ -8,15 +8,12 @@ unfolding sum_of_cycles
 loop-j-init c = record { turned = record { sized = refl; small = λ e. omega (arith, c.requires.0 e) }; summed = refl }
 
 pub add-requires : goal.add-requires
-add-requires c =
-    let fit = c.requires.1 in
-    turn_may fit (omega arith) c.loop-j.invariant.turned c.negative-low.ensures (omega (arith, fit.truncation))
+add-requires c = turn_may c.requires.1 (omega arith) c.loop-j.invariant.turned c.negative-low.ensures (omega arith)
 
 pub loop-j-preserved : goal.loop-j-preserved
 loop-j-preserved c =
-    let fit = c.requires.1 in
     let inv = c.loop-j.invariant in
-    let made = turn_made fit (omega arith) inv.turned c.negative-low.ensures (omega (arith, fit.truncation)) c.add.ensures in
+    let made = turn_made c.requires.1 (omega arith) inv.turned c.negative-low.ensures (omega arith) c.add.ensures in
     record { turned = made.1; summed = rw (combined_next, ← inv.summed) made.0 }
 
 pub returns : goal.returns
