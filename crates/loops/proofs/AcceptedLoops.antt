@@ -18,11 +18,11 @@ use Rattle.mathematics.proofs.Ordered.{Member, empty, before, each_to, each_at, 
 use Rattle.mathematics.proofs.Tests.{at_all}
 use Rattle.complex.specs.Complex.{Simplex, Complex}
 use Rattle.complex.specs.Judge.{Accepted}
-use Rattle.complex.specs.Search.{whole_search}
+use Rattle.complex.specs.Search.{Search, whole_search}
 use Rattle.gauss_law.specs.Listing.{tree_edges, free_edges}
 use Rattle.gauss_law.proofs.Accepted.{accepted_spans, accepted_ends, free_count}
 use Rattle.gauss_law.proofs.Free.{free_below, free_not_tree}
-use Rattle.loops.specs.Parents.{parents_of}
+use Rattle.loops.specs.Parents.{ParentsOf, Together}
 use Rattle.loops.specs.Walks.{Step, edge_of, Walk, stay, onward, EdgesOnce, IsPath}
 use Rattle.loops.specs.Loops.{parents, path, first_end, second_end, loop_of, fundamental_loops, loop_steps, FundamentalLoop}
 use Rattle.loops.proofs.LoopLists.{steps_few}
@@ -48,19 +48,27 @@ once_few {n} {w} low once =
     rw (length-map w edge_of) at (different_few n edges below (at_distinct eqb numbers_equal 0 edges once))
 
 module _ (c : Complex) (accepted : Accepted c) where
-  pub accepted_seen : (v : ℕ) → v < c.vertices → listed eqb v (whole_search c.edges c.vertices).seen ≡ true
+  abbrev found : Search
+  found = whole_search c.edges c.vertices
+
+  pub accepted_seen : (v : ℕ) → v < c.vertices → listed eqb v found.seen ≡ true
   accepted_seen v h = ((accepted_spans c accepted).reach v).1 (accepted.reached v h)
+
+  -- the search gives parents, and all vertices are of one part
+  pub accepted_parents : ParentsOf c.edges found.seen found.tree (parents c)
+  unfolding parents
+  accepted_parents = search_parents c.edges c.vertices found (accepted_spans c accepted)
+
+  pub accepted_together : (a b : ℕ) → a < c.vertices → b < c.vertices → Together c.edges (parents c) a b
+  unfolding parents
+  accepted_together a b ha hb = search_together c.edges c.vertices found (accepted_spans c accepted) a b (accepted_seen a ha) (accepted_seen b hb)
 
   -- ---- the path between two vertices
   pub accepted_path : (a b : ℕ) → a < c.vertices → b < c.vertices → IsPath c.edges (tree_edges c) a b (path c a b)
-  unfolding path parents tree_edges
-  accepted_path a b ha hb =
-      let s = whole_search c.edges c.vertices in
-      let spans = accepted_spans c accepted in
-      tree_path_is c.edges s.seen s.tree (parents_of s) (search_parents c.edges c.vertices s spans) a b (accepted_seen a ha) (accepted_seen b hb)
-      (search_together c.edges c.vertices s spans a b (accepted_seen a ha) (accepted_seen b hb))
+  unfolding path tree_edges
+  accepted_path a b ha hb = tree_path_is c.edges found.seen found.tree (parents c) accepted_parents a b (accepted_seen a ha) (accepted_seen b hb) (accepted_together a b ha hb)
 
-  tree_below : (e : ℕ) → In 0 e (tree_edges c) → e < length c.edges
+  pub tree_below : (e : ℕ) → In 0 e (tree_edges c) → e < length c.edges
   unfolding tree_edges
   tree_below e (i, l, q) = rw q at ((accepted_spans c accepted).numbered i l)
 
@@ -75,15 +83,15 @@ module _ (c : Complex) (accepted : Accepted c) where
   listed_edge : (e : ℕ) → e < length c.edges → In 0 e (below (length c.edges))
   listed_edge e h = (e, rw (length_below (length c.edges)) h, below_at (length c.edges) e 0 h)
 
+  pub ends_below : (f : ℕ) → f < length c.edges → (first_end c f < c.vertices) × (second_end c f < c.vertices)
+  ends_below f inside = let e = accepted_ends c accepted f inside in (omega (arith, e.0, e.1), e.1)
+
   module _ (f : ℕ) (free : Member f (free_edges c)) where
     inside : f < length c.edges
     inside = each_member (free_below c) free
 
-    pub ends_below : (first_end c f < c.vertices) × (second_end c f < c.vertices)
-    ends_below = let e = accepted_ends c accepted f inside in (omega (arith, e.0, e.1), e.1)
-
     loop_path : IsPath c.edges (tree_edges c) (first_end c f) (second_end c f) (path c (first_end c f) (second_end c f))
-    loop_path = accepted_path (first_end c f) (second_end c f) ends_below.0 ends_below.1
+    loop_path = let e = ends_below f inside in accepted_path (first_end c f) (second_end c f) e.0 e.1
 
     -- no tree edge is free
     pub tree_not_free : (e : ℕ) → In 0 e (tree_edges c) → e ≢ f

@@ -1,7 +1,7 @@
 -- Steps that are written to a list from both ends.
 use Prim.Native.Nat.{ℕ, suc, ◌+◌, ◌<◌, ◌≤◌}
 use mathlib.Core.List.{List, [], ◌∷◌, ◌++◌, map, map-append, append_assoc}
-use mathlib.Core.Path.{◌≡◌, sym, ap, ◌∙◌}
+use mathlib.Core.Path.{◌≡◌, refl, sym, ap, ◌∙◌}
 use native.Mathlib.Omega.{arith}
 use lib.ListN.{length, length-append, length-map, set, length-set, take, drop}
 use lib.Seq.{take-set-le, drop-set-lt, drop-cons, get_or-set_same, append_snoc}
@@ -25,11 +25,14 @@ pub record Filling {A : Type 0} (f : Step → A) (l : List Step) (at : ℕ) (fir
   pub room : front + length m ≤ length out
   pub same : put out front (map f m) ≡ put first at (map f l)
 
-module _ {A : Type 0} (f : Step → A) (l : List Step) (at : ℕ) (first : List A) where
+module _ {A : Type 0} {f : Step → A} {l : List Step} {at : ℕ} {first : List A} where
+  pub none_filled : at + length l ≤ length first → Filling f l at first l at first
+  none_filled room = record { long = refl; room = room; same = refl }
+
   -- x is f of the first or of the last of them
-  module _ (m : List Step) (front : ℕ) (out : List A) (s : Step) (x : A) (own : x ≡ f s) where
-    pub front_filled : Filling f l at first (s ∷ m) front out → Filling f l at first m (front + 1) (set out front x)
-    front_filled h =
+  module _ {m : List Step} {front : ℕ} {out : List A} {s : Step} {x : A} where
+    pub front_filled : Filling f l at first (s ∷ m) front out → x ≡ f s → Filling f l at first m (front + 1) (set out front x)
+    front_filled h own =
         let long = h.long in
         let room : suc (front + length m) ≤ length out = omega (arith, h.room) in
         record {
@@ -38,8 +41,8 @@ module _ {A : Type 0} (f : Step → A) (l : List Step) (at : ℕ) (first : List 
           same = rw own (ap (λ o. put o (front + 1) (map f m)) (put_one out front (f s) (omega arith)) ∙ put_more out front (f s ∷ []) (map f m) (omega arith) ∙ h.same);
         }
 
-    pub back_filled : Filling f l at first (m ++ (s ∷ [])) front out → (k : ℕ) → k ≡ front + length m → Filling f l at first m front (set out k x)
-    back_filled h k is =
+    pub back_filled : Filling f l at first (m ++ (s ∷ [])) front out → x ≡ f s → {k : ℕ} → k ≡ front + length m → Filling f l at first m front (set out k x)
+    back_filled h own {k} is =
         let long = h.long in
         let room : front + length m < length out = omega (arith, h.room, length-append m (s ∷ [])) in
         let last : k ≡ front + length (map f m) = rw (length-map m f) is in
@@ -49,5 +52,5 @@ module _ {A : Type 0} (f : Step → A) (l : List Step) (at : ℕ) (first : List 
           same = rw (own, last) (put_last out front (map f m) (f s) (rw (length-map m f) room)) ∙ ap (put out front) (sym (map-append f m (s ∷ []))) ∙ h.same;
         }
 
-  pub all_filled : (front : ℕ) (out : List A) → Filling f l at first [] front out → out ≡ put first at (map f l)
-  all_filled front out h = sym (put_none out front) ∙ h.same
+  pub all_filled : {front : ℕ} {out : List A} → Filling f l at first [] front out → out ≡ put first at (map f l)
+  all_filled {front} {out} h = sym (put_none out front) ∙ h.same

@@ -39,7 +39,7 @@ module _ {K : Complex} {j e : ℕ} (n : NextFree K j e) where
   pub steps_count : length (loop_steps K (j + 1)) ≡ length (loop_steps K j) + length (loop_of K e)
   steps_count = ap length steps_next ∙ length-append (loop_steps K j) (loop_of K e)
 
-steps_long : (K : Complex) (j m : ℕ) → j ≤ m → length (loop_steps K j) ≤ length (loop_steps K m)
+pub steps_long : (K : Complex) (j m : ℕ) → j ≤ m → length (loop_steps K j) ≤ length (loop_steps K m)
 unfolding loop_steps
 steps_long K j m h =
     let loops = take m (fundamental_loops K) in
@@ -57,6 +57,12 @@ steps_few K few (suc j) h =
     let before = steps_few K few j (omega arith) in
     rw (← add-one j) (omega (arith, steps_count (record { more = h; is = refl })))
 
+-- g of some steps is in a list from place at on, and g of more steps is written behind that
+pub put_behind : {A : Type 0} (g : Step → A) (l m : List Step) {w : List Step} (first : List A) (at : ℕ) {out out' : List A} {k : ℕ} → w ≡ l ++ m → at + length l ≤ length first
+    → out ≡ put first at (map g l) → k ≡ at + length l → out' ≡ put out k (map g m) → out' ≡ put first at (map g w)
+put_behind g l m first at steps room written behind more =
+    more ∙ rw (written, behind, steps, map-append g l m, ← (length-map l g)) (put_more first at (map g l) (map g m) (rw (length-map l g) room))
+
 -- ---- g of the steps of the first j loops stands at the front of a list
 pub record Laid {A : Type 0} (K : Complex) (g : Step → A) (first : List A) (j : ℕ) (out : List A) : Type 0 where
   pub long : length out ≡ length first
@@ -69,28 +75,16 @@ pub all_laid : {A : Type 0} {K : Complex} {g : Step → A} {first : List A} {j :
 all_laid {K = K} {g = g} {first = first} {j = j} h q = h.is ∙ put_front first (map g (loop_steps K j)) ∙ ap (λ k. front (map g (loop_steps K k)) first) q
 
 -- the loop of the j-th free edge e goes behind them, to place at
-module _ {A : Type 0} {K : Complex} {g : Step → A} {first out : List A} {j e at : ℕ} (n : NextFree K j e) (behind : at ≡ length (loop_steps K j))
-    (laid : Laid K g first j out) (room : 0 + length (all_steps K) ≤ length first) where
-  pub laid_room : at + length (loop_of K e) ≤ length out
-  laid_room =
-      let more = n.more in
-      let k = steps_long K (j + 1) (length (free_edges K)) (omega arith) in
-      omega (arith, steps_count n, laid.long)
-
-  pub one_laid : {out' : List A} → out' ≡ put out at (map g (loop_of K e)) → Laid K g first (j + 1) out'
-  one_laid written =
-      let s = map g (loop_steps K j) in
-      let t = map g (loop_of K e) in
-      let ls : length s ≡ length (loop_steps K j) = length-map (loop_steps K j) g in
-      let fits : at + length t ≤ length out = rw (length-map (loop_of K e) g) laid_room in
-      let held : 0 + length s ≤ length first = omega (arith, laid.long) in
-      let place : at ≡ 0 + length s = omega arith in
-      record {
-        long = ap length written ∙ put_length out at t fits ∙ laid.long;
-        is =
-            written ∙ ap (λ o. put o at t) laid.is ∙ ap (λ n. put (put first 0 s) n t) place ∙ put_more first 0 s t held
-            ∙ ap (put first 0) (sym (ap (map g) (steps_next n) ∙ map-append g (loop_steps K j) (loop_of K e)));
-      }
+pub one_laid : {A : Type 0} {K : Complex} {g : Step → A} {first out out' : List A} {j e at : ℕ} → NextFree K j e → at ≡ length (loop_steps K j) → Laid K g first j out
+    → 0 + length (all_steps K) ≤ length first → out' ≡ put out at (map g (loop_of K e)) → Laid K g first (j + 1) out'
+one_laid {K = K} {g = g} {first = first} {out = out} {j = j} {e = e} {at = at} n behind laid room written =
+    let more = n.more in
+    let below = steps_long K (j + 1) (length (free_edges K)) (omega arith) in
+    let fits : at + length (loop_of K e) ≤ length out = omega (arith, steps_count n, laid.long) in
+    record {
+      long = ap length written ∙ put_length out at (map g (loop_of K e)) (rw (length-map (loop_of K e) g) fits) ∙ laid.long;
+      is = put_behind g (loop_steps K j) (loop_of K e) first 0 (steps_next n) (omega (arith, laid.long)) laid.is (omega arith) written;
+    }
 
 -- ---- the first n starts stand at the front of a list
 abbrev start_at : Complex → ℕ → ℕ

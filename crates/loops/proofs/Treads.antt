@@ -42,6 +42,13 @@ module _ (es : List Simplex) (seen tree : List ℕ) (p : Parents) (good : Parent
     up : p.root u ≡ false → s ≡ step_from es (p.edge u) u → v ≡ parent es p u → Tread u s v
     down : p.root v ≡ false → s ≡ step_from es (p.edge v) (parent es p v) → u ≡ parent es p v → Tread u s v
 
+  -- a parent was found earlier
+  pub parent_earlier : {u v : ℕ} → Seen v → p.root v ≡ false → u ≡ parent es p v → p.place u < p.place v
+  parent_earlier {v = v} s n is = rw is (good.earlier v s n)
+
+  pub parent_other : {v : ℕ} → Seen v → p.root v ≡ false → parent es p v ≢ v
+  parent_other s n q = absurd (omega (arith, parent_earlier s n (sym q)))
+
   -- an edge's direction is decided by where it is left
   direction : (s : Simplex) (d : ℤ) (u v : ℕ) → u ≢ v → Goes s d u v → d ≡ leaving s u
   direction s d u v n (inl g) = rw (eq-eqb (start s) u g.1) g.0
@@ -64,12 +71,9 @@ module _ (es : List Simplex) (seen tree : List ℕ) (p : Parents) (good : Parent
       go : (x : ℕ) × Seen x × (p.root x ≡ false) × (p.edge x ≡ e) → Trodden u (e, d) v
       go (x, sx, nx, ex) = cases (goes_ends (get_or es e []) d u v x (parent es p x) g (subst (λ k. Joins (get_or es k []) (parent es p x) x) ex (good.joins x sx nx)))
         where
-          apart : parent es p x ≢ x
-          apart q = let low = good.earlier x sx nx in let z : p.place (parent es p x) ≡ p.place x = ap p.place q in omega arith
-
           cases : ((u ≡ x) × (v ≡ parent es p x)) ⊎ ((u ≡ parent es p x) × (v ≡ x)) → Trodden u (e, d) v
           cases (inl (a, b)) =
-              let way = direction (get_or es e []) d u v (λ q. apart (sym b ∙ sym q ∙ a)) g in
+              let way = direction (get_or es e []) d u v (λ q. parent_other sx nx (sym b ∙ sym q ∙ a)) g in
               let own : e ≡ p.edge u = sym (ap p.edge a ∙ ex) in
               record {
                 from_seen = rw a sx;
@@ -77,7 +81,7 @@ module _ (es : List Simplex) (seen tree : List ℕ) (p : Parents) (good : Parent
                 tread = up (rw a nx) (λ k. (own k, (way ∙ ap (λ n. leaving (get_or es n []) u) own) k)) (b ∙ ap (parent es p) (sym a));
               }
           cases (inr (a, b)) =
-              let way = direction (get_or es e []) d u v (λ q. apart (sym a ∙ q ∙ b)) g in
+              let way = direction (get_or es e []) d u v (λ q. parent_other sx nx (sym a ∙ q ∙ b)) g in
               let own : e ≡ p.edge v = sym (ap p.edge b ∙ ex) in
               let above : u ≡ parent es p v = a ∙ ap (parent es p) (sym b) in
               record {
@@ -100,8 +104,7 @@ module _ (es : List Simplex) (seen tree : List ℕ) (p : Parents) (good : Parent
           cases : Tread x (e, d) v → p.place x ≤ p.place b
           cases (up a q b) = absurd (f (sym (ap (λ t. t.0) q)))
           cases (down a q u) =
-              let low = good.earlier v t.to_seen a in
-              let e : p.place x ≡ p.place (parent es p v) = ap p.place u in
+              let low = parent_earlier t.to_seen a u in
               let far = ih a (subst (λ k. Free-of k l) (ap (λ t. t.0) q) h) o in
               omega arith
 
@@ -109,11 +112,7 @@ module _ (es : List Simplex) (seen tree : List ℕ) (p : Parents) (good : Parent
   module _ (u v b e : ℕ) (d : ℤ) (l : List Step) (i : In 0 e tree) (g : Goes (get_or es e []) d u v) (r : Walk es tree v l b) (f : Free-of e l) (o : Simple l) where
     far : Trodden u (e, d) v → p.root v ≡ false → (e, d) ≡ step_from es (p.edge v) (parent es p v) → u ≡ parent es p v
         → (p.place u < p.place v) × (p.place v ≤ p.place b)
-    far t a q z =
-        let low = good.earlier v t.to_seen a in
-        let e : p.place u ≡ p.place (parent es p v) = ap p.place z in
-        let far = goes_down r a (subst (λ k. Free-of k l) (ap (λ t. t.0) q) f) o in
-        (omega arith, far)
+    far t a q z = (parent_earlier t.to_seen a z, goes_down r a (subst (λ k. Free-of k l) (ap (λ t. t.0) q) f) o)
 
     -- toward a vertex that was not found later it goes up
     pub first_up : p.place b ≤ p.place u → (p.root u ≡ false) × ((e, d) ≡ step_from es (p.edge u) u) × (v ≡ parent es p u)
@@ -142,7 +141,7 @@ module _ (es : List Simplex) (seen tree : List ℕ) (p : Parents) (good : Parent
       go t = cases t.tread
         where
           cases : Tread u (e, d) v → EndsDown u v ((e, d) ∷ [])
-          cases (up a q z) = let low = good.earlier u t.from_seen a in let e : p.place v ≡ p.place (parent es p u) = ap p.place z in absurd (omega arith)
+          cases (up a q z) = absurd (omega (arith, parent_earlier t.from_seen a z))
           cases (down a q z) = record { walk = []; under = a; leads = rw z stay; is = ap (λ t. t ∷ []) q }
   last_down {v} {b} u e d i g (onward {e = e'} {d = d'} {l = m} i' g' r) f (before fs o) h = go (dec_lt (p.place b) (p.place v)) (last_down v e' d' i' g' r fs o)
     where
@@ -156,5 +155,5 @@ module _ (es : List Simplex) (seen tree : List ℕ) (p : Parents) (good : Parent
           cases t = ends t.tread
             where
               ends : Tread u (e, d) v → EndsDown u b ((e, d) ∷ (e', d') ∷ m)
-              ends (up a q z) = let low = good.earlier u t.from_seen a in let e : p.place v ≡ p.place (parent es p u) = ap p.place z in absurd (omega arith)
+              ends (up a q z) = absurd (omega (arith, parent_earlier t.from_seen a z))
               ends (down a q z) = absurd (let y = far u v b e d ((e', d') ∷ m) i g (onward i' g' r) f (before fs o) t a q z in omega (arith, y.1))

@@ -17,7 +17,7 @@ use Rattle.mathematics.proofs.Below.{map_at}
 use Rattle.complex.specs.Complex.{Simplex, start, Joins}
 use Rattle.loops.specs.Parents.{Parents, ParentsOf, parent, Under, itself, above, Together, leaving, step_from, climb, tree_path}
 use Rattle.loops.specs.Walks.{Step, edge_of, Goes, Walk, stay, onward, EdgesOnce, IsPath}
-use Rattle.loops.proofs.Treads.{Simple, Free-of, walk_append, joins_back, first_up, last_down}
+use Rattle.loops.proofs.Treads.{Simple, Free-of, walk_append, joins_back, parent_earlier, parent_other, first_up, last_down}
 
 pub once_simple : (w : List Step) → EdgesOnce w → Simple w
 once_simple w once =
@@ -56,10 +56,10 @@ module _ (es : List Simplex) (seen tree : List ℕ) (p : Parents) (good : Parent
   abbrev Seen : ℕ → Type 0
   Seen v = listed eqb v seen ≡ true
 
-  parent_other : (v : ℕ) → Seen v → p.root v ≡ false → parent es p v ≢ v
-  parent_other v s n q =
-      let low = good.earlier v s n in
-      let z : p.place (parent es p v) ≡ p.place v = ap p.place q in
+  -- of two places the lower
+  lower_place : {a b : ℕ} → Seen a → Seen b → a ≢ b → p.place a ≤ p.place b → p.place a < p.place b
+  lower_place {a} {b} sa sb n h =
+      let differ : p.place a ≢ p.place b = λ q. n (good.apart a b sa sb q) in
       omega arith
 
   -- ---- the only one
@@ -71,27 +71,26 @@ module _ (es : List Simplex) (seen tree : List ℕ) (p : Parents) (good : Parent
       absurd (go (split r) f o (ap (λ t. t.0) u.1) u.2 u.0)
     where
       go : {l : List Step} → Split es tree v a l → Free-of e l → Simple l → e ≡ p.edge a → v ≡ parent es p a → p.root a ≡ false → ⊥
-      go (nowhere q) f o own is n = parent_other a sa n (sym is ∙ q)
+      go (nowhere q) f o own is n = parent_other es seen tree p good sa n (sym is ∙ q)
       go (begins {e = e'} {d = d'} i' g' r) f (before fs o) own is n =
-          let low = good.earlier a sa n in
-          let q : p.place v ≡ p.place (parent es p a) = ap p.place is in
+          let low = parent_earlier es seen tree p good sa n is in
           let w = last_down es seen tree p good v e' d' i' g' r fs o (omega arith) in
           last (each_parts w.walk (subst (λ l. Free-of e l) w.is f)).1
         where
           last : Free-of e (step_from es (p.edge a) (parent es p a) ∷ []) → ⊥
           last (also z n) = z own
 
+  met_walk : (k a b : ℕ) {w : List Step} → a ≡ b → Seen a → Walk es tree a w b → Simple w → w ≡ climb es p k a b
+  met_walk k a b q sa r o = closed_empty a sa (split (rw (sym q) at r)) o ∙ sym (climb_met es p k a b q)
+
   only_walk : (k a b : ℕ) (w : List Step) → p.place a + p.place b ≤ k → Seen a → Seen b → Walk es tree a w b → Simple w → w ≡ climb es p k a b
-  only_walk zero a b w h sa sb r o = met (good.apart a b sa sb (omega arith))
-    where
-      met : a ≡ b → w ≡ climb es p zero a b
-      met q = closed_empty a sa (split (rw (sym q) at r)) o ∙ sym (climb_met es p zero a b q)
+  only_walk zero a b w h sa sb r o = met_walk zero a b (good.apart a b sa sb (omega arith)) sa r o
   only_walk (suc k) a b w h sa sb r o = go (ℕ_discrete a b) (dec_lt (p.place b) (p.place a)) (only_walk k)
     where
       go : Dec (a ≡ b) → Dec (p.place b < p.place a)
           → ((a b : ℕ) (w : List Step) → p.place a + p.place b ≤ k → Seen a → Seen b → Walk es tree a w b → Simple w → w ≡ climb es p k a b)
           → w ≡ climb es p (suc k) a b
-      go (yes q) dec ih = closed_empty a sa (split (rw (sym q) at r)) o ∙ sym (climb_met es p (suc k) a b q)
+      go (yes q) dec ih = met_walk (suc k) a b q sa r o
       go (no n) (yes l) ih = cases (split r) o ∙ sym (climb_up es p k a b n l)
         where
           cases : {w : List Step} → Split es tree a b w → Simple w → w ≡ step_from es (p.edge a) a ∷ climb es p k (parent es p a) b
@@ -172,17 +171,17 @@ module _ (es : List Simplex) (seen tree : List ℕ) (p : Parents) (good : Parent
   later_under b sb h ub (itself t) = let k = under_before sb ub in absurd (omega arith)
   later_under b sb h ub (above n u) = (n, u)
 
+  met_climbed : (k a b m : ℕ) → a ≡ b → Climbed m a b (climb es p k a b)
+  met_climbed k a b m q = rw (climb_met es p k a b q) (subst (λ x. Climbed m a x []) q (record { walk = stay; simple = empty; low = none }))
+
   climbed : (k a b m : ℕ) → p.place a + p.place b ≤ k → p.place a < m → p.place b < m → Seen a → Seen b → Together es p a b → Climbed m a b (climb es p k a b)
-  climbed zero a b m h la lb sa sb t = rw (climb_met es p zero a b same) (subst (λ x. Climbed m a x []) same (record { walk = stay; simple = empty; low = none }))
-    where
-      same : a ≡ b
-      same = good.apart a b sa sb (omega arith)
+  climbed zero a b m h la lb sa sb t = met_climbed zero a b m (good.apart a b sa sb (omega arith))
   climbed (suc k) a b m h la lb sa sb t = go (ℕ_discrete a b) (dec_lt (p.place b) (p.place a)) (climbed k)
     where
       go : Dec (a ≡ b) → Dec (p.place b < p.place a)
           → ((a b m : ℕ) → p.place a + p.place b ≤ k → p.place a < m → p.place b < m → Seen a → Seen b → Together es p a b → Climbed m a b (climb es p k a b))
           → Climbed m a b (climb es p (suc k) a b)
-      go (yes q) dec ih = rw (climb_met es p (suc k) a b q) (subst (λ x. Climbed m a x []) q (record { walk = stay; simple = empty; low = none }))
+      go (yes q) dec ih = met_climbed (suc k) a b m q
       go (no n) (yes l) ih =
           let u = later_under b sb l t.2 t.1 in
           let low = good.earlier a sa u.0 in
@@ -191,28 +190,21 @@ module _ (es : List Simplex) (seen tree : List ℕ) (p : Parents) (good : Parent
           let up = joins_back E (parent es p a) a (good.joins a sa u.0) in
           rw (climb_up es p k a b n l)
           (record {
-            walk = onward (good.edge a sa u.0) (goes_from E a (parent es p a) (λ q. parent_other a sa u.0 (sym q)) up) r.walk;
+            walk = onward (good.edge a sa u.0) (goes_from E a (parent es p a) (λ q. parent_other es seen tree p good sa u.0 (sym q)) up) r.walk;
             simple = before (each_to (λ s y. high a s.0 sa u.0 y) r.low) r.simple;
             low = also (record { vertex = a; found = sa; under = u.0; is = refl; low = la }) (each_to (λ s y. lower (omega arith) y) r.low);
           })
       go (no n) (no l) ih =
-          let l' : p.place a < p.place b = below n l in
+          let l' = lower_place sa sb n (omega arith) in
           let u = later_under a sa l' t.1 t.2 in
           let low = good.earlier b sb u.0 in
           let r = ih a (parent es p b) (p.place b) (omega arith) l' low sa (good.parent_seen b sb u.0) (t.0, t.1, u.1) in
           rw (climb_down es p k a b n (omega arith))
           (record {
-            walk = walk_append r.walk (onward (good.edge b sb u.0) (goes_from (get_or es (p.edge b) []) (parent es p b) b (parent_other b sb u.0) (good.joins b sb u.0)) stay);
+            walk = walk_append r.walk (onward (good.edge b sb u.0) (goes_from (get_or es (p.edge b) []) (parent es p b) b (parent_other es seen tree p good sb u.0) (good.joins b sb u.0)) stay);
             simple = ordered_append r.simple (before none empty) (each_to (λ s y. also (λ q. high b s.0 sb u.0 y (sym q)) none) r.low);
             low = each_append (each_to (λ s y. lower (omega arith) y) r.low) (also (record { vertex = b; found = sb; under = u.0; is = refl; low = lb }) none);
           })
-        where
-          below : a ≢ b → (p.place b < p.place a → ⊥) → p.place a < p.place b
-          below n l = pick (ℕ_discrete (p.place a) (p.place b))
-            where
-              pick : Dec (p.place a ≡ p.place b) → p.place a < p.place b
-              pick (yes q) = absurd (n (good.apart a b sa sb q))
-              pick (no q) = omega arith
 
   -- between two vertices of one part
   pub tree_path_is : (a b : ℕ) → Seen a → Seen b → Together es p a b → IsPath es tree a b (tree_path es p a b)
@@ -239,40 +231,25 @@ module _ (es : List Simplex) (seen tree : List ℕ) (p : Parents) (good : Parent
 
   module _ (a b : ℕ) (sa : Seen a) (sb : Seen b) (t : Together es p a b) (apart : a ≢ b) where
     -- a was found later
-    pub later_climbs : p.place b < p.place a
-        → (p.root a ≡ false) × Together es p (parent es p a) b × (tree_path es p a b ≡ step_from es (p.edge a) a ∷ tree_path es p (parent es p a) b)
+    pub later_climbs : p.place b < p.place a → (p.root a ≡ false) × (tree_path es p a b ≡ step_from es (p.edge a) a ∷ tree_path es p (parent es p a) b)
     later_climbs l =
         let u = later_under b sb l t.2 t.1 in
         let low = good.earlier a sa u.0 in
-        let k = p.place a + p.place b in
-        let together : Together es p (parent es p a) b = (t.0, u.1, t.2) in (
+        let k = p.place a + p.place b in (
           u.0,
-          together,
           sym (enough (suc k) a b (omega arith) sa sb t)
               ∙ climb_up es p k a b apart l
-              ∙ ap (λ m. step_from es (p.edge a) a ∷ m) (enough k (parent es p a) b (omega arith) (good.parent_seen a sa u.0) sb together),
+              ∙ ap (λ m. step_from es (p.edge a) a ∷ m) (enough k (parent es p a) b (omega arith) (good.parent_seen a sa u.0) sb (t.0, u.1, t.2)),
         )
 
     -- b was found later
-    pub later_reached : p.place a ≤ p.place b
-        → (p.root b ≡ false) × Together es p a (parent es p b) × (tree_path es p a b ≡ tree_path es p a (parent es p b) ++ (step_from es (p.edge b) (parent es p b) ∷ []))
+    pub later_reached : p.place a ≤ p.place b → (p.root b ≡ false) × (tree_path es p a b ≡ tree_path es p a (parent es p b) ++ (step_from es (p.edge b) (parent es p b) ∷ []))
     later_reached l =
-        let differ : p.place a ≢ p.place b = λ q. apart (good.apart a b sa sb q) in
-        let l' : p.place a < p.place b = less differ in
-        let u = later_under a sa l' t.1 t.2 in
+        let u = later_under a sa (lower_place sa sb apart l) t.1 t.2 in
         let low = good.earlier b sb u.0 in
-        let k = p.place a + p.place b in
-        let together : Together es p a (parent es p b) = (t.0, t.1, u.1) in (
+        let k = p.place a + p.place b in (
           u.0,
-          together,
           sym (enough (suc k) a b (omega arith) sa sb t)
               ∙ climb_down es p k a b apart l
-              ∙ ap (λ m. m ++ (step_from es (p.edge b) (parent es p b) ∷ [])) (enough k a (parent es p b) (omega arith) sa (good.parent_seen b sb u.0) together),
+              ∙ ap (λ m. m ++ (step_from es (p.edge b) (parent es p b) ∷ [])) (enough k a (parent es p b) (omega arith) sa (good.parent_seen b sb u.0) (t.0, t.1, u.1)),
         )
-      where
-        less : p.place a ≢ p.place b → p.place a < p.place b
-        less n = pick (ℕ_discrete (p.place a) (p.place b))
-          where
-            pick : Dec (p.place a ≡ p.place b) → p.place a < p.place b
-            pick (yes q) = absurd (n q)
-            pick (no q) = omega arith

@@ -1,9 +1,9 @@
 -- The walk from the lowest candidate of a start.
-use Prim.Native.Nat.{ℕ, zero, ◌+◌, ◌-◌, ◌*◌, ◌^◌, ◌≤◌, ◌<◌}
+use Prim.Native.Nat.{ℕ, zero, ◌+◌, ◌-◌, ◌*◌, ◌^◌, ◌<◌}
 use mathlib.Core.List.{List}
 use mathlib.Core.Path.{◌≡◌, sym, ◌∙◌}
 use native.Mathlib.Omega.{arith}
-use lib.IntN.{ℤ, pos, neg_ℤ, nat_abs, +ℤ_idl}
+use lib.IntN.{ℤ, pos, neg_ℤ, +ℤ_idl}
 use lib.ListN.{get_or, length, replicate, length-replicate, get_or-replicate}
 use Rattle.mathematics.specs.Integers.{sum_below}
 use Rattle.complex.specs.Complex.{Complex, uncharged}
@@ -12,6 +12,7 @@ use Rattle.gauss_law.specs.Listing.{free_edges, listing}
 use Rattle.cycles.specs.Cycles.{Tables}
 use Rattle.cycles.proofs.Adding.{zeros_at, gauss_zeros}
 use Rattle.walker.specs.Walker.{lowest_candidate, walked, walked_states}
+use Rattle.walker.specs.Steps.{Small}
 use Rattle.walker.specs.Tables.{Start}
 use Rattle.walker.proofs.Counter.{value}
 use Rattle.walker.proofs.Candidates.{Chosen}
@@ -56,5 +57,5 @@ module _ (c : Complex) (accepted : Accepted c) (neutral : sum_below c.charges c.
   pub begin_sized : length begin ≡ length c.edges
   begin_sized = lowest.sized
 
-  pub begun_small : (k e : ℕ) → nat_abs (get_or (place k) e (pos 0)) ≤ 2 ^ 13 + length (free_edges c) * L
+  pub begun_small : (k : ℕ) → Small (2 ^ 13 + length (free_edges c) * L) (place k)
   begun_small = walked_small c accepted c.charges neutral free cycle tables L begin lowest p (2 ^ 13) chosen start.small

@@ -1,10 +1,10 @@
 -- The states of the first blocks, one block more.
 use Prim.Native.Nat.{ℕ, zero, suc, ◌+◌, ◌-◌, ◌*◌, ◌^◌, ◌≤◌}
 use mathlib.Core.List.{List, [], ◌++◌, append-nil, append_assoc, flat_map}
-use mathlib.Core.Path.{◌≡◌, refl, sym, ap, ◌∙◌}
+use mathlib.Core.Path.{◌≡◌, refl, sym}
 use native.Mathlib.Omega.{arith}
 use native.Mathlib.Numerals.{add-one}
-use native.Mathlib.Nat.{add-zero, mul-le-mul}
+use native.Mathlib.Nat.{add-zero, add-suc, mul-le-mul}
 use lib.IntN.{ℤ}
 use lib.ListN.{length, length-append}
 use Rattle.mathematics.specs.Counting.{below, applied}
@@ -64,25 +64,23 @@ module _ (free : List ℕ) (cycle : ℕ → List ℤ) (L n : ℕ) (s : List ℤ)
 
 -- ---- some blocks, then the others
 module _ (free : List ℕ) (cycle : ℕ → List ℤ) (L n : ℕ) where
-  pub walked_next : (s : List ℤ) (k : ℕ) → walked free cycle L n s (k + 1) ≡ stepped free cycle L (n - 1) 1 (walked free cycle L n s k)
+  walked_suc : (s : List ℤ) (k : ℕ) → walked free cycle L n s (suc k) ≡ stepped free cycle L (n - 1) 1 (walked free cycle L n s k)
   unfolding walked applied
-  walked_next s k = rw (add-one k)
+  walked_suc s k = refl
+
+  pub walked_next : (s : List ℤ) (k : ℕ) → walked free cycle L n s (k + 1) ≡ stepped free cycle L (n - 1) 1 (walked free cycle L n s k)
+  walked_next s k = rw (add-one k) (walked_suc s k)
 
   pub walked_on : (s : List ℤ) (a b : ℕ) → walked free cycle L n s (a + b) ≡ walked free cycle L n (walked free cycle L n s a) b
   walked_on s a zero = rw (add-zero a) (sym (walked_none free cycle L n (walked free cycle L n s a)))
-  walked_on s a (suc b) =
-      let e : a + suc b ≡ a + b + 1 = omega arith in
-      let f : b + 1 ≡ suc b = add-one b in
-      rw (e, walked_next s (a + b), walked_on s a b) (sym (rw f at (walked_next (walked free cycle L n s a) b)))
+  walked_on s a (suc b) = rw (add-suc a b, walked_suc s (a + b), walked_on s a b) (sym (walked_suc (walked free cycle L n s a) b))
 
   pub states_on : (s : List ℤ) (a b : ℕ) → walked_states free cycle L n s (a + b) ≡ walked_states free cycle L n s a ++ walked_states free cycle L n (walked free cycle L n s a) b
   states_on s a zero = rw (add-zero a, states_none free cycle L n (walked free cycle L n s a)) (sym (append-nil (walked_states free cycle L n s a)))
   states_on s a (suc b) =
       let t = walked free cycle L n s a in
-      let e : a + suc b ≡ a + b + 1 = omega arith in
-      let f : b + 1 ≡ suc b = add-one b in
-      rw (e, states_next free cycle L n s (a + b), states_on s a b, walked_on s a b)
-      (append_assoc (walked_states free cycle L n s a) (walked_states free cycle L n t b) _ ∙ ap (λ l. walked_states free cycle L n s a ++ l) (sym (rw f at (states_next free cycle L n t b))))
+      rw (add-suc a b, states_suc free cycle L n s (a + b), states_on s a b, walked_on s a b, states_suc free cycle L n t b)
+      (append_assoc (walked_states free cycle L n s a) (walked_states free cycle L n t b) _)
 
 -- all states have a number
 pub states_counted : (free : List ℕ) (cycles : List ℤ) (L n : ℕ) (s : List ℤ) (k : ℕ) → Walkable free cycles L n s k → length (walked_states free (row (length s) cycles) L n s k) ≤ 2 ^ 40

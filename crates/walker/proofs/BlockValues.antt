@@ -5,26 +5,22 @@ use mathlib.Core.Bool.{true}
 use mathlib.Core.Path.{◌≡◌}
 use native.Mathlib.Omega.{arith}
 use native.Mathlib.Decide.{dec_lt}
-use lib.Dec.{leb}
 use lib.IntN.{ℤ, pos, nat_abs}
 use lib.ListN.{get_or, length, get_or-eq_default}
-use borrow.Author.Tests.{leb-true}
-use Rattle.mathematics.proofs.Tests.{all_at}
 use Rattle.mathematics.specs.Entries.{Each}
 use Rattle.mathematics.proofs.Ordered.{keep_passes, each_at}
 use Rattle.cycles.specs.Cycles.{with_cycle}
 use Rattle.walker.specs.Walker.{block_rows, block}
 use Rattle.walker.specs.Steps.{Small}
-use Rattle.walker.proofs.Candidates.{within}
+use Rattle.walker.proofs.Candidates.{within, within_at}
 use Rattle.walker.proofs.Interval.{block_kept}
 use Rattle.walker.proofs.BlockRows.{rows_at, rows_length}
 
 within_small : (L : ℕ) (s : List ℤ) → within L s ≡ true → Small L s
-unfolding within
 within_small L s h e = go (dec_lt e (length s))
   where
     go : Dec (e < length s) → nat_abs (get_or s e (pos 0)) ≤ L
-    go (yes k) = leb-true _ L (all_at (λ x. leb (nat_abs x) L) (pos 0) s h e k)
+    go (yes k) = within_at L s h e k
     go (no k) = rw (get_or-eq_default s (pos 0) {n = e} (omega arith)) (omega arith)
 
 module _ (L n : ℕ) (s z : List ℤ) (signs : Small 1 z) (long : length z ≡ length s) (from to : ℕ) (is : block_rows s z from to ≡ block L n s z) where

@@ -105,6 +105,15 @@ module _ (c : Complex) (q : ℕ → ℤ) where
 unfoldable pub within : ℕ → List ℤ → Bool
 within L s = every_entry (λ x. leb (nat_abs x) L) s
 
+module _ (L : ℕ) (s : List ℤ) where
+  pub within_at : within L s ≡ true → (e : ℕ) → e < length s → nat_abs (get_or s e (pos 0)) ≤ L
+  unfolding within
+  within_at h e k = leb-true _ L (all_at (λ x. leb (nat_abs x) L) (pos 0) s h e k)
+
+  pub at_within : ((e : ℕ) → e < length s → nat_abs (get_or s e (pos 0)) ≤ L) → within L s ≡ true
+  unfolding within
+  at_within h = at_all (λ x. leb (nat_abs x) L) (pos 0) s (λ e k. le-leb _ L (h e k))
+
 module _ (c : Complex) (accepted : Accepted c) (q : ℕ → ℤ) (charges : sum_below q c.vertices ≡ pos 0) where
   -- the lawful assignment with the values xs on the free edges
   pub candidate : List ℤ → List ℤ
@@ -126,21 +135,19 @@ module _ (c : Complex) (accepted : Accepted c) (q : ℕ → ℤ) (charges : sum_
     candidates_lawful = each_map candidate (each_all (λ xs. (xs, candidate_chosen xs)) choices)
 
     candidates_states : Each (State c q L) (keep (within L) (map candidate choices))
-    unfolding within
     candidates_states = each_to (λ s r. state s r.0.0 r.0.1 r.1) (each_both (keep_each (within L) candidates_lawful) (keep_passes (within L) (map candidate choices)))
       where
         state : (s xs : List ℤ) → Chosen c q xs s → within L s ≡ true → State c q L s
         state s xs h k =
             record {
               sized = h.sized;
-              within = λ e m. leb-true (nat_abs (get_or s e (pos 0))) L (all_at (λ x. leb (nat_abs x) L) (pos 0) s k e (omega (arith, h.sized)));
+              within = λ e m. within_at L s k e (omega (arith, h.sized));
               law = h.law;
             }
 
     candidates_member : (s : List ℤ) → State c q L s → Member s (keep (within L) (map candidate choices))
-    unfolding within
     candidates_member s h =
-        keep_member (within L) (at_all (λ x. leb (nat_abs x) L) (pos 0) s (λ e k. le-leb (nat_abs (get_or s e (pos 0))) L (h.within e (omega (arith, h.sized)))))
+        keep_member (within L) (at_within L s (λ e k. h.within e (omega (arith, h.sized))))
         (rw (chosen_candidate chosen s own) at (member_map candidate (rw long at (counted_member (values L) {xs = chosen} possible))))
       where
         chosen : List ℤ

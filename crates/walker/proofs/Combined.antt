@@ -4,18 +4,18 @@ use mathlib.Core.List.{List}
 use mathlib.Core.Path.{◌≡◌, refl, sym, ◌∙◌}
 use native.Mathlib.Omega.{arith}
 use native.Mathlib.Decide.{ℕ_discrete}
-use lib.IntN.{ℤ, pos, ◌+ℤ◌, ◌*ℤ◌, neg_ℤ, nat_abs, +ℤ_idl}
+use lib.IntN.{ℤ, pos, ◌+ℤ◌, neg_ℤ, nat_abs, +ℤ_idl}
 use lib.ListN.{get_or, length, replicate, length-replicate, get_or-replicate}
 use lib.Seq.{get_or-set_same, get_or-set_other}
 use Rattle.complex.specs.Complex.{Complex}
 use Rattle.gauss_law.specs.Listing.{tree_edges, free_edges}
 use Rattle.cycles.specs.Cycles.{Tables}
 use Rattle.walker.specs.Walker.{sum_of_cycles, lowest_candidate}
-use Rattle.mathematics.proofs.Signed.{size_sum, size_sign}
+use Rattle.walker.specs.Steps.{Small}
 use Rattle.gauss_law.proofs.Tree.{Solvable}
-use Rattle.cycles.proofs.Adding.{added_at}
 use Rattle.walker.proofs.Counter.{moved, value}
 use Rattle.walker.proofs.Candidates.{Chosen, chosen_once, added_chosen, moved_length}
+use Rattle.walker.proofs.Stepping.{added_small}
 
 pub chosen_same : (c : Complex) (q : ℕ → ℤ) (xs ys s : List ℤ) → ((j : ℕ) → j < length (free_edges c) → get_or xs j (pos 0) ≡ get_or ys j (pos 0)) → Chosen c q xs s → Chosen c q ys s
 chosen_same c q xs ys s same h = record { sized = h.sized; free = λ j k. h.free j k ∙ same j k; law = h.law }
@@ -56,30 +56,18 @@ module _ (c : Complex) (q : ℕ → ℤ) (free : List ℕ) (cycle : ℕ → List
     combined_chosen xs same =
         chosen_same c q (digits_to (length (free_edges c))) xs _ (λ j h. digits_done (length (free_edges c)) j h (omega arith) ∙ same j h) (combined_to (length (free_edges c)) (omega arith))
 
-    combined_small : (B L : ℕ) → ((e : ℕ) → nat_abs (get_or p e (pos 0)) ≤ B) → ((j : ℕ) → j < length (free_edges c) → nat_abs (x j) ≤ L)
-        → (n : ℕ) → n ≤ length (free_edges c) → (e : ℕ) → nat_abs (get_or (sum_of_cycles cycle x p n) e (pos 0)) ≤ B + n * L
+    combined_small : (B L : ℕ) → Small B p → ((j : ℕ) → nat_abs (x j) ≤ L) → (n : ℕ) → n ≤ length (free_edges c) → Small (B + n * L) (sum_of_cycles cycle x p n)
     unfolding sum_of_cycles
     combined_small B L b h zero k e = omega (arith, b e)
     combined_small B L b h (suc n) k e =
-        let s = sum_of_cycles cycle x p n in
-        let z = cycle n in
         let is = tables.cycles n k in
-        let long : length z ≡ length s = is.sized ∙ sym (combined_to n (omega arith)).sized in
-        rw (added_at s (x n) z e long)
-        (omega (
-          arith,
-          size_sum (get_or s e (pos 0)) (x n *ℤ get_or z e (pos 0)),
-          size_sign (x n) (get_or z e (pos 0)) (is.signs e),
-          combined_small B L b h n (omega arith) e,
-          h n k,
-        ))
+        let before = combined_to n (omega arith) in
+        omega (arith, added_small (sum_of_cycles cycle x p n) (x n) (cycle n) (B + n * L) L (is.sized ∙ sym before.sized) (combined_small B L b h n (omega arith)) (h n) is.signs e)
 
-  pub chosen_small : Solvable c.edges c.vertices (tree_edges c) → (B L : ℕ) → ((e : ℕ) → nat_abs (get_or p e (pos 0)) ≤ B)
-      → (xs s : List ℤ) → ((j : ℕ) → j < length (free_edges c) → nat_abs (get_or xs j (pos 0)) ≤ L) → Chosen c q xs s
-      → (e : ℕ) → nat_abs (get_or s e (pos 0)) ≤ B + length (free_edges c) * L
-  chosen_small tree B L b xs s h k e =
+  pub chosen_small : Solvable c.edges c.vertices (tree_edges c) → (B L : ℕ) → Small B p → (xs s : List ℤ) → Small L xs → Chosen c q xs s → Small (B + length (free_edges c) * L) s
+  chosen_small tree B L b xs s h k =
       rw (chosen_once c q tree xs s _ k (combined_chosen (λ j. get_or xs j (pos 0)) xs (λ j i. refl)))
-      (combined_small (λ j. get_or xs j (pos 0)) B L b h (length (free_edges c)) (omega arith) e)
+      (combined_small (λ j. get_or xs j (pos 0)) B L b h (length (free_edges c)) (omega arith))
 
   -- the candidate with -L on every free edge
   pub lowest_chosen : (L : ℕ) → Chosen c q (replicate (length (free_edges c)) (value L zero)) (lowest_candidate cycle L p (length (free_edges c)))

@@ -12,14 +12,15 @@ use lib.ListN.{get_or, length}
 use borrow.Author.Tests.{leb-true, ltb-true, le-leb, lt-leb, lt-ltb}
 use Rattle.mathematics.specs.Integers.{equal}
 use Rattle.mathematics.specs.Counting.{below, keep}
-use Rattle.mathematics.proofs.Tests.{and_parts, and_both, same_tests, all_at, at_all}
+use Rattle.mathematics.proofs.Tests.{and_parts, and_both, same_tests}
 use Rattle.mathematics.proofs.Maps.{keep_map}
 use Rattle.mathematics.proofs.Integers.{positive, negative, parts, parts_size, one_part, the, ◌⊞◌, ◌⊟◌, ⊖◌, test_less, test_not_less, times_one, times_minus_one, minus_one_times}
 use Rattle.cycles.specs.Cycles.{with_cycle}
+use Rattle.walker.specs.Steps.{Small}
 use Rattle.walker.specs.Walker.{excess, entry_start, entry_stop, first_within, end_within, block_rows, block}
 use Rattle.cycles.proofs.Adding.{added_length, added_at}
 use Rattle.mathematics.proofs.Below.{keep_between}
-use Rattle.walker.proofs.Candidates.{within}
+use Rattle.walker.proofs.Candidates.{within, within_at, at_within}
 
 excess_parts : (a b : ℤ) → excess a b ≡ (positive a + negative b) - (positive b + negative a)
 unfolding excess
@@ -31,30 +32,48 @@ excess_parts a b = go (lt_z b a) refl
 
 -- ---- one entry
 module _ (L n d : ℕ) where
+  -- in natural numbers
+  sum_size : (y : ℤ) → nat_abs (y +ℤ pos d) ≡ (positive y + d - negative y) + (negative y - (positive y + d))
+  unfolding positive negative
+  sum_size y = omega (arith, parts_size (y +ℤ pos d), one_part (y +ℤ pos d), parts (the y ⊞ the (pos d)))
+
+  below_size : (y : ℤ) → excess (neg_ℤ (pos L)) y ≡ negative y - (positive y + L)
+  unfolding positive negative
+  below_size y = omega (arith, excess_parts (neg_ℤ (pos L)) y, parts (⊖ the (pos L)), one_part (neg_ℤ (pos L)))
+
+  above_size : (y : ℤ) → excess (pos (suc L)) y ≡ suc L + negative y - positive y
+  unfolding positive negative
+  above_size y = omega (arith, excess_parts (pos (suc L)) y)
+
+  -- d more than y
+  sum_inside : (y : ℤ) → nat_abs (y +ℤ pos d) ≤ L → (excess (neg_ℤ (pos L)) y ≤ d) × (d < excess (pos (suc L)) y)
+  sum_inside y r = (omega (arith, sum_size y, below_size y), omega (arith, sum_size y, above_size y))
+
+  inside_sum : (y : ℤ) → excess (neg_ℤ (pos L)) y ≤ d → d < excess (pos (suc L)) y → nat_abs (y +ℤ pos d) ≤ L
+  inside_sum y a b = omega (arith, sum_size y, below_size y, above_size y)
+
+  -- the sign goes over to the entry
+  plus_size : (x : ℤ) → nat_abs (x +ℤ pos d *ℤ pos 1) ≡ nat_abs (pos 1 *ℤ x +ℤ pos d)
+  plus_size x = rw (*ℤ_comm (pos 1) x, times_one x, times_one (pos d))
+
+  minus_size : (x : ℤ) → nat_abs (x +ℤ pos d *ℤ negsuc 0) ≡ nat_abs (negsuc 0 *ℤ x +ℤ pos d)
+  unfolding positive negative
+  minus_size x =
+      rw (minus_one_times x, times_minus_one (pos d))
+      (omega (arith, parts_size (x -ℤ pos d), parts_size (neg_ℤ x +ℤ pos d), one_part (x -ℤ pos d), one_part (neg_ℤ x +ℤ pos d), parts (the x ⊟ the (pos d)), parts ((⊖ the x) ⊞ the (pos d))))
+
   entry_inside : (x s : ℤ) → nat_abs s ≤ 1 → d < n → nat_abs (x +ℤ pos d *ℤ s) ≤ L → (entry_start L n x s ≤ d) × (d < entry_stop L n x s)
-  unfolding entry_start entry_stop equal positive negative
+  unfolding entry_start entry_stop equal
   entry_inside x (pos zero) h k r =
       let r' : nat_abs x ≤ L = rw (*ℤ-zero (pos d), +ℤ_idr x) at r in
       rw (le-leb (nat_abs x) L r') (omega arith, k)
-  entry_inside x (pos (suc zero)) h k r =
-      let r' : nat_abs (x +ℤ pos d) ≤ L = rw (times_one (pos d)) at r in
-      let e : pos 1 *ℤ x ≡ x = *ℤ_comm (pos 1) x ∙ times_one x in
-      rw (e, excess_parts (neg_ℤ (pos L)) x, excess_parts (pos (suc L)) x) (
-        omega (arith, parts_size (x +ℤ pos d), one_part (x +ℤ pos d), parts (the x ⊞ the (pos d)), parts (⊖ the (pos L)), one_part (neg_ℤ (pos L))),
-        omega (arith, parts_size (x +ℤ pos d), one_part (x +ℤ pos d), parts (the x ⊞ the (pos d))),
-      )
+  entry_inside x (pos (suc zero)) h k r = sum_inside (pos 1 *ℤ x) (rw (plus_size x) at r)
   entry_inside x (pos (suc (suc m))) h k r = absurd (omega arith)
-  entry_inside x (negsuc zero) h k r =
-      let r' : nat_abs (x -ℤ pos d) ≤ L = rw (times_minus_one (pos d)) at r in
-      let e : negsuc 0 *ℤ x ≡ neg_ℤ x = minus_one_times x in
-      rw (e, excess_parts (neg_ℤ (pos L)) (neg_ℤ x), excess_parts (pos (suc L)) (neg_ℤ x)) (
-        omega (arith, parts_size (x -ℤ pos d), one_part (x -ℤ pos d), parts (the x ⊟ the (pos d)), parts (⊖ the (pos L)), parts (⊖ the x), one_part (neg_ℤ (pos L))),
-        omega (arith, parts_size (x -ℤ pos d), one_part (x -ℤ pos d), parts (the x ⊟ the (pos d)), parts (⊖ the x)),
-      )
+  entry_inside x (negsuc zero) h k r = sum_inside (negsuc 0 *ℤ x) (rw (minus_size x) at r)
   entry_inside x (negsuc (suc m)) h k r = absurd (omega arith)
 
   inside_entry : (x s : ℤ) → nat_abs s ≤ 1 → d < n → entry_start L n x s ≤ d → d < entry_stop L n x s → nat_abs (x +ℤ pos d *ℤ s) ≤ L
-  unfolding entry_start entry_stop equal positive negative
+  unfolding entry_start entry_stop equal
   inside_entry x (pos zero) h k a b = rw (*ℤ-zero (pos d), +ℤ_idr x) (go (dec_le (nat_abs x) L) a)
     where
       go : Dec (nat_abs x ≤ L) → cond (leb (nat_abs x) L) 0 n ≤ d → nat_abs x ≤ L
@@ -62,19 +81,9 @@ module _ (L n d : ℕ) where
       go (no i) a =
           let a' : n ≤ d = rw (lt-leb (nat_abs x) L (omega arith)) at a in
           absurd (omega arith)
-  inside_entry x (pos (suc zero)) h k a b =
-      let e : pos 1 *ℤ x ≡ x = *ℤ_comm (pos 1) x ∙ times_one x in
-      let a' = rw (e, excess_parts (neg_ℤ (pos L)) x) at a in
-      let b' = rw (e, excess_parts (pos (suc L)) x) at b in
-      rw (times_one (pos d))
-      (omega (arith, parts_size (x +ℤ pos d), one_part (x +ℤ pos d), parts (the x ⊞ the (pos d)), parts (⊖ the (pos L)), one_part (neg_ℤ (pos L))))
+  inside_entry x (pos (suc zero)) h k a b = rw (plus_size x) (inside_sum (pos 1 *ℤ x) a b)
   inside_entry x (pos (suc (suc m))) h k a b = absurd (omega arith)
-  inside_entry x (negsuc zero) h k a b =
-      let e : negsuc 0 *ℤ x ≡ neg_ℤ x = minus_one_times x in
-      let a' = rw (e, excess_parts (neg_ℤ (pos L)) (neg_ℤ x)) at a in
-      let b' = rw (e, excess_parts (pos (suc L)) (neg_ℤ x)) at b in
-      rw (times_minus_one (pos d))
-      (omega (arith, parts_size (x -ℤ pos d), one_part (x -ℤ pos d), parts (the x ⊟ the (pos d)), parts (⊖ the (pos L)), parts (⊖ the x), one_part (neg_ℤ (pos L))))
+  inside_entry x (negsuc zero) h k a b = rw (minus_size x) (inside_sum (negsuc 0 *ℤ x) a b)
   inside_entry x (negsuc (suc m)) h k a b = absurd (omega arith)
 
 -- ---- all entries
@@ -83,7 +92,7 @@ unfolding end_within
 stop_bound L n s z zero = omega arith
 stop_bound L n s z (suc m) = omega (arith, stop_bound L n s z m)
 
-module _ (L n : ℕ) (s z : List ℤ) (signs : (e : ℕ) → nat_abs (get_or z e (pos 0)) ≤ 1) where
+module _ (L n : ℕ) (s z : List ℤ) (signs : Small 1 z) where
   abbrev pub moves : ℕ → ℕ → ℤ
   moves d e = get_or s e (pos 0) +ℤ pos d *ℤ get_or z e (pos 0)
 
@@ -107,14 +116,10 @@ module _ (L n : ℕ) (s z : List ℤ) (signs : (e : ℕ) → nat_abs (get_or z e
   module _ (long : length z ≡ length s) where
     -- a multiple is within the bounds where each of its entries is
     pub within_entries : (d : ℕ) → within L (with_cycle s (pos d) z) ≡ true → (e : ℕ) → e < length s → nat_abs (moves d e) ≤ L
-    unfolding within
-    within_entries d t e k =
-        rw (added_at s (pos d) z e long) at (leb-true _ L (all_at (λ x. leb (nat_abs x) L) (pos 0) (with_cycle s (pos d) z) t e (omega (arith, added_length s (pos d) z))))
+    within_entries d t e k = rw (added_at s (pos d) z e long) at (within_at L (with_cycle s (pos d) z) t e (omega (arith, added_length s (pos d) z)))
 
     pub entries_within : (d : ℕ) → ((e : ℕ) → e < length s → nat_abs (moves d e) ≤ L) → within L (with_cycle s (pos d) z) ≡ true
-    unfolding within
-    entries_within d h =
-        at_all (λ x. leb (nat_abs x) L) (pos 0) (with_cycle s (pos d) z) (λ e k. le-leb _ L (rw (added_at s (pos d) z e long) (h e (omega (arith, added_length s (pos d) z)))))
+    entries_within d h = at_within L (with_cycle s (pos d) z) (λ e k. rw (added_at s (pos d) z e long) (h e (omega (arith, added_length s (pos d) z))))
 
     within_span : (d : ℕ) → d < n → within L (with_cycle s (pos d) z) ≡ (leb (first_within L n s z (length s)) d && ltb d (end_within L n s z (length s)))
     within_span d h =

@@ -1,7 +1,7 @@
 -- The tests and numbers by which a block is narrowed, as the code finds them.
 use Prim.Native.Nat.{ℕ, zero, suc, ◌+◌, ◌-◌, ◌^◌, ◌≤◌, min, max}
 use mathlib.Core.List.{List}
-use mathlib.Core.Bool.{true, false}
+use mathlib.Core.Bool.{Bool, true, false}
 use mathlib.Core.Path.{◌≡◌, refl, sym, ◌∙◌, ap}
 use native.Mathlib.Omega.{arith}
 use native.Mathlib.Numerals.{add-one}
@@ -24,31 +24,42 @@ use Rattle.walker.proofs.Interval.{stop_bound}
 use Rattle.walker.proofs.BlockRows.{rows_none}
 
 -- ---- how far one number is above another
+-- a number as the machine reads it
+abbrev read : ℤ → ℤ
+read x = to_z w32 (of_z w32 x)
+
 not_negative : (z : ℤ) → negative z ≡ 0 → T (non_neg z)
 unfolding negative
 not_negative (pos n) h = tt
 not_negative (negsuc n) h = absurd (omega arith)
 
 module _ (a b : ℤ) (small : nat_abs a ≤ 2 ^ 24) (small' : nat_abs b ≤ 2 ^ 24) where
-  pub difference_fits : SFits w32 (a -ℤ b)
-  difference_fits = size_fits w32 (a -ℤ b) (omega (arith, size_difference a b))
-
-  pub difference_back : to_z w32 (of_z w32 (a -ℤ b)) ≡ a -ℤ b
+  pub difference_back : read (a -ℤ b) ≡ a -ℤ b
   difference_back = small_back (a -ℤ b) (omega (arith, size_difference a b))
 
-  pub difference_casts : lt_z b a ≡ true → T (non_neg (a -ℤ b)) × Fits w64 (nat_abs (a -ℤ b))
-  difference_casts h = (
-    not_negative (a -ℤ b) (omega (arith, test_less b a h, one_part (a -ℤ b), parts (the a ⊟ the b))),
-    record { fits = omega (arith, size_difference a b) },
-  )
+  difference_read : read a -ℤ read b ≡ a -ℤ b
+  difference_read = rw (small_back a (omega arith), small_back b (omega arith))
 
-pub excess_some : (a b : ℤ) → lt_z b a ≡ true → nat_abs (a -ℤ b) ≡ excess a b
-unfolding excess
-excess_some a b h = rw h
+  test_read : {t : Bool} → lt_z (read b) (read a) ≡ t → lt_z b a ≡ t
+  test_read h = rw (small_back a (omega arith), small_back b (omega arith)) at h
 
-pub excess_none : (a b : ℤ) → lt_z b a ≡ false → 0 ≡ excess a b
-unfolding excess
-excess_none a b h = rw h
+  pub difference_fits : SFits w32 (read a -ℤ read b)
+  difference_fits = rw difference_read (size_fits w32 (a -ℤ b) (omega (arith, size_difference a b)))
+
+  pub difference_casts : lt_z (read b) (read a) ≡ true → T (non_neg (read (read a -ℤ read b))) × Fits w64 (nat_abs (read (read a -ℤ read b)))
+  difference_casts h =
+      rw (difference_read, difference_back) (
+        not_negative (a -ℤ b) (omega (arith, test_less b a (test_read h), one_part (a -ℤ b), parts (the a ⊟ the b))),
+        record { fits = omega (arith, size_difference a b) },
+      )
+
+  pub excess_some : lt_z (read b) (read a) ≡ true → nat_abs (read (read a -ℤ read b)) ≡ excess a b
+  unfolding excess
+  excess_some h = rw (difference_read, difference_back, test_read h)
+
+  pub excess_none : lt_z (read b) (read a) ≡ false → 0 ≡ excess a b
+  unfolding excess
+  excess_none h = rw (test_read h)
 
 -- ---- a span narrowed by one entry
 module _ (L n : ℕ) (x s : ℤ) (span : Span) (bound : span.to ≤ n) where

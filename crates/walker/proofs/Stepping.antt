@@ -1,14 +1,14 @@
 -- What the code of the steps asks of tables and values, and what each turn does.
 use Prim.Native.Nat.{ℕ, zero, suc, ◌+◌, ◌-◌, ◌*◌, ◌^◌, ◌≤◌, ◌<◌}
 use mathlib.Core.List.{List}
-use mathlib.Core.Bool.{true, false}
-use mathlib.Core.Path.{◌≡◌, sym, ap, ap₂, ◌∙◌}
+use mathlib.Core.Bool.{Bool, true, false}
+use mathlib.Core.Path.{◌≡◌, sym, ap₂, ◌∙◌}
 use native.Mathlib.Omega.{arith}
 use native.Mathlib.Numerals.{add-one}
 use native.Mathlib.Decide.{dec_lt}
 use lib.IntN.{ℤ, pos, neg_ℤ, nat_abs, ◌*ℤ◌}
 use lib.Signed.{lt_z}
-use lib.ListN.{get_or, length, get_or-eq_default}
+use lib.ListN.{get_or, length, take, drop, get_or-eq_default}
 use mir.Syntax.{w32}
 use mir.Val.{to_z, of_z}
 use Rattle.std.proofs.lemmas.Int.{to_z_pos}
@@ -16,7 +16,7 @@ use Rattle.mathematics.proofs.Signed.{size_sum, size_sign, size_neg, small_back}
 use Rattle.cycles.specs.Cycles.{row, with_cycle}
 use Rattle.walker.specs.Walker.{sum_of_cycles, counted_up, stepped}
 use Rattle.walker.specs.Steps.{Small, Addable, CyclesFit}
-use Rattle.cycles.proofs.Adding.{added_at}
+use Rattle.cycles.proofs.Adding.{added_length, added_at}
 use Rattle.cycles.proofs.Rows.{row_at, row_length}
 
 pub added_small : (s : List ℤ) (t : ℤ) (z : List ℤ) (B T : ℕ) → length z ≡ length s → Small B s → nat_abs t ≤ T → Small 1 z → Small (B + T) (with_cycle s t z)
@@ -35,20 +35,54 @@ module _ (m n L : ℕ) (cycles : List ℤ) (fit : CyclesFit m n L cycles) where
       go (yes l) = rw (row_at m fit.edges_few cycles j e l) (fit.signs (63 * j + e))
       go (no l) = rw (get_or-eq_default (row m cycles j) (pos 0) {n = e} (omega (arith, cycle_long j h))) (omega arith)
 
-  pub cycle_addable : (j : ℕ) → j < n → (s : List ℤ) (t : ℤ) → length s ≡ m → Small (2 ^ 24) s → nat_abs t ≤ 2 ^ 24 → Addable s t (row m cycles j)
-  cycle_addable j h s t long values few =
-      let inside : j < 63 = omega (arith, fit.free_few) in
-      record { sized = cycle_long j inside ∙ sym long; values = values; times = few; signs = cycle_signs j inside }
+-- ---- turns of a loop, each of which takes a cycle away at most 2 L times
+-- the values after j turns
+pub record Turned (m j : ℕ) (s : List ℤ) : Type 0 where
+  pub sized : length s ≡ m
+  pub small : Small (2 ^ 20 + j * 2000) s
 
--- the part of a table of cycles that is a row
+-- the part of a table of cycles that the code takes is a row
 pub row_part : (j m : ℕ) → 63 * j + m - 63 * j ≡ m
 row_part j m = omega arith
 
-pub back_small : (L : ℕ) → L ≤ 1000 → nat_abs (neg_ℤ (pos (2 * L))) ≤ 2000
-back_small L h = omega (arith, size_neg (pos (2 * L)))
+abbrev part : ℕ → List ℤ → ℕ → List ℤ
+part m cycles j = take (63 * j + m - 63 * j) (drop (63 * j) cycles)
 
-pub low_small : (L : ℕ) → L ≤ 1000 → nat_abs (neg_ℤ (pos L)) ≤ 1000
-low_small L h = omega (arith, size_neg (pos L))
+module _ {m n L j : ℕ} {cycles s : List ℤ} (fit : CyclesFit m n L cycles) (here : j < n) (h : Turned m j s) where
+  inside : j < 63
+  inside = omega (arith, fit.free_few)
+
+  -- whether a value is below L, as the machine compares them
+  pub below_top : {i e : ℕ} {b : Bool} → i ≡ e → lt_z (to_z w32 (of_z w32 (get_or s i (pos 0)))) (to_z w32 L) ≡ b → lt_z (get_or s e (pos 0)) (pos L) ≡ b
+  below_top {i} is test =
+      rw (← is)
+      (sym (ap₂ lt_z (small_back (get_or s i (pos 0)) (omega (arith, h.small i, inside))) (to_z_pos w32 L (omega (arith, fit.truncation)))) ∙ test)
+
+  -- one turn more: the j-th cycle is added -K times, r in the code
+  module _ {K : ℕ} {r : ℤ} (is : r ≡ neg_ℤ (pos K)) (few : K ≤ 2 * L) where
+    abbrev z : List ℤ
+    z = row m cycles j
+
+    long : length z ≡ length s
+    long = cycle_long m n L cycles fit j inside ∙ sym h.sized
+
+    signs : Small 1 z
+    signs = cycle_signs m n L cycles fit j inside
+
+    size : nat_abs (neg_ℤ (pos K)) ≤ 2000
+    size = omega (arith, size_neg (pos K), fit.truncation)
+
+    back : to_z w32 (of_z w32 r) ≡ neg_ℤ (pos K)
+    back = rw is (small_back (neg_ℤ (pos K)) (omega (arith, size)))
+
+    pub turn_may : Addable s (to_z w32 (of_z w32 r)) (part m cycles j)
+    turn_may = rw (row_part j m, back) (record { sized = long; values = λ e. omega (arith, h.small e, inside); times = omega (arith, size); signs = signs })
+
+    pub turn_made : {new : List ℤ} → new ≡ with_cycle s (to_z w32 (of_z w32 r)) (part m cycles j) → (new ≡ with_cycle s (neg_ℤ (pos K)) z) × Turned m (j + 1) new
+    turn_made added =
+        let made = rw (row_part j m, back) at added in
+        let values = added_small s (neg_ℤ (pos K)) z (2 ^ 20 + j * 2000) 2000 long h.small size signs in
+        (made, rw made (record { sized = added_length s (neg_ℤ (pos K)) z ∙ h.sized; small = λ e. omega (arith, values e) }))
 
 -- ---- from zeros to the lowest candidate
 pub combined_next : (cycle : ℕ → List ℤ) (x : ℕ → ℤ) (p : List ℤ) (j : ℕ) → sum_of_cycles cycle x p (j + 1) ≡ with_cycle (sum_of_cycles cycle x p j) (x j) (cycle j)
@@ -56,10 +90,6 @@ unfolding sum_of_cycles
 combined_next cycle x p j = rw (add-one j)
 
 -- ---- one digit of a step
--- whether a value is below L, as the machine compares them
-pub below_top : (s : List ℤ) (L i e : ℕ) → i ≡ e → nat_abs (get_or s i (pos 0)) < 2 ^ 31 → L ≤ 1000 → lt_z (to_z w32 (of_z w32 (get_or s i (pos 0)))) (to_z w32 L) ≡ lt_z (get_or s e (pos 0)) (pos L)
-below_top s L i e is small few = ap₂ lt_z (small_back (get_or s i (pos 0)) small ∙ ap (λ k. get_or s k (pos 0)) is) (to_z_pos w32 L (omega (arith, few)))
-
 module _ (free : List ℕ) (cycle : ℕ → List ℤ) (L n j : ℕ) (s : List ℤ) where
   pub step_here : j < n → lt_z (get_or s (get_or free j 0) (pos 0)) (pos L) ≡ true → stepped free cycle L (n - j) j s ≡ with_cycle s (pos 1) (cycle j)
   unfolding stepped counted_up

@@ -19,6 +19,7 @@ use Rattle.complex.specs.Judge.{Accepted}
 use Rattle.gauss_law.specs.Listing.{free_edges, values, listing}
 use Rattle.cycles.specs.Cycles.{with_cycle, Tables}
 use Rattle.walker.specs.Walker.{counted_up, stepped, block, width, walked, walked_states}
+use Rattle.walker.specs.Steps.{Small}
 use Rattle.mathematics.proofs.Pasted.{entry_set}
 use Rattle.walker.proofs.Counter.{moved, up_from, up, up_later, up_length, value, after, after_length, counted_steps}
 use Rattle.walker.proofs.Candidates.{Chosen, added_chosen, stepped_chosen, within, candidate, chosen_candidate, states_kept}
@@ -33,9 +34,6 @@ added_none (x ∷ s) [] = refl
 added_none (x ∷ s) (y ∷ z) = rw (zero-*ℤ y, +ℤ_idr x, added_none s z)
 
 -- ---- digits from -L to L
-abbrev Small : ℕ → List ℤ → Type 0
-Small L xs = (i : ℕ) → nat_abs (get_or xs i (pos 0)) ≤ L
-
 lowest_small : (L n : ℕ) → Small L (replicate n (value L zero))
 unfolding positive negative
 lowest_small L zero i = omega arith
@@ -171,11 +169,11 @@ module _ (c : Complex) (accepted : Accepted c) (q : ℕ → ℤ) (charges : sum_
   walked_digits zero = record { digits = replicate (length (free_edges c)) (value L zero); number = length-replicate (length (free_edges c)) (value L zero); small = lowest_small L (length (free_edges c)); chosen = lowest }
   walked_digits (suc k) = stepped_digits (walked free cycle L (length (free_edges c)) s k) (walked_digits k)
 
-  pub walked_small : (p : List ℤ) (B : ℕ) → Chosen c q (replicate (length (free_edges c)) (pos 0)) p → ((e : ℕ) → nat_abs (get_or p e (pos 0)) ≤ B)
-      → (k e : ℕ) → nat_abs (get_or (walked free cycle L (length (free_edges c)) s k) e (pos 0)) ≤ B + length (free_edges c) * L
-  walked_small p B start b k e =
+  pub walked_small : (p : List ℤ) (B : ℕ) → Chosen c q (replicate (length (free_edges c)) (pos 0)) p → Small B p
+      → (k : ℕ) → Small (B + length (free_edges c) * L) (walked free cycle L (length (free_edges c)) s k)
+  walked_small p B start b k =
       let r = walked_digits k in
-      chosen_small c q free cycle tables p start (accepted_tree c accepted) B L b r.digits _ (λ j h. r.small j) r.chosen e
+      chosen_small c q free cycle tables p start (accepted_tree c accepted) B L b r.digits _ r.small r.chosen
 
   pub walked_long : (k : ℕ) → length (walked free cycle L (length (free_edges c)) s k) ≡ length c.edges
   walked_long k = (walked_digits k).chosen.sized
