@@ -2,10 +2,7 @@ pub mod EdgeLists
 pub mod Raising
 pub mod Between
 pub mod Sides
-pub mod RunRows
-pub mod RunRoom
-pub mod Walked
-pub mod Turns
-pub mod Turn
-pub mod OneRun
 pub mod Written
+pub mod RunRows
+pub mod Walked
+pub mod OneRun

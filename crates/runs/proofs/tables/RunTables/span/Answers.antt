@@ -15,7 +15,7 @@ span_over-requires c =
     )
 
 pub returns-then-all_within : goal.returns-then-all_within
-returns-then-all_within c = side_span _ _ _ c.requires.4 _ _ _ _ _ c.requires.1 (c.all_within.ensures.all c.if-all_within.true) _ c.span_over.ensures
+returns-then-all_within c = side_span c.requires.4 c.requires.1 (c.all_within.ensures.all c.if-all_within.true) c.span_over.ensures
 
 pub returns : goal.returns
-returns c = side_none _ _ _ c.requires.4 _ _ _ _ _ c.requires.1 (c.all_within.ensures.some c.if-all_within.false)
+returns c = side_none (c.all_within.ensures.some c.if-all_within.false)
