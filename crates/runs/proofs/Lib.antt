@@ -1,8 +1,9 @@
 pub mod EdgeLists
-pub mod Raising
+pub mod Added
 pub mod Between
-pub mod Sides
 pub mod Written
+pub mod Raising
+pub mod Sides
 pub mod RunRows
 pub mod Walked
 pub mod OneRun

@@ -1,54 +1,31 @@
 -- The states of a run, one block more.
 use Prim.Native.Nat.{ℕ, ◌+◌, ◌-◌, ◌*◌, ◌^◌, ◌≤◌, ◌<◌}
-use mathlib.Core.List.{List, [], ◌∷◌, ◌++◌, append_assoc, flatten}
+use mathlib.Core.List.{List, ◌++◌, flatten}
 use mathlib.Core.Path.{◌≡◌, refl, sym, ap, ◌∙◌}
 use native.Mathlib.Omega.{arith}
 use native.Mathlib.Nat.{mul-le-mul, mul-le-mul_right, add-mul}
-use lib.IntN.{ℤ, pos, neg_ℤ, nat_abs, ◌+ℤ◌, ◌*ℤ◌}
+use lib.IntN.{ℤ, pos, neg_ℤ, nat_abs}
 use mir.Syntax.{w32}
 use mir.Val.{to_z}
 use Rattle.std.proofs.lemmas.Int.{to_z_pos}
-use lib.ListN.{length, take, drop, length-append, take-append-drop}
-use lib.Seq.{length-take-le}
+use lib.ListN.{length, length-append}
 use Rattle.mathematics.specs.Writing.{put}
-use Rattle.mathematics.proofs.Integers.{positive, negative, linear, the, ◌⊞◌, ⊖◌, sum_times}
 use Rattle.cycles.specs.Cycles.{with_cycle}
 use Rattle.cycles.proofs.Adding.{added_length}
 use Rattle.walker.specs.declared.blocks.Span.{Span}
 use Rattle.walker.specs.Walker.{block, block_rows}
 use Rattle.walker.specs.Steps.{Small, Addable}
 use Rattle.walker.specs.Blocks.{SpanTo, WrittenAt}
-use Rattle.walker.proofs.BlockRows.{rows_none, rows_length}
-use Rattle.walker.proofs.Walk.{added_none}
+use Rattle.walker.proofs.BlockRows.{rows_length}
 use Rattle.runs.specs.Edges.{Edges, picked}
 use Rattle.runs.specs.Rows.{RowsBefore}
 use Rattle.runs.specs.Runs.{run_states, RunFit, Inside}
 use Rattle.runs.proofs.Between.{between_next, between_split}
 use Rattle.runs.proofs.Sides.{run_few, run_flat}
 use Rattle.runs.proofs.EdgeLists.{lists_span}
+use Rattle.runs.proofs.Added.{once_more, taken_off}
+use Rattle.runs.proofs.Raising.{behind}
 use Rattle.runs.proofs.Written.{more_written}
-
--- ---- the second cycle once more, and once less
-pub added_sum : (s : List ℤ) (a b : ℤ) (y : List ℤ) → with_cycle (with_cycle s a y) b y ≡ with_cycle s (a +ℤ b) y
-unfolding with_cycle positive negative
-added_sum [] a b y = refl
-added_sum (x ∷ s) a b [] = refl
-added_sum (x ∷ s) a b (v ∷ y) =
-    let e : (x +ℤ a *ℤ v) +ℤ b *ℤ v ≡ x +ℤ (a +ℤ b) *ℤ v = rw (sum_times a b v) (linear (the x ⊞ the (a *ℤ v) ⊞ the (b *ℤ v)) (the x ⊞ (the (a *ℤ v) ⊞ the (b *ℤ v))) (omega arith)) in
-    rw (e, added_sum s a b y)
-
-pub once_more : (s y : List ℤ) (i : ℕ) → with_cycle (with_cycle s (pos i) y) (pos 1) y ≡ with_cycle s (pos (i + 1)) y
-unfolding positive negative
-once_more s y i =
-    let e : pos i +ℤ pos 1 ≡ pos (i + 1) = linear (the (pos i) ⊞ the (pos 1)) (the (pos (i + 1))) (omega arith) in
-    added_sum s (pos i) (pos 1) y ∙ rw e
-
--- what was added is taken off again
-pub added_back : (s y : List ℤ) (k : ℕ) → with_cycle (with_cycle s (pos k) y) (neg_ℤ (pos k)) y ≡ s
-unfolding positive negative
-added_back s y k =
-    let e : pos k +ℤ neg_ℤ (pos k) ≡ pos 0 = linear (the (pos k) ⊞ ⊖ the (pos k)) (the (pos 0)) (omega arith) in
-    added_sum s (pos k) (neg_ℤ (pos k)) y ∙ rw e (added_none s y)
 
 pub row_next : (s y row next : List ℤ) (i : ℕ) → row ≡ with_cycle s (pos i) y → next ≡ with_cycle row (pos 1) y → next ≡ with_cycle s (pos (i + 1)) y
 row_next s y row next i begins goes = goes ∙ rw begins (once_more s y i)
@@ -108,24 +85,4 @@ module _ {L n : ℕ} {s z y : List ℤ} {span : Span} {i : ℕ} {p : Span} (more
 -- the next block begins at next
 pub rows_behind : (list new row next z y : List ℤ) (at count size m : ℕ) (p : Span) → at + count * m ≤ length list → new ≡ put list (at + count * m) (flatten (block_rows row z p.from p.to)) → length row ≡ m → next ≡ with_cycle row (pos 1) y → size ≡ p.to - p.from
     → RowsBefore new (at + (count + size) * m) (with_cycle next (neg_ℤ (pos 1)) y) z p
-unfolding put
-rows_behind list new row next z y at count size m p room made long goes is =
-    rw (goes, added_back row y 1)
-    (record {
-      head = take (at + count * m) list;
-      tail = drop (at + count * m + length (flatten (block_rows row z p.from p.to))) list;
-      is = made ∙ append_assoc (take (at + count * m) list) (flatten (block_rows row z p.from p.to)) _;
-      ends = rw (long, ← is) (omega (arith, length-take-le (at + count * m) list room, add-mul count size m));
-    })
-
--- before the first block
-pub none_behind : (list : List ℤ) (at : ℕ) (s z : List ℤ) → at ≤ length list → RowsBefore list at s z (record { from = 0; to = 0 })
-unfolding flatten
-none_behind list at s z room =
-    let none : 0 - 0 ≡ 0 = omega arith in
-    record {
-      head = take at list;
-      tail = drop at list;
-      is = sym (rw (rows_none s z 0 0 none) (take-append-drop at list));
-      ends = omega (arith, length-take-le at list room);
-    }
+rows_behind list new row next z y at count size m p room made long goes is = rw (goes, taken_off row y (pos 1)) (behind list (at + count * m) room made (rw (long, ← is) (omega (arith, add-mul count size m))))

@@ -19,7 +19,7 @@ use Rattle.walker.proofs.Stepping.{cycle_long, cycle_signs, step_here, step_on, 
 use Rattle.walker.proofs.Walk.{added_none}
 use Rattle.runs.specs.Runs.{run_states, RunFit}
 use Rattle.runs.proofs.Between.{between_none, between_next}
-use Rattle.runs.proofs.RunRows.{once_more, added_back}
+use Rattle.runs.proofs.Added.{once_more, taken_off}
 
 -- a block has candidates
 pub width_positive : (L n : ℕ) → 0 < width L n
@@ -102,7 +102,7 @@ module _ {free : List ℕ} {cycles : List ℤ} {L n : ℕ} {s : List ℤ} {left 
   behind_run some =
       let t = with_cycle s (pos (2 * L)) (cycle 1) in
       let on = step_on free cycle L n 1 t some (ap (λ x. lt_z x (pos L)) (second_digit some (2 * L)) ∙ at_top L) in
-      walked_next free cycle L n s (2 * L) ∙ ap (stepped free cycle L (n - 1) 1) (in_run some (2 * L) (omega arith)) ∙ on ∙ ap (stepped free cycle L (n - 2) 2) (added_back s (cycle 1) (2 * L))
+      walked_next free cycle L n s (2 * L) ∙ ap (stepped free cycle L (n - 1) 1) (in_run some (2 * L) (omega arith)) ∙ on ∙ ap (stepped free cycle L (n - 2) 2) (taken_off s (cycle 1) (pos (2 * L)))
 
   abbrev wide : ℕ
   wide = width L (n - 1)

@@ -7,16 +7,17 @@ use Rattle.mathematics.proofs.Puts.{put_none, put_more}
 use Rattle.mathematics.proofs.Flat.{flatten_append}
 use Rattle.walker.specs.Blocks.{WrittenAt, StatesWritten}
 
+-- what is written right behind another list stands behind it
+pub put_behind : (old s t : List ℤ) (at : ℕ) {list new whole : List ℤ} {place : ℕ} → list ≡ put old at s → place ≡ at + length s → place ≤ length old → new ≡ put list place t → whole ≡ s ++ t → new ≡ put old at whole
+put_behind old s t at is here room made all = made ∙ rw (is, here, all) (put_more old at s t (omega arith))
+
 pub none_written : {states : List (List ℤ)} (d : List ℤ) (at : ℕ) → states ≡ [] → WrittenAt states d d at 0
 unfolding flatten
 none_written d at none = rw none (record { count = refl; list = sym (put_none d at) })
 
 pub more_written : {a b : List (List ℤ)} {old list new : List ℤ} {at number place more : ℕ} → WrittenAt a old list at number → place ≡ at + length (flatten a) → place ≤ length old → WrittenAt b list new place more → WrittenAt (a ++ b) old new at (number + more)
-more_written {a} {b} {old} {list} {new} {at} one here room two =
-    record {
-      count = omega (arith, one.count, two.count, length-append a b);
-      list = two.list ∙ rw (one.list, here) (put_more old at (flatten a) (flatten b) (omega arith)) ∙ ap (put old at) (sym (flatten_append a b));
-    }
+more_written {a} {b} {old} {at = at} one here room two =
+    record { count = omega (arith, one.count, two.count, length-append a b); list = put_behind old (flatten a) (flatten b) at one.list here room two.list (flatten_append a b) }
 
 -- ---- all states of a walk
 -- so many of all states, of m entries each, stand in a list that was another, and these are the rest

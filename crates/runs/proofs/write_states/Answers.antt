@@ -36,7 +36,7 @@ write-count-requires c =
       asks.1,
       asks.2,
       rw c.of.ensures.second c.rows_beside-beside.ensures,
-      beside_one _ _ _ (first_long (cycles_here _ _ _ c.requires.0)) c.rows_beside-ahead.ensures ∙ sym c.of.ensures.first,
+      beside_one (first_long (cycles_here _ _ _ c.requires.0)) c.rows_beside-ahead.ensures ∙ sym c.of.ensures.first,
       rw now.underway.sized c.rows_at_once-rows.ensures.0,
       rw (now.underway.sized, now.long) (room_for now.so_far _ few c.requires.1),
     )

@@ -2,7 +2,8 @@ use Rattle.std.proofs.Common.{◌≡◌, ◌<◌, ◌≤◌, refl, sym, ◌∙�
 use Rattle.walker.proofs.Walk.{added_none}
 use Rattle.runs.proofs.Between.{between_none}
 use Rattle.runs.proofs.EdgeLists.{edges_listed}
-use Rattle.runs.proofs.RunRows.{may_add, row_small, turn, next_room, row_room, turn_written, row_next, none_behind, rows_behind}
+use Rattle.runs.proofs.RunRows.{may_add, row_small, turn, next_room, row_room, turn_written, row_next, rows_behind}
+use Rattle.runs.proofs.Raising.{none_behind}
 use Rattle.runs.proofs.Written.{none_written}
 use Rattle.runs.proofs.tables.RunTables.write.Goals as goal
 
