@@ -1,5 +1,5 @@
 -- A block narrowed by the edges that its cycle moves, where the others are within the bounds.
-use Prim.Native.Nat.{ℕ, ◌+◌, ◌≤◌, ◌<◌}
+use Prim.Native.Nat.{ℕ, ◌+◌, ◌^◌, ◌≤◌, ◌<◌}
 use mathlib.Core.List.{List, [], ◌∷◌, ◌++◌}
 use mathlib.Core.Bool.{Bool, true, false, cond}
 use mathlib.Core.Path.{◌≡◌, refl, sym, ap, ◌∙◌}
@@ -19,18 +19,20 @@ use Rattle.mathematics.proofs.Ordered.{each_at, keep_each, keep_passes, keep_mem
 use Rattle.cycles.specs.Cycles.{with_cycle}
 use Rattle.walker.specs.declared.blocks.Span.{Span}
 use Rattle.walker.specs.Walker.{block, block_rows}
-use Rattle.walker.specs.Steps.{Small}
-use Rattle.walker.specs.Blocks.{SpanTo, SpanOfBlock}
+use Rattle.walker.specs.Steps.{Small, Addable}
+use Rattle.walker.specs.Blocks.{Narrowed, SpanTo, SpanOfBlock}
 use Rattle.numbers.specs.declared.edge_list.EdgeList.{EdgeList}
 use Rattle.runs.specs.Kinds.{listed, EdgesIn}
 use Rattle.runs.specs.Edges.{kind, of_kind, Edges, Listed, picked}
-use mir.Syntax.{w8}
-use mir.Val.{of_z}
+use lib.Signed.{mag}
+use mir.Syntax.{w8, w32}
+use mir.Val.{to_z, of_z}
 use Rattle.std.proofs.Common.{FitsSigned}
-use Rattle.mathematics.proofs.Signed.{zero8}
+use Rattle.mathematics.proofs.Signed.{zero8, back32, small_back}
+use Rattle.walker.proofs.Adding.{sign_back, entry_added}
 use Rattle.walker.proofs.Candidates.{within}
 use Rattle.walker.proofs.Interval.{moves, inside_span, span_inside, within_entries, entries_within, rows_by_tests}
-use Rattle.walker.proofs.Narrowing.{span_bound}
+use Rattle.walker.proofs.Narrowing.{span_bound, span_more}
 
 -- ---- the lists are made edge by edge
 -- a list that holds the edges of one kind among the first e
@@ -141,6 +143,18 @@ module _ (L n : ℕ) (s z : List ℤ) (signs : Small 1 z) (list : List ℕ) (cou
   stay_inside d h stay =
       let i = inside_span L n (picked list count s) (picked list count z) (picked_small list count z room 1 signs) d count h (λ q l. rw (picked_at list count s room q l, picked_at list count z room q l) (stay q l)) in
       (omega (arith, narrowed.from, i.0), omega (arith, narrowed.to, i.1))
+
+-- in the machine: a listed value with y added to it t times, and the span that it narrows further
+module _ {s y : List ℤ} {t u : ℤ} (may : Addable s t y) (back : u ≡ t) (e : ℕ) {r : ℤ} (fits : mag r < 2 ^ 31) (is : r ≡ to_z w32 (of_z w32 (get_or s e (pos 0))) +ℤ u *ℤ to_z w8 (of_z w8 (get_or y e (pos 0)))) where
+  pub value_back : to_z w32 (of_z w32 r) ≡ get_or (with_cycle s t y) e (pos 0)
+  value_back = back32 r fits ∙ entry_added may e (small_back (get_or s e (pos 0)) (omega (arith, may.values e))) back is
+
+  pub edge_narrows : {L n : ℕ} (z : List ℤ) → Small 1 z → (list : List ℕ) {q : ℕ} → q < length list → e ≡ get_or list q 0 → {old new : Span} → Narrowed L n (to_z w32 (of_z w32 r)) (to_z w8 (of_z w8 (get_or z e (pos 0)))) old new
+      → SpanTo L n (picked list (length list) (with_cycle s u y)) (picked list (length list) z) q old → SpanTo L n (picked list (length list) (with_cycle s u y)) (picked list (length list) z) (q + 1) new
+  edge_narrows {L} {n} z signs list {q} inside here {old} {new} narrowed so_far =
+      let all : length list ≤ length list = omega arith in
+      let listed = rw (value_back, sign_back (get_or z e (pos 0)) (signs e), here, ← (picked_at list (length list) (with_cycle s t y) all q inside), ← (picked_at list (length list) z all q inside)) at narrowed in
+      rw back (span_more L n (picked list (length list) (with_cycle s t y)) (picked list (length list) z) q old new (rw back at so_far) listed)
 
 -- ---- what a kind says
 module _ (z y : List ℤ) (e : ℕ) where

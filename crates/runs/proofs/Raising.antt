@@ -40,11 +40,11 @@ use Rattle.runs.proofs.Written.{put_behind}
 
 -- ---- a list again and again
 module _ (s : List ℤ) where
-  pub repeated_next : (n : ℕ) → repeated s (n + 1) ≡ repeated s n ++ s
+  repeated_next : (n : ℕ) → repeated s (n + 1) ≡ repeated s n ++ s
   unfolding repeated
   repeated_next n = rw (add-one n)
 
-  pub repeated_long : (n : ℕ) → length (repeated s n) ≡ n * length s
+  repeated_long : (n : ℕ) → length (repeated s n) ≡ n * length s
   unfolding repeated
   repeated_long zero = omega arith
   repeated_long (suc n) = omega (arith, length-append (repeated s n) s, repeated_long n)
@@ -64,17 +64,27 @@ module _ (s : List ℤ) where
       ∙ take_at (repeated s r) (repeated s (k - r) ++ rest) (r * length s) (repeated_long r)
 
 -- ---- what is added to rows: a cycle again and again, each time added to zeros
-pub zero_part : (m : ℕ) → m ≤ 63 → take (m - 0) (replicate 63 (pos 0)) ≡ replicate m (pos 0)
-zero_part m few = rw (sub-zero m) (zero_row 63 m 0 few (omega arith))
+pub zero_part : {m : ℕ} → m ≤ 63 → take (m - 0) (replicate 63 (pos 0)) ≡ replicate m (pos 0)
+zero_part {m} few = rw (sub-zero m) (zero_row 63 m 0 few (omega arith))
 
-pub zeros_addable : {y : List ℤ} {zeros : List ℤ} → zeros ≡ replicate (length y) (pos 0) → Small 1 y → Addable zeros (pos 0) y
-zeros_addable {y} is signs =
-    rw is (record { sized = sym (length-replicate (length y) (pos 0)); values = λ e. rw (zeros_at (length y) e) (omega arith); times = omega arith; signs = signs })
-
-pub added_to_zeros : (y : List ℤ) → with_cycle (replicate (length y) (pos 0)) (pos 1) y ≡ y
+added_to_zeros : (y : List ℤ) → with_cycle (replicate (length y) (pos 0)) (pos 1) y ≡ y
 unfolding with_cycle
 added_to_zeros [] = refl
 added_to_zeros (x ∷ y) = rw (*ℤ_comm (pos 1) x, times_one x, +ℤ_idl x, added_to_zeros y)
+
+module _ (y : List ℤ) {zeros : List ℤ} (is : zeros ≡ replicate (length y) (pos 0)) where
+  pub zeros_addable : Small 1 y → Addable zeros (pos 0) y
+  zeros_addable signs =
+      rw is (record { sized = sym (length-replicate (length y) (pos 0)); values = λ e. rw (zeros_at (length y) e) (omega arith); times = omega arith; signs = signs })
+
+  module _ {i k room : ℕ} (more : i < k) (fits : k * length y ≤ room) where
+    pub one_fits : i * length y + length zeros ≤ room
+    one_fits =
+        let next : suc i ≤ k = omega arith in
+        omega (arith, fits, ap length is, length-replicate (length y) (pos 0), mul-le-mul_right (length y) next)
+
+    pub beside_more : (old : List ℤ) {list new : List ℤ} → room ≤ length old → list ≡ put old 0 (repeated y i) → new ≡ put list (i * length y) (with_cycle zeros (pos 1) y) → new ≡ put old 0 (repeated y (i + 1))
+    beside_more old enough so_far made = put_behind old (repeated y i) y 0 so_far (omega (arith, repeated_long y i)) (omega (arith, one_fits)) (rw (is, added_to_zeros y) at made) (repeated_next y i)
 
 pub beside_is : (old : List ℤ) {y list : List ℤ} {k : ℕ} → length list ≡ 256 → list ≡ put old 0 (repeated y k) → Beside y k list
 beside_is old {y} {k = k} long is = record { long = long; is = λ r h. ap (take (r * length y)) (is ∙ put_front old (repeated y k)) ∙ repeated_front y r k h _ }
@@ -338,8 +348,15 @@ module _ (s z y : List ℤ) (long : length y ≡ length s) where
       ∙ rw (rows_raised d r, row_raised (d + r)))
 
 -- ---- a block of which the rows from low to before high are made of those of the block before
-module _ (from to : ℕ) {s z y : List ℤ} (first : Addable s (pos 0) z) (second : Addable s (pos 0) y) {list : List ℤ} {at : ℕ} {last : Span} (stands : RowsBefore list at (with_cycle s (neg_ℤ (pos 1)) y) z last) {low high : ℕ} (begins : low ≡ max from last.from) (stops : high ≡ min to last.to)
-    (some : low < high) (enough : at + (to - from) * length s ≤ length list) where
+-- all rows have room
+module _ (from to last_from last_to at m room : ℕ) {low high : ℕ} (begins : low ≡ max from last_from) (stops : high ≡ min to last_to) (some : low < high) (enough : at + (to - from) * m ≤ room) where
+  pub first_fits : (low ≤ to) × (at + (low - from) * m ≤ room)
+  first_fits = (omega arith, omega (arith, times_split m from low to (omega arith) (omega arith)))
+
+  pub last_fits : at + (high - from) * m + (to - high) * m ≤ room
+  last_fits = omega (arith, times_split m from high to (omega arith) (omega arith))
+
+module _ (from to : ℕ) {s z y : List ℤ} (first : Addable s (pos 0) z) (second : Addable s (pos 0) y) {list : List ℤ} {at : ℕ} {last : Span} (stands : RowsBefore list at (with_cycle s (neg_ℤ (pos 1)) y) z last) {low high : ℕ} (begins : low ≡ max from last.from) (stops : high ≡ min to last.to) (some : low < high) (enough : at + (to - from) * length s ≤ length list) where
   abbrev before : ℕ
   before = (last.to - low) * length s
 

@@ -14,8 +14,9 @@ use Rattle.walker.specs.Walker.{block, first_within, end_within}
 use Rattle.walker.specs.Steps.{Small}
 use Rattle.walker.specs.Blocks.{SpanTo}
 use Rattle.walker.proofs.BlockRows.{rows_none, rows_length, rows_long}
+use Rattle.walker.proofs.BlockStates.{block_few}
 use Rattle.walker.proofs.Candidates.{within}
-use Rattle.walker.proofs.Interval.{stop_bound, within_entries}
+use Rattle.walker.proofs.Interval.{within_entries}
 use Rattle.walker.proofs.Walk.{added_none}
 use Rattle.runs.specs.Edges.{Edges, Listed, picked}
 use Rattle.runs.specs.Runs.{run_states, RunFit, Staying, SideSpan, Inside}
@@ -84,17 +85,10 @@ module _ {L n : ℕ} {s z y : List ℤ} {k : ℕ} (fit : RunFit L n s z y k) {st
   pub run_whole : run_states L n s z y 0 k ≡ run_states L n s z y r.from r.to
   run_whole = between_part (λ i. block L n (at_block i) z) k r.from r.to spans.bound sides_outside
 
--- ---- a block has no more states than candidates
+-- ---- how many states a run has, and how many entries they have
 pub run_few : (L n : ℕ) (s z y : List ℤ) (from to : ℕ) → from ≤ to → length (run_states L n s z y from to) ≤ (to - from) * n
-unfolding block
-run_few L n s z y from to h = between_few (λ i. block L n (with_cycle s (pos i) y) z) n few from to h
-  where
-    few : (i : ℕ) → length (block L n (with_cycle s (pos i) y) z) ≤ n
-    few i =
-        let t = with_cycle s (pos i) y in
-        rw (rows_length t z (first_within L n t z (length t)) (end_within L n t z (length t))) (omega (arith, stop_bound L n t z (length t)))
+run_few L n s z y from to h = between_few (λ i. block L n (with_cycle s (pos i) y) z) n (λ i. block_few L n (with_cycle s (pos i) y) z) from to h
 
--- the entries of a run's states
 pub run_flat : (L n : ℕ) (s z y : List ℤ) (from to : ℕ) → length (flatten (run_states L n s z y from to)) ≡ length (run_states L n s z y from to) * length s
 unfolding block
 run_flat L n s z y from to = between_flat (λ i. block L n (with_cycle s (pos i) y) z) (length s) each from to

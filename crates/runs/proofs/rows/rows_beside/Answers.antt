@@ -1,10 +1,7 @@
-use Rattle.std.proofs.Common.{◌≡◌, ◌*◌, ◌≤◌, refl, sym, ap, ◌∙◌, suc, replicate, pos, length, arith}
-use lib.ListN.{length-replicate}
-use Rattle.std.proofs.Math.Nat.{mul-le-mul_right}
+use Rattle.std.proofs.Common.{◌≡◌, refl, sym, ◌∙◌, replicate, pos, arith}
 use Rattle.mathematics.proofs.Puts.{put_none}
 use Rattle.runs.specs.Rows.{repeated}
-use Rattle.runs.proofs.Raising.{repeated_next, repeated_long, added_to_zeros, zero_part, zeros_addable, beside_is}
-use Rattle.runs.proofs.Written.{put_behind}
+use Rattle.runs.proofs.Raising.{zero_part, zeros_addable, one_fits, beside_more, beside_is}
 use Rattle.runs.proofs.rows.rows_beside.Goals as goal
 
 pub loop-i-init : goal.loop-i-init
@@ -13,19 +10,15 @@ loop-i-init c = record { long = refl; list = sym (put_none (replicate 256 (pos 0
 
 pub write_row-requires : goal.write_row-requires
 write_row-requires c =
-    let z = c.args.cycle.now in
-    let zeros = zero_part (length z) c.requires.2 in
-    let more : suc c.loop-i.i ≤ c.args.rows = omega arith in
-    (zeros_addable zeros c.requires.0, omega arith, omega (arith, c.requires.1, c.loop-i.invariant.long, ap length zeros, length-replicate (length z) (pos 0), mul-le-mul_right (length z) more))
+    let zeros = zero_part c.requires.2 in
+    (zeros_addable _ zeros c.requires.0, omega arith, rw c.loop-i.invariant.long (one_fits _ zeros c.loop-i-test.true c.requires.1))
 
 pub loop-i-preserved : goal.loop-i-preserved
 loop-i-preserved c =
-    let z = c.args.cycle.now in
-    let i = c.loop-i.i in
-    let more : suc i ≤ c.args.rows = omega arith in
-    let few : i * length z ≤ length (replicate 256 (pos 0)) = omega (arith, c.requires.1, mul-le-mul_right (length z) more) in
-    let made = rw (zero_part (length z) c.requires.2, added_to_zeros z) at c.write_row.ensures in
-    record { long = c.write_row.auto.states ∙ c.loop-i.invariant.long; list = put_behind _ (repeated z i) z 0 c.loop-i.invariant.list (omega (arith, repeated_long z i)) few made (repeated_next z i) }
+    record {
+      long = c.write_row.auto.states ∙ c.loop-i.invariant.long;
+      list = beside_more _ (zero_part c.requires.2) c.loop-i-test.true c.requires.1 _ (omega arith) c.loop-i.invariant.list c.write_row.ensures;
+    }
 
 pub returns : goal.returns
 returns c =
