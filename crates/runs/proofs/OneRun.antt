@@ -31,7 +31,7 @@ abbrev pub to_come : Walker → ℕ → List ℤ → ℕ → List (List ℤ)
 to_come w L s left = walked_states w.free (row (length s) w.cycles) L w.n_free s left
 
 -- ---- the whole walk
-module _ (w : Walker) (L blocks : ℕ) (fit : Fit w L blocks) where
+module _ {w : Walker} {L blocks : ℕ} (fit : Fit w L blocks) where
   pub begun : Underway w L (take w.n_edges w.first) blocks
   unfolding begin_of
   begun = record { sized = fit.sized; walkable = fit.walkable; runs = fit.runs }
@@ -97,7 +97,7 @@ module _ {w : Walker} {L blocks : ℕ} (fit : Fit w L blocks) where
 
   pub walk_tables : {kinds : Kinds} {n : ℕ} {t : RunTables} → KindsOf z y (length z) kinds → n ≡ width L w.n_free → TablesOf z y kinds L n t → TablesFor w L t
   walk_tables sorted of_n of =
-      let cycles = cycles_here w L blocks fit in
+      let cycles = cycles_here fit in
       let long = first_long cycles in
       record {
         first = of.first;

@@ -30,7 +30,7 @@ use Rattle.cycles.proofs.Rows.{zero_row}
 use Rattle.walker.specs.Walker.{block_rows}
 use Rattle.walker.specs.Steps.{Small, Addable}
 use Rattle.walker.specs.declared.blocks.Span.{Span}
-use Rattle.walker.proofs.BlockRows.{rows_none, rows_more, rows_long}
+use Rattle.walker.proofs.BlockRows.{rows_none, rows_more, rows_long, row_room}
 use Rattle.walker.proofs.Stepping.{added_small}
 use Rattle.runs.specs.Rows.{repeated, Beside, raised, Raisable, RowsBefore}
 use Rattle.runs.specs.Runs.{between}
@@ -307,9 +307,9 @@ behind {new} {s} {z} list place {end} {p} room made is =
     }
 
 -- none
-pub none_behind : (list : List ℤ) (at : ℕ) (s z : List ℤ) → at ≤ length list → RowsBefore list at s z (record { from = 0; to = 0 })
+pub none_behind : {list s z : List ℤ} {at : ℕ} → at ≤ length list → RowsBefore list at s z (record { from = 0; to = 0 })
 unfolding flatten
-none_behind list at s z room =
+none_behind {list} {s} {z} {at} room =
     let none : 0 - 0 ≡ 0 = omega arith in
     behind list at room (sym (rw (rows_none s z 0 0 none) (put_none list at))) (omega arith)
 
@@ -357,13 +357,20 @@ module _ (from to last_from last_to at m room : ℕ) {low high : ℕ} (begins : 
   last_fits = omega (arith, times_split m from high to (omega arith) (omega arith))
 
 module _ (from to : ℕ) {s z y : List ℤ} (first : Addable s (pos 0) z) (second : Addable s (pos 0) y) {list : List ℤ} {at : ℕ} {last : Span} (stands : RowsBefore list at (with_cycle s (neg_ℤ (pos 1)) y) z last) {low high : ℕ} (begins : low ≡ max from last.from) (stops : high ≡ min to last.to) (some : low < high) (enough : at + (to - from) * length s ≤ length list) where
+  earlier_long : length (with_cycle s (neg_ℤ (pos 1)) y) ≡ length s
+  earlier_long = added_length s (neg_ℤ (pos 1)) y
+
+  across : low + (high - low) ≡ high
+  across = omega arith
+
   abbrev before : ℕ
   before = (last.to - low) * length s
 
   before_at : before ≤ at
-  before_at =
-      let same = added_length s (neg_ℤ (pos 1)) y in
-      omega (arith, rw same at stands.ends, times_split (length s) last.from low last.to (omega arith) (omega arith))
+  before_at = omega (arith, rw earlier_long at stands.ends, times_split (length s) last.from low last.to (omega arith) (omega arith))
+
+  middle_few : (high - low) * length s ≤ before
+  middle_few = omega (arith, times_split (length s) low high last.to (omega arith) (omega arith))
 
   abbrev middle : ℕ
   middle = at + (low - from) * length s
@@ -391,22 +398,17 @@ module _ (from to : ℕ) {s z y : List ℤ} (first : Addable s (pos 0) z) (secon
     unfolding raised
     middle_rows =
         let source : middle - back ≡ at - before = omega (arith, back_is, before_at) in
-        let e : low + (high - low) ≡ high = omega arith in
-        let fewer = times_split (length s) low high last.to (omega arith) (omega arith) in
-        let same = added_length s (neg_ℤ (pos 1)) y in
-        let stand = rw same at (rows_standing stands low high (omega arith) (omega arith) (omega arith)) in
-        rw (amounts_long, source, is, put_before list (rows_of s z from low) at ((high - low) * length s) (at - before) (omega (arith, before_at, fewer)) (omega arith), stand) (rw e at (rows_raised s z y second.sized low (high - low)))
+        let stand = rw earlier_long at (rows_standing stands low high (omega arith) (omega arith) (omega arith)) in
+        rw (amounts_long, source, is, put_before list (rows_of s z from low) at ((high - low) * length s) (at - before) (omega (arith, before_at, middle_few)) (omega arith), stand) (rw across at (rows_raised s z y second.sized low (high - low)))
 
     pub middle_may : to ≤ 2 ^ 20 → Raisable one middle back amounts
     middle_may bound =
-        let e : low + (high - low) ≡ high = omega arith in
-        let fewer = times_split (length s) low high last.to (omega arith) (omega arith) in
         let long : length one ≡ length list = ap length is ∙ put_length list at (rows_of s z from low) (omega (arith, rows_long s z from low, middle_room)) in
         record {
           before = omega (arith, back_is, before_at);
-          apart = omega (arith, amounts_long, back_is, fewer);
+          apart = omega (arith, amounts_long, back_is, middle_few);
           room = omega (arith, amounts_long, middle_room, long);
-          small = rw middle_rows (rw e at (rows_small s z first low (high - low) (omega arith)));
+          small = rw middle_rows (rw across at (rows_small s z first low (high - low) (omega arith)));
         }
 
     pub all_written : {two three : List ℤ} → two ≡ put one middle (raised one (middle - back) amounts) → three ≡ put two (at + (high - from) * length s) (rows_of s z high to) → three ≡ put list at (rows_of s z from to)
@@ -418,10 +420,8 @@ module _ (from to : ℕ) {s z y : List ℤ} (first : Addable s (pos 0) z) (secon
 
 -- ---- rows each made of the one before: those up to d stand at a place of a list, and one more goes behind them
 module _ (old : List ℤ) (at : ℕ) {s z : List ℤ} (ready : Addable s (pos 0) z) {list : List ℤ} {from to d place : ℕ} (low : from < d) (more : d < to) (enough : at + (to - from) * length s ≤ length old) (here : place ≡ at + (d - from) * length s) (so_far : list ≡ put old at (rows_of s z from d)) where
-  row_room : place + length s ≤ length old
-  row_room =
-      let one : d + 1 - d ≡ 1 = omega arith in
-      omega (arith, here, times_split (length s) from d to (omega arith) (omega arith), times_split (length s) d (d + 1) to (omega arith) (omega arith), ap (λ n. n * length s) one)
+  row_fits : place + length s ≤ length old
+  row_fits = omega (arith, row_room from d to (length s) (omega arith) more)
 
   one : (d - (d - 1)) * length s ≡ length s
   one = let n : d - (d - 1) ≡ 1 = omega arith in rw n (omega arith)
@@ -430,20 +430,20 @@ module _ (old : List ℤ) (at : ℕ) {s z : List ℤ} (ready : Addable s (pos 0)
   unfolding raised
   row_next =
       let e : d - 1 + 1 ≡ d = omega arith in
-      let stands : RowsBefore list place s z (record { from = from; to = d }) = behind old at (omega (arith, here, row_room)) so_far here in
+      let stands : RowsBefore list place s z (record { from = from; to = d }) = behind old at (omega (arith, here, row_fits)) so_far here in
       let before = rw one at (rows_standing stands (d - 1) d (omega arith) (omega arith) (omega arith)) in
       rw (ready.sized, before, ← (rw e at (one_row s z (d - 1)))) (rw e at (once_more s z (d - 1)))
 
   pub row_may : to ≤ 2 ^ 20 → Raisable list place (length s) z
   row_may bound =
-      let same : length list ≡ length old = ap length so_far ∙ put_length old at (rows_of s z from d) (omega (arith, rows_long s z from d, here, row_room)) in
+      let same : length list ≡ length old = ap length so_far ∙ put_length old at (rows_of s z from d) (omega (arith, rows_long s z from d, here, row_fits)) in
       let several = times_split (length s) from (d - 1) d (omega arith) (omega arith) in
       record {
         before = omega (arith, here, several, one);
         apart = omega (arith, ready.sized);
-        room = omega (arith, ready.sized, row_room, same);
+        room = omega (arith, ready.sized, row_fits, same);
         small = rw row_next (row_small s z ready d (omega arith));
       }
 
   pub row_written : {new : List ℤ} → new ≡ put list place (raised list (place - length s) z) → new ≡ put old at (rows_of s z from (d + 1))
-  row_written is = rows_put s z old at from d (d + 1) (omega arith) (omega arith) (omega (arith, here, row_room)) so_far here (is ∙ ap (put list place) (row_next ∙ one_row s z d))
+  row_written is = rows_put s z old at from d (d + 1) (omega arith) (omega arith) (omega (arith, here, row_fits)) so_far here (is ∙ ap (put list place) (row_next ∙ one_row s z d))

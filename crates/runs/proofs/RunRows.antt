@@ -27,8 +27,8 @@ use Rattle.runs.proofs.Added.{once_more, taken_off}
 use Rattle.runs.proofs.Raising.{behind}
 use Rattle.runs.proofs.Written.{more_written}
 
-pub row_next : (s y row next : List ℤ) (i : ℕ) → row ≡ with_cycle s (pos i) y → next ≡ with_cycle row (pos 1) y → next ≡ with_cycle s (pos (i + 1)) y
-row_next s y row next i begins goes = goes ∙ rw begins (once_more s y i)
+pub row_next : (s y : List ℤ) (i : ℕ) {row next : List ℤ} → row ≡ with_cycle s (pos i) y → next ≡ with_cycle row (pos 1) y → next ≡ with_cycle s (pos (i + 1)) y
+row_next s y i begins goes = goes ∙ rw begins (once_more s y i)
 
 -- ---- the row at which a block begins
 pub row_small : {L n : ℕ} {s z y : List ℤ} {k i : ℕ} {row : List ℤ} → RunFit L n s z y k → i < k → row ≡ with_cycle s (pos i) y → Small (2 ^ 20) row
@@ -36,6 +36,12 @@ row_small {i = i} fit high begins e = rw begins (fit.values i high e)
 
 pub may_add : {s z : List ℤ} {t : ℤ} → length z ≡ length s → Small (2 ^ 20) s → nat_abs t ≤ 2 ^ 24 → Small 1 z → Addable s t z
 may_add long small few signs = record { sized = long; values = λ e. omega (arith, small e); times = few; signs = signs }
+
+pub row_ready : {L n : ℕ} {s z y : List ℤ} {k i : ℕ} {row : List ℤ} → RunFit L n s z y k → i < k → row ≡ with_cycle s (pos i) y → Addable row (pos 0) z × Addable row (pos 0) y
+row_ready {s = s} {y = y} {i = i} fit high begins =
+    let small = row_small fit high begins in
+    let same : length s ≡ length _ = sym (ap length begins ∙ added_length s (pos i) y) in
+    (may_add (fit.first_long ∙ same) small (omega arith) fit.first_signs, may_add (fit.second_long ∙ same) small (omega arith) fit.second_signs)
 
 -- the machine's number
 pub times_back : (s y : List ℤ) (i : ℕ) → i ≤ 2 ^ 20 → with_cycle s (to_z w32 i) y ≡ with_cycle s (pos i) y
@@ -62,7 +68,7 @@ turn {L} {n} {s} {z} {y} {span} fit inside {moved} {c} moves {i} low high {t} {p
       bound = spans.bound;
       joins = joins;
       counts = ap length joins ∙ length-append (states span.from i) (block_rows here z p.from p.to) ∙ ap (λ k. length (states span.from i) + k) (rows_length here z p.from p.to);
-      countable = omega (arith, run_few L n s z y span.from (i + 1) (omega arith), mul-le-mul fewer fit.wide);
+      countable = omega (arith, run_few L n s z y span.from (i + 1), mul-le-mul fewer fit.wide);
       among = omega (arith, ap length (between_split (λ i. block L n (with_cycle s (pos i) y) z) span.from (i + 1) span.to (omega arith) (omega arith)), length-append (states span.from (i + 1)) (states (i + 1) span.to));
     }
 
@@ -83,6 +89,6 @@ module _ {L n : ℕ} {s z y : List ℤ} {span : Span} {i : ℕ} {p : Span} (more
       (more_written so_far (omega (arith, flat)) (omega (arith, row_room)) (record { count = is ∙ sym (rows_length (with_cycle s (pos i) y) z p.from p.to); list = rw begins at made }))
 
 -- the next block begins at next
-pub rows_behind : (list new row next z y : List ℤ) (at count size m : ℕ) (p : Span) → at + count * m ≤ length list → new ≡ put list (at + count * m) (flatten (block_rows row z p.from p.to)) → length row ≡ m → next ≡ with_cycle row (pos 1) y → size ≡ p.to - p.from
+pub rows_behind : (list row y : List ℤ) (at count : ℕ) {new next z : List ℤ} {size m : ℕ} {p : Span} → at + count * m ≤ length list → new ≡ put list (at + count * m) (flatten (block_rows row z p.from p.to)) → length row ≡ m → next ≡ with_cycle row (pos 1) y → size ≡ p.to - p.from
     → RowsBefore new (at + (count + size) * m) (with_cycle next (neg_ℤ (pos 1)) y) z p
-rows_behind list new row next z y at count size m p room made long goes is = rw (goes, taken_off row y (pos 1)) (behind list (at + count * m) room made (rw (long, ← is) (omega (arith, add-mul count size m))))
+rows_behind list row y at count {size = size} {m = m} room made long goes is = rw (goes, taken_off row y (pos 1)) (behind list (at + count * m) room made (rw (long, ← is) (omega (arith, add-mul count size m))))

@@ -58,14 +58,16 @@ module _ {L n : ℕ} {s z y : List ℤ} {k : ℕ} (fit : RunFit L n s z y k) {st
           let f = edge_found goes e l (only_side z y e t u).1 in
           rw (← f.2) ((spans.inside i low high).side_within f.0 f.1)
 
+  long : (i : ℕ) → length z ≡ length (at_block i)
+  long i = fit.first_long ∙ sym (added_length s (pos i) y)
+
   -- a state of a block stays within the bounds there
   stays : (i d : ℕ) → within L (with_cycle (at_block i) (pos d) z) ≡ true → Staying L s y still a side b i
   stays i d t =
-      let long : length z ≡ length (at_block i) = fit.first_long ∙ sym (added_length s (pos i) y) in
       let value : (e : ℕ) → e < length s → equal (get_or z e (pos 0)) (pos 0) ≡ true → nat_abs (get_or s e (pos 0) +ℤ pos i *ℤ get_or y e (pos 0)) ≤ L =
       λ e l u.
       rw (sign_none (get_or (at_block i) e (pos 0)) (pos d) (get_or z e (pos 0)) u, added_at s (pos i) y e fit.second_long)
-      at (within_entries L n (at_block i) z fit.first_signs long d t e (rw (added_length s (pos i) y) l)) in
+      at (within_entries L n (at_block i) z fit.first_signs (long i) d t e (rw (added_length s (pos i) y) l)) in
       record {
         still_within = λ q l.
             let kind = edge_kind rests q l in
@@ -77,17 +79,16 @@ module _ {L n : ℕ} {s z y : List ℤ} {k : ℕ} (fit : RunFit L n s z y k) {st
   -- the other blocks are empty
   sides_outside : (i : ℕ) → i < k → (r.from ≤ i → i < r.to → ⊥) → block L n (at_block i) z ≡ []
   sides_outside i low out =
-      let long : length z ≡ length (at_block i) = fit.first_long ∙ sym (added_length s (pos i) y) in
       let none : n - n ≡ 0 = omega arith in
-      sym (block_is L n (at_block i) z fit.first_signs long n n (omega arith) (λ d l t. let p = spans.outside i low (stays i d t) in absurd (out p.0 p.1)) (λ d low high. absurd (omega arith)))
+      sym (block_is L n (at_block i) z fit.first_signs (long i) n n (omega arith) (λ d l t. let p = spans.outside i low (stays i d t) in absurd (out p.0 p.1)) (λ d low high. absurd (omega arith)))
       ∙ rows_none (at_block i) z n n none
 
   pub run_whole : run_states L n s z y 0 k ≡ run_states L n s z y r.from r.to
   run_whole = between_part (λ i. block L n (at_block i) z) k r.from r.to spans.bound sides_outside
 
 -- ---- how many states a run has, and how many entries they have
-pub run_few : (L n : ℕ) (s z y : List ℤ) (from to : ℕ) → from ≤ to → length (run_states L n s z y from to) ≤ (to - from) * n
-run_few L n s z y from to h = between_few (λ i. block L n (with_cycle s (pos i) y) z) n (λ i. block_few L n (with_cycle s (pos i) y) z) from to h
+pub run_few : (L n : ℕ) (s z y : List ℤ) (from to : ℕ) → length (run_states L n s z y from to) ≤ (to - from) * n
+run_few L n s z y from to = between_few (λ i. block L n (with_cycle s (pos i) y) z) n (λ i. block_few L n (with_cycle s (pos i) y) z) from to
 
 pub run_flat : (L n : ℕ) (s z y : List ℤ) (from to : ℕ) → length (flatten (run_states L n s z y from to)) ≡ length (run_states L n s z y from to) * length s
 unfolding block

@@ -11,9 +11,9 @@ use Rattle.walker.specs.Blocks.{WrittenAt, StatesWritten}
 pub put_behind : (old s t : List ℤ) (at : ℕ) {list new whole : List ℤ} {place : ℕ} → list ≡ put old at s → place ≡ at + length s → place ≤ length old → new ≡ put list place t → whole ≡ s ++ t → new ≡ put old at whole
 put_behind old s t at is here room made all = made ∙ rw (is, here, all) (put_more old at s t (omega arith))
 
-pub none_written : {states : List (List ℤ)} (d : List ℤ) (at : ℕ) → states ≡ [] → WrittenAt states d d at 0
+pub none_written : {states : List (List ℤ)} {d : List ℤ} {at : ℕ} → states ≡ [] → WrittenAt states d d at 0
 unfolding flatten
-none_written d at none = rw none (record { count = refl; list = sym (put_none d at) })
+none_written {d = d} {at} none = rw none (record { count = refl; list = sym (put_none d at) })
 
 pub more_written : {a b : List (List ℤ)} {old list new : List ℤ} {at number place more : ℕ} → WrittenAt a old list at number → place ≡ at + length (flatten a) → place ≤ length old → WrittenAt b list new place more → WrittenAt (a ++ b) old new at (number + more)
 more_written {a} {b} {old} {at = at} one here room two =
@@ -29,17 +29,17 @@ pub record SoFar (all : List (List ℤ)) (m number : ℕ) (rest : List (List ℤ
   pub room : number * m ≤ length old
   pub written : StatesWritten done old now number
 
-pub nothing_yet : {all rest : List (List ℤ)} (m : ℕ) (old : List ℤ) → rest ≡ all → SoFar all m 0 rest old old
+pub nothing_yet : {all rest : List (List ℤ)} {m : ℕ} {old : List ℤ} → rest ≡ all → SoFar all m 0 rest old old
 unfolding flatten
-nothing_yet m old is = record { done = []; split = sym is; count = omega (arith, ap length is); entries = omega arith; room = omega arith; written = none_written old 0 refl }
+nothing_yet is = record { done = []; split = sym is; count = omega (arith, ap length is); entries = omega arith; room = omega arith; written = none_written refl }
 
 pub all_written : {all : List (List ℤ)} {m number : ℕ} {rest : List (List ℤ)} {old now : List ℤ} → SoFar all m number rest old now → rest ≡ [] → StatesWritten all old now number
 all_written so none = rw (so.split, none, append-nil so.done) so.written
 
 -- some more
 module _ {all : List (List ℤ)} {m number : ℕ} {rest : List (List ℤ)} {old now : List ℤ} (so : SoFar all m number rest old now) where
-  pub room_for : (some : ℕ) → some ≤ length rest → length all * m ≤ length old → number * m + some * m ≤ length old
-  room_for some few enough =
+  pub room_for : {some : ℕ} → some ≤ length rest → length all * m ≤ length old → number * m + some * m ≤ length old
+  room_for {some} few enough =
       let fewer : number + some ≤ length all = omega (arith, so.count) in
       omega (arith, enough, mul-le-mul_right m fewer, add-mul number some m)
 
@@ -51,6 +51,6 @@ module _ {all : List (List ℤ)} {m number : ℕ} {rest : List (List ℤ)} {old 
         split = so.split ∙ ap (λ l. so.done ++ l) is ∙ sym (append_assoc so.done rows after);
         count = omega (arith, so.count, sizes);
         entries = rw (flatten_append so.done rows, length-append (flatten so.done) (flatten rows)) (omega (arith, so.entries, flat, ap (λ n. n * m) two.count, add-mul number k m));
-        room = omega (arith, add-mul number k m, room_for k (omega (arith, sizes)) enough);
+        room = omega (arith, add-mul number k m, room_for {some = k} (omega (arith, sizes)) enough);
         written = more_written so.written (omega (arith, so.entries)) (omega (arith, so.room)) two;
       }

@@ -7,8 +7,8 @@ loop-from-init c =
     let all : c.args.blocks - 0 ≡ c.args.blocks = omega arith in
     record {
       tables = walk_tables c.requires c.of-kinds.ensures c.width.ensures c.of-tables.ensures;
-      underway = rw all (begun _ _ _ c.requires);
-      count = rw all (omega (arith, ap length (all_to_come _ _ _ c.requires)));
+      underway = rw all (begun c.requires);
+      count = rw all (omega (arith, ap length (all_to_come c.requires)));
     }
 
 pub span-span-requires : goal.span-span-requires
@@ -24,7 +24,7 @@ count-count-requires c =
 pub overflow_add-count : goal.overflow_add-count
 overflow_add-count c =
     let now = c.loop-from.invariant in
-    omega (arith, c.count-count.ensures, these_few now.tables now.underway (omega arith) c.run_width-wide.ensures c.min-run.ensures c.span-span.ensures, all_counted _ _ _ c.requires)
+    omega (arith, c.count-count.ensures, these_few now.tables now.underway (omega arith) c.run_width-wide.ensures c.min-run.ensures c.span-span.ensures, all_counted c.requires)
 
 pub loop-from-preserved : goal.loop-from-preserved
 loop-from-preserved c =

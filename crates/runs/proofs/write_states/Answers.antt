@@ -6,7 +6,7 @@ use Rattle.runs.proofs.write_states.Goals as goal
 
 pub rows_beside-beside-requires : goal.rows_beside-beside-requires
 rows_beside-beside-requires c =
-    let fit = cycles_here _ _ _ c.requires.0 in
+    let fit = cycles_here c.requires.0 in
     let chosen = c.rows_at_once-rows.ensures in
     (second_signs fit, rw (second_long fit) chosen.0, rw (second_long fit) fit.edges_few, chosen.1)
 
@@ -15,10 +15,10 @@ loop-from-init c =
     let all : c.args.blocks - 0 ≡ c.args.blocks = omega arith in
     record {
       tables = walk_tables c.requires.0 c.of-kinds.ensures c.width-width.ensures c.of.ensures;
-      underway = rw all (begun _ _ _ c.requires.0);
+      underway = rw all (begun c.requires.0);
       long = refl;
-      space = length-take-le _ (replicate 63 (pos 0)) (omega (arith, c.requires.0.edges)) ∙ sym (begun _ _ _ c.requires.0).sized;
-      so_far = rw all (nothing_yet _ _ (all_to_come _ _ _ c.requires.0));
+      space = length-take-le _ (replicate 63 (pos 0)) (omega (arith, c.requires.0.edges)) ∙ sym (begun c.requires.0).sized;
+      so_far = rw all (nothing_yet (all_to_come c.requires.0));
     }
 
 pub span-span-requires : goal.span-span-requires
@@ -36,15 +36,15 @@ write-count-requires c =
       asks.1,
       asks.2,
       rw c.of.ensures.second c.rows_beside-beside.ensures,
-      beside_one (first_long (cycles_here _ _ _ c.requires.0)) c.rows_beside-ahead.ensures ∙ sym c.of.ensures.first,
+      beside_one (first_long (cycles_here c.requires.0)) c.rows_beside-ahead.ensures ∙ sym c.of.ensures.first,
       rw now.underway.sized c.rows_at_once-rows.ensures.0,
-      rw (now.underway.sized, now.long) (room_for now.so_far _ few c.requires.1),
+      rw (now.underway.sized, now.long) (room_for now.so_far few c.requires.1),
     )
 
 pub overflow_add-count : goal.overflow_add-count
 overflow_add-count c =
     let now = c.loop-from.invariant in
-    omega (arith, now.so_far.count, c.write-count.ensures.count, these_few now.tables now.underway (omega arith) c.run_width-wide.ensures c.min-run.ensures c.span-span.ensures, all_counted _ _ _ c.requires.0)
+    omega (arith, now.so_far.count, c.write-count.ensures.count, these_few now.tables now.underway (omega arith) c.run_width-wide.ensures c.min-run.ensures c.span-span.ensures, all_counted c.requires.0)
 
 pub loop-from-preserved : goal.loop-from-preserved
 loop-from-preserved c =

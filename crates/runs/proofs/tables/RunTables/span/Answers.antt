@@ -1,15 +1,16 @@
 use Rattle.std.proofs.Common.{arith}
 use Rattle.walker.proofs.Walk.{added_none}
+use Rattle.runs.proofs.RunRows.{may_add}
 use Rattle.runs.proofs.Sides.{side_span, side_none}
 use Rattle.runs.proofs.tables.RunTables.span.Goals as goal
 
 pub span_over-requires : goal.span_over-requires
 span_over-requires c =
-    let values = c.requires.3 in (
+    let small = c.requires.3 in (
       c.requires.1,
       c.requires.2,
-      record { sized = c.requires.2; values = λ e. omega (arith, values e); times = omega arith; signs = c.requires.4 },
-      (λ e. rw (added_none c.args.config.now c.args.self.now.second.now) (values e)),
+      may_add c.requires.2 small (omega arith) c.requires.4,
+      (λ e. rw (added_none c.args.config.now c.args.self.now.second.now) (small e)),
       c.requires.4,
       c.requires.5,
     )

@@ -2,7 +2,7 @@ use Rattle.std.proofs.Common.{◌≡◌, ◌<◌, ◌≤◌, refl, sym, ◌∙�
 use Rattle.walker.proofs.Walk.{added_none}
 use Rattle.runs.proofs.Between.{between_none}
 use Rattle.runs.proofs.EdgeLists.{edges_listed}
-use Rattle.runs.proofs.RunRows.{may_add, row_small, turn, next_room, row_room, turn_written, row_next, rows_behind}
+use Rattle.runs.proofs.RunRows.{may_add, row_small, row_ready, turn, next_room, row_room, turn_written, row_next, rows_behind}
 use Rattle.runs.proofs.Raising.{none_behind}
 use Rattle.runs.proofs.Written.{none_written}
 use Rattle.runs.proofs.tables.RunTables.write.Goals as goal
@@ -10,7 +10,7 @@ use Rattle.runs.proofs.tables.RunTables.write.Goals as goal
 pub returns-then-is_empty : goal.returns-then-is_empty
 returns-then-is_empty c =
     let low : c.args.span.to ≤ c.args.span.from = c.is_empty.ensures.0 (search rules) in
-    none_written _ _ (between_none _ _ _ (omega arith))
+    none_written (between_none _ _ _ (omega arith))
 
 pub fill_row-requires : goal.fill_row-requires
 fill_row-requires c =
@@ -25,19 +25,19 @@ loop-init c =
       row = c.fill_row.ensures;
       long = refl;
       room = omega (arith, c.requires.7);
-      written = none_written _ _ (between_none _ _ _ (omega arith));
-      last = none_behind _ _ _ _ (omega (arith, c.requires.7));
+      written = none_written (between_none _ _ _ (omega arith));
+      last = none_behind (omega (arith, c.requires.7));
     }
 
 pub span_over-block-requires : goal.span_over-block-requires
 span_over-block-requires c =
     let fit = c.requires.1 in
     let now = c.loop.invariant in
-    let small = row_small fit c.loop-test.true now.row in (
+    let ready = row_ready fit c.loop-test.true now.row in (
       rw now.sized (edges_listed c.requires.3),
-      fit.first_long ∙ sym now.sized,
-      may_add (fit.second_long ∙ sym now.sized) small (omega arith) fit.second_signs,
-      (λ e. rw (added_none c.loop.row c.args.self.now.second.now) (small e)),
+      ready.0.sized,
+      ready.1,
+      (λ e. rw (added_none c.loop.row c.args.self.now.second.now) (row_small fit c.loop-test.true now.row e)),
       fit.first_signs,
       fit.truncation,
     )
@@ -46,10 +46,10 @@ pub write_beside-requires : goal.write_beside-requires
 write_beside-requires c =
     let fit = c.requires.1 in
     let now = c.loop.invariant in
-    let small = row_small fit c.loop-test.true now.row in
+    let ready = row_ready fit c.loop-test.true now.row in
     let more = turn fit c.requires.2 c.requires.3 c.loop.auto.counter c.loop-test.true (added_none _ _ ∙ now.row) c.span_over-block.ensures in (
-      may_add (fit.first_long ∙ sym now.sized) small (omega arith) fit.first_signs,
-      may_add (fit.second_long ∙ sym now.sized) small (omega arith) fit.second_signs,
+      ready.0,
+      ready.1,
       omega (arith, more.bound, fit.wide),
       rw (now.sized, now.long) (row_room more now.written c.requires.7),
       now.last,
@@ -70,11 +70,11 @@ loop-preserved c =
     let more = turn c.requires.1 c.requires.2 c.requires.3 c.loop.auto.counter c.loop-test.true (added_none _ _ ∙ now.row) c.span_over-block.ensures in
     record {
       sized = c.add.auto.config ∙ now.sized;
-      row = row_next _ _ _ _ _ now.row c.add.ensures;
+      row = row_next _ _ _ now.row c.add.ensures;
       long = c.write_beside.auto.states ∙ now.long;
       room = rw (c.write_beside.auto.states, now.long) (next_room more now.written c.requires.7 c.size-count.ensures);
       written = turn_written more now.written c.requires.7 now.row c.write_beside.ensures c.size-count.ensures;
-      last = rows_behind _ _ _ _ _ _ _ _ _ _ _ now.room c.write_beside.ensures now.sized c.add.ensures c.size-count.ensures;
+      last = rows_behind _ _ _ _ _ now.room c.write_beside.ensures now.sized c.add.ensures c.size-count.ensures;
     }
 
 pub returns : goal.returns

@@ -1,18 +1,14 @@
-use Rattle.std.proofs.Common.{◌≡◌, ◌+◌, ◌-◌, ◌≤◌, ◌<◌, length, sym, ap, ◌∙◌, arith, rules}
-use mathlib.Core.List.{flatten}
+use Rattle.std.proofs.Common.{◌≡◌, ◌+◌, ◌-◌, ◌≤◌, ◌<◌, length, ap, ◌∙◌, arith, rules}
 use Rattle.mathematics.specs.Writing.{put}
-use Rattle.mathematics.proofs.Puts.{put_none}
 use Rattle.walker.proofs.BlockRows.{rows_none, row_room, row_after}
+use Rattle.runs.proofs.Written.{none_written}
 use Rattle.runs.proofs.Raising.{one_row, row_may, row_written}
 use Rattle.runs.proofs.tables.RunTables.write_rows.Goals as goal
 
 pub returns-then-is_empty : goal.returns-then-is_empty
-unfolding flatten
 returns-then-is_empty c =
-    let s = c.args in
-    let low : s.span.to ≤ s.span.from = c.is_empty.ensures.0 (search rules) in
-    let none : s.span.to - s.span.from ≡ 0 = omega arith in
-    rw (rows_none s.config.now s.self.now.first.now s.span.from s.span.to none) (sym (put_none s.states.now s.at))
+    let low : c.args.span.to ≤ c.args.span.from = c.is_empty.ensures.0 (search rules) in
+    (none_written (rows_none _ _ _ _ (omega arith))).list
 
 pub write_row-requires : goal.write_row-requires
 write_row-requires c =
