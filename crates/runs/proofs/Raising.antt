@@ -35,7 +35,7 @@ use Rattle.walker.proofs.Stepping.{added_small}
 use Rattle.runs.specs.Rows.{repeated, Beside, raised, Raisable, RowsBefore}
 use Rattle.runs.specs.Runs.{between}
 use Rattle.runs.proofs.Added.{once_more, put_back, either_order}
-use Rattle.runs.proofs.Between.{between_split}
+use Rattle.runs.proofs.Between.{between_by, between_split}
 use Rattle.runs.proofs.Written.{put_behind}
 
 -- ---- a list again and again
@@ -263,6 +263,13 @@ module _ (s z : List ℤ) where
   unfolding block_rows between flat_map
   rows_between a b = sym (flat_map_single (λ i. with_cycle s (pos (a + i)) z) (below (b - a)))
 
+  -- what each row more keeps holds of all of them
+  rows_by : (P : ℕ → List ℤ → Type 0) (a : ℕ) → P 0 [] → ((j : ℕ) (l : List ℤ) → P j l → P (j + 1) (l ++ with_cycle s (pos (a + j)) z)) → (b : ℕ) → P (b - a) (rows_of a b)
+  unfolding flatten
+  rows_by P a none more b =
+      rw (rows_between a b)
+      (between_by (λ d. with_cycle s (pos d) z ∷ []) (λ j l. P j (flatten l)) a none (λ j l i. rw (flatten_last l (with_cycle s (pos (a + j)) z)) (more j (flatten l) i)) b)
+
   rows_split : (a b c : ℕ) → a ≤ b → b ≤ c → rows_of a c ≡ rows_of a b ++ rows_of b c
   rows_split a b c h k =
       ap flatten (rows_between a c ∙ between_split (λ d. with_cycle s (pos d) z ∷ []) a b c h k ∙ sym (ap₂ (λ u v. u ++ v) (rows_between a b) (rows_between b c)))
@@ -285,15 +292,9 @@ module _ (s z : List ℤ) where
     row_small : (d : ℕ) → d ≤ 2 ^ 20 → Small (2 ^ 25) (with_cycle s (pos d) z)
     row_small d h e = omega (arith, added_small s (pos d) z (2 ^ 24) (2 ^ 20) ready.sized ready.values (omega arith) ready.signs e)
 
-    rows_small : (d r : ℕ) → d + r ≤ 2 ^ 20 → Small (2 ^ 25) (rows_of d (d + r))
-    unfolding flatten
-    rows_small d zero h =
-        let none : d + 0 - d ≡ 0 = omega arith in
-        λ e. rw (rows_none s z d (d + 0) none) (omega arith)
-    rows_small d (suc r) h =
-        let e : d + suc r ≡ d + r + 1 = omega arith in
-        rw (e, rows_more s z d (d + r) (omega arith), flatten_last (block_rows s z d (d + r)) (with_cycle s (pos (d + r)) z))
-        (small_append (2 ^ 25) (rows_of d (d + r)) (with_cycle s (pos (d + r)) z) (rows_small d r (omega arith)) (row_small (d + r) (omega arith)))
+    rows_small : (low high : ℕ) → high ≤ 2 ^ 20 → Small (2 ^ 25) (rows_of low high)
+    rows_small low high h =
+        rows_by (λ j l. j ≤ 2 ^ 20 - low → Small (2 ^ 25) l) low (λ few e. omega arith) (λ j l i few. small_append (2 ^ 25) l (with_cycle s (pos (low + j)) z) (i (omega arith)) (row_small (low + j) (omega arith))) high (omega arith)
 
 -- ---- rows that end at a place
 pub behind : {new s z : List ℤ} (list : List ℤ) (place : ℕ) {end : ℕ} {p : Span} → place ≤ length list → new ≡ put list place (flatten (block_rows s z p.from p.to)) → end ≡ place + (p.to - p.from) * length s → RowsBefore new end s z p
@@ -332,20 +333,20 @@ module _ (s z y : List ℤ) (long : length y ≡ length s) where
   row_raised : (d : ℕ) → with_cycle (with_cycle earlier (pos d) z) (pos 1) y ≡ with_cycle s (pos d) z
   row_raised d = ap (λ l. with_cycle l (pos 1) y) (either_order s (neg_ℤ (pos 1)) (pos d) y z) ∙ put_back (with_cycle s (pos d) z) y (pos 1)
 
-  rows_raised : (d r : ℕ) → with_cycle (rows_of earlier z d (d + r)) (pos 1) (repeated y r) ≡ rows_of s z d (d + r)
+  rows_raised : (low high : ℕ) → low ≤ high → with_cycle (rows_of earlier z low high) (pos 1) (repeated y (high - low)) ≡ rows_of s z low high
   unfolding repeated flatten with_cycle
-  rows_raised d zero =
-      let none : d + 0 - d ≡ 0 = omega arith in
-      rw (rows_none earlier z d (d + 0) none, rows_none s z d (d + 0) none)
-  rows_raised d (suc r) =
-      let e : d + suc r ≡ d + r + 1 = omega arith in
-      let rows = block_rows earlier z d (d + r) in
-      let row = with_cycle earlier (pos (d + r)) z in
-      let n : d + r - d ≡ r = omega arith in
-      let same : length (repeated y r) ≡ length (flatten rows) = repeated_long y r ∙ ap (λ l. r * l) (long ∙ sym (added_length s (neg_ℤ (pos 1)) y)) ∙ sym (rows_long earlier z d (d + r) ∙ ap (λ l. l * length earlier) n) in
-      rw (e, rows_more earlier z d (d + r) (omega arith), rows_more s z d (d + r) (omega arith), flatten_last rows row, flatten_last (block_rows s z d (d + r)) (with_cycle s (pos (d + r)) z))
-      (added_append (flatten rows) row (repeated y r) y (pos 1) same
-      ∙ rw (rows_raised d r, row_raised (d + r)))
+  rows_raised low high h =
+      let e : low + (high - low) ≡ high = omega arith in
+      rw e
+      at (rows_by earlier z (λ j l. (length l ≡ j * length s) × (with_cycle l (pos 1) (repeated y j) ≡ rows_of s z low (low + j))) low
+      (omega arith, sym (ap flatten (rows_none s z low (low + 0) (omega arith))))
+      (λ j l i.
+      let row = with_cycle earlier (pos (low + j)) z in
+      let next : low + (j + 1) ≡ low + j + 1 = omega arith in (
+        omega (arith, i.0, length-append l row, added_length earlier (pos (low + j)) z, added_length s (neg_ℤ (pos 1)) y, add-mul j 1 (length s)),
+        rw (repeated_next y j, next, rows_more s z low (low + j) (omega arith), flatten_last (block_rows s z low (low + j)) (with_cycle s (pos (low + j)) z))
+            (added_append l row (repeated y j) y (pos 1) (omega (arith, repeated_long y j, i.0, ap (λ n. j * n) long)) ∙ rw (i.1, row_raised (low + j))),
+      )) high).1
 
 -- ---- a block of which the rows from low to before high are made of those of the block before
 -- all rows have room
@@ -359,9 +360,6 @@ module _ (from to last_from last_to at m room : ℕ) {low high : ℕ} (begins : 
 module _ (from to : ℕ) {s z y : List ℤ} (first : Addable s (pos 0) z) (second : Addable s (pos 0) y) {list : List ℤ} {at : ℕ} {last : Span} (stands : RowsBefore list at (with_cycle s (neg_ℤ (pos 1)) y) z last) {low high : ℕ} (begins : low ≡ max from last.from) (stops : high ≡ min to last.to) (some : low < high) (enough : at + (to - from) * length s ≤ length list) where
   earlier_long : length (with_cycle s (neg_ℤ (pos 1)) y) ≡ length s
   earlier_long = added_length s (neg_ℤ (pos 1)) y
-
-  across : low + (high - low) ≡ high
-  across = omega arith
 
   abbrev before : ℕ
   before = (last.to - low) * length s
@@ -399,7 +397,7 @@ module _ (from to : ℕ) {s z y : List ℤ} (first : Addable s (pos 0) z) (secon
     middle_rows =
         let source : middle - back ≡ at - before = omega (arith, back_is, before_at) in
         let stand = rw earlier_long at (rows_standing stands low high (omega arith) (omega arith) (omega arith)) in
-        rw (amounts_long, source, is, put_before list (rows_of s z from low) at ((high - low) * length s) (at - before) (omega (arith, before_at, middle_few)) (omega arith), stand) (rw across at (rows_raised s z y second.sized low (high - low)))
+        rw (amounts_long, source, is, put_before list (rows_of s z from low) at ((high - low) * length s) (at - before) (omega (arith, before_at, middle_few)) (omega arith), stand) (rows_raised s z y second.sized low high (omega arith))
 
     pub middle_may : to ≤ 2 ^ 20 → Raisable one middle back amounts
     middle_may bound =
@@ -408,7 +406,7 @@ module _ (from to : ℕ) {s z y : List ℤ} (first : Addable s (pos 0) z) (secon
           before = omega (arith, back_is, before_at);
           apart = omega (arith, amounts_long, back_is, middle_few);
           room = omega (arith, amounts_long, middle_room, long);
-          small = rw middle_rows (rw across at (rows_small s z first low (high - low) (omega arith)));
+          small = rw middle_rows (rows_small s z first low high (omega arith));
         }
 
     pub all_written : {two three : List ℤ} → two ≡ put one middle (raised one (middle - back) amounts) → three ≡ put two (at + (high - from) * length s) (rows_of s z high to) → three ≡ put list at (rows_of s z from to)

@@ -1,4 +1,4 @@
-use Rattle.std.proofs.Common.{◌≡◌, ◌<◌, ◌≤◌, refl, sym, ◌∙◌, rules, arith}
+use Rattle.std.proofs.Common.{◌≡◌, ◌<◌, ◌≤◌, refl, ◌∙◌, rules, arith}
 use Rattle.walker.proofs.Walk.{added_none}
 use Rattle.runs.proofs.Between.{between_none}
 use Rattle.runs.proofs.EdgeLists.{edges_listed}
