@@ -5,15 +5,14 @@ use mathlib.Core.Bool.{Bool, true, false, cond}
 use mathlib.Core.Path.{◌≡◌, refl, sym, ap, ◌∙◌}
 use native.Mathlib.Omega.{arith}
 use native.Mathlib.Decide.{dec_lt}
-use lib.Dec.{eqb, leb, ltb}
+use lib.Dec.{eqb}
 use lib.IntN.{ℤ, pos, nat_abs, ◌+ℤ◌, ◌*ℤ◌, *ℤ-zero, +ℤ_idr}
 use lib.ListN.{get_or, length, take, length-map, length-append, get_or-eq_default}
 use lib.Seq.{get_or-take, length-take-le, take_all}
-use borrow.Author.Tests.{eq-eqb, ne_eqb, eqb-true, leb-true, ltb-true, le-leb, lt-ltb}
+use borrow.Author.Tests.{eq-eqb, ne_eqb, eqb-true}
 use Rattle.mathematics.specs.Integers.{equal}
 use Rattle.mathematics.specs.Counting.{below, keep}
 use Rattle.mathematics.proofs.Integers.{equal_true}
-use Rattle.mathematics.proofs.Tests.{and_parts, and_both, same_tests}
 use Rattle.mathematics.proofs.Below.{below_each, below_member, map_at, keep_next, keep_skip}
 use Rattle.mathematics.proofs.Ordered.{each_at, keep_each, keep_passes, keep_member, member_place}
 use Rattle.cycles.specs.Cycles.{with_cycle}
@@ -31,7 +30,7 @@ use Rattle.std.proofs.Common.{FitsSigned}
 use Rattle.mathematics.proofs.Signed.{zero8, back32, small_back}
 use Rattle.walker.proofs.Adding.{sign_back, entry_added}
 use Rattle.walker.proofs.Candidates.{within}
-use Rattle.walker.proofs.Interval.{moves, inside_span, span_inside, within_entries, entries_within, rows_by_tests}
+use Rattle.walker.proofs.Interval.{between_tests, moves, inside_span, span_inside, within_entries, entries_within, rows_by_tests}
 use Rattle.walker.proofs.Narrowing.{span_bound, span_more}
 
 -- ---- the lists are made edge by edge
@@ -47,14 +46,10 @@ none_sorted none = record { few = omega arith; edges = rw none (record { room = 
 module _ {z y : List ℤ} {k e : ℕ} {old new : EdgeList} (h : Sorted z y k e old) where
   pub not_sorted : new ≡ old → of_kind z y k e ≡ false → Sorted z y k (e + 1) new
   not_sorted is t =
-      let few = h.few in
-      let fewer = h.edges.few in
       rw is (record { few = omega arith; edges = record { room = h.edges.room; few = omega arith; stands = h.edges.stands ∙ sym (keep_skip (of_kind z y k) e t) } })
 
   pub one_sorted : {now : EdgeList} → new ≡ now → now.count ≡ old.count + 1 → listed now ≡ listed old ++ (e ∷ []) → of_kind z y k e ≡ true → Sorted z y k (e + 1) new
   one_sorted {now} is longer ends t =
-      let few = h.few in
-      let fewer = h.edges.few in
       let l = listed old in
       rw is
       (record {
@@ -195,11 +190,7 @@ sign_none x t y h = rw (equal_true y (pos 0) h, *ℤ-zero t) (+ℤ_idr x)
 pub block_is : (L n : ℕ) (s z : List ℤ) → Small 1 z → length z ≡ length s → (from to : ℕ) → to ≤ n → ((d : ℕ) → d < n → within L (with_cycle s (pos d) z) ≡ true → (from ≤ d) × (d < to))
     → ((d : ℕ) → from ≤ d → d < to → within L (with_cycle s (pos d) z) ≡ true) → block_rows s z from to ≡ block L n s z
 block_is L n s z signs long from to bound inside all =
-    rows_by_tests L n s z signs long from to bound
-    (λ d k.
-    same_tests (within L (with_cycle s (pos d) z)) _
-    (λ t. let i = inside d k t in and_both _ _ (le-leb _ d i.0) (lt-ltb d _ i.1))
-    (λ t. let p = and_parts (leb from d) (ltb d to) t in all d (leb-true _ d p.0) (ltb-true d _ p.1)))
+    rows_by_tests L n s z signs long from to bound (λ d k. between_tests (within L (with_cycle s (pos d) z)) from to d (inside d k) (all d))
 
 -- the edges that its cycle does not move are within the bounds, and those that it moves narrow it
 pub lists_span : {L n : ℕ} {s z y : List ℤ} → Small 1 z → length z ≡ length s → {moved : List ℕ} {b : ℕ} → Edges z y 2 (length s) moved b
