@@ -161,58 +161,70 @@ small_part B u v w h e = go (dec_lt e (length v))
     go (yes l) = rw (← (get_or-append v w (pos 0) e l), ← (get_or-append-add u (v ++ w) e (pos 0))) (h (length u + e))
     go (no l) = rw (get_or-eq_default v (pos 0) {n = e} (omega arith)) (omega arith)
 
--- ---- rows are raised, some of them already
-module _ (u : List ℤ) (done more : ℕ) {old list : List ℤ} {at back number : ℕ} (may : Raisable old at back (repeated u number)) (fits : done + more ≤ number) (is : list ≡ put old at (raised old (at - back) (repeated u done))) where
-  abbrev row_size : ℕ
-  row_size = length u
+-- ---- rows are raised, so many at once: some of them already, some are left
+module _ {u beside old list : List ℤ} {at back number rows left more place : ℕ} (may : Raisable old at back (repeated u number)) (stands : Beside u rows beside) (few : left ≤ number) (chosen : more ≡ min rows left) (here : place ≡ at + (number - left) * length u) (is : list ≡ put old at (raised old (at - back) (repeated u (number - left)))) where
+  abbrev done : ℕ
+  done = number - left
 
-  few : done * row_size + more * row_size ≤ number * row_size
-  few = omega (arith, mul-le-mul_right row_size fits, add-mul done more row_size)
+  abbrev raised_done : List ℤ
+  raised_done = raised old (at - back) (repeated u done)
 
-  source_from : at + done * row_size - back ≡ at - back + done * row_size
-  source_from = omega (arith, may.before)
+  abbrev raised_next : List ℤ
+  raised_next = raised old (at - back + done * length u) (repeated u more)
 
-  pub more_room : at + done * row_size + more * row_size ≤ length old
-  more_room = omega (arith, may.room, repeated_long u number, few)
+  amounts_are : take (more * length u) beside ≡ repeated u more
+  amounts_are = stands.is more (omega arith)
 
-  next_part : raised list (at + done * row_size - back) (repeated u more) ≡ raised old (at - back + done * row_size) (repeated u more)
+  inside : done * length u + more * length u ≤ number * length u
+  inside =
+      let fewer : done + more ≤ number = omega arith in
+      omega (arith, mul-le-mul_right (length u) fewer, add-mul done more (length u))
+
+  pub more_room : place + more * length u ≤ length old
+  more_room = omega (arith, here, may.room, repeated_long u number, inside)
+
+  next_part : raised list (place - back) (repeated u more) ≡ raised_next
   unfolding raised
   next_part =
+      let from : place - back ≡ at - back + done * length u = omega (arith, here, may.before) in
       ap (λ l. with_cycle l (pos 1) (repeated u more))
-      (ap₂ (λ k l. take (length (repeated u more)) (drop k l)) source_from is
-      ∙ put_before old (raised old (at - back) (repeated u done)) at (length (repeated u more)) (at - back + done * row_size)
-      (omega (arith, repeated_long u more, repeated_long u number, may.apart, may.before, few)) (omega (arith, more_room)))
+      (ap₂ (λ k l. take (length (repeated u more)) (drop k l)) from is
+      ∙ put_before old raised_done at (length (repeated u more)) (at - back + done * length u) (omega (arith, repeated_long u more, repeated_long u number, may.apart, may.before, inside)) (omega (arith, here, more_room)))
 
-  both : raised old (at - back) (repeated u (done + more)) ≡ raised old (at - back) (repeated u done) ++ raised old (at - back + done * row_size) (repeated u more)
+  both : raised old (at - back) (repeated u (done + more)) ≡ raised_done ++ raised_next
   both =
       ap (raised old (at - back)) (repeated_add u done more)
-      ∙ raised_append old (at - back) (repeated u done) (repeated u more) (omega (arith, repeated_long u done, repeated_long u more, more_room, may.before))
-      ∙ ap (λ n. raised old (at - back) (repeated u done) ++ raised old (at - back + n) (repeated u more)) (repeated_long u done)
+      ∙ raised_append old (at - back) (repeated u done) (repeated u more) (omega (arith, repeated_long u done, repeated_long u more, here, more_room, may.before))
+      ∙ ap (λ n. raised_done ++ raised old (at - back + n) (repeated u more)) (repeated_long u done)
 
-  done_long : length (raised old (at - back) (repeated u done)) ≡ done * row_size
-  done_long = raised_long old (at - back) (repeated u done) (omega (arith, repeated_long u done, more_room, may.before)) ∙ repeated_long u done
+  pub may_raise_more : length list ≡ length old → Raisable list place back (take (more * length u) beside)
+  may_raise_more same =
+      let rest = number - (done + more) in
+      let raised_rest = raised old (at - back + length (repeated u (done + more))) (repeated u rest) in
+      let e : done + more + rest ≡ number = omega arith in
+      let all : raised old (at - back) (repeated u number) ≡ raised_done ++ (raised_next ++ raised_rest) =
+      ap (λ n. raised old (at - back) (repeated u n)) (sym e) ∙ ap (raised old (at - back)) (repeated_add u (done + more) rest)
+      ∙ raised_append old (at - back) (repeated u (done + more)) (repeated u rest) (omega (arith, repeated_long u (done + more), repeated_long u rest, repeated_long u number, may.room, may.before, ap (λ n. n * length u) e, add-mul (done + more) rest (length u)))
+      ∙ ap (λ l. l ++ raised_rest) both ∙ append_assoc raised_done raised_next raised_rest in
+      rw amounts_are
+      (record {
+        before = omega (arith, here, may.before);
+        apart = omega (arith, may.apart, repeated_long u more, repeated_long u number, inside);
+        room = omega (arith, repeated_long u more, more_room, same);
+        small = rw next_part (small_part (2 ^ 25) raised_done raised_next raised_rest (rw all at may.small));
+      })
 
-  module _ {place : ℕ} (here : place ≡ at + done * row_size) where
-    pub may_raise_more : length list ≡ length old → Raisable list place back (repeated u more)
-    may_raise_more same =
-        let rest = number - (done + more) in
-        let e : done + more + rest ≡ number = omega arith in
-        let all : raised old (at - back) (repeated u number) ≡ raised old (at - back) (repeated u done) ++ (raised old (at - back + done * row_size) (repeated u more) ++ raised old (at - back + length (repeated u (done + more))) (repeated u rest)) =
-        ap (λ n. raised old (at - back) (repeated u n)) (sym e) ∙ ap (raised old (at - back)) (repeated_add u (done + more) rest)
-        ∙ raised_append old (at - back) (repeated u (done + more)) (repeated u rest) (omega (arith, repeated_long u (done + more), repeated_long u rest, repeated_long u number, may.room, may.before, ap (λ n. n * row_size) e, add-mul (done + more) rest row_size))
-        ∙ ap (λ l. l ++ raised old (at - back + length (repeated u (done + more))) (repeated u rest)) both
-        ∙ append_assoc (raised old (at - back) (repeated u done)) (raised old (at - back + done * row_size) (repeated u more)) _ in
-        rw here
-        (record {
-          before = omega (arith, may.before);
-          apart = omega (arith, may.apart, repeated_long u more, repeated_long u number, few);
-          room = omega (arith, repeated_long u more, more_room, same);
-          small = rw next_part (small_part (2 ^ 25) (raised old (at - back) (repeated u done)) (raised old (at - back + done * row_size) (repeated u more)) (raised old (at - back + length (repeated u (done + more))) (repeated u rest)) (rw all at may.small));
-        })
+  next_done : number - (left - more) ≡ done + more
+  next_done = omega arith
 
-    pub raised_more : {new : List ℤ} → new ≡ put list place (raised list (place - back) (repeated u more)) → new ≡ put old at (raised old (at - back) (repeated u (done + more)))
-    raised_more made =
-        put_behind old (raised old (at - back) (repeated u done)) (raised old (at - back + done * row_size) (repeated u more)) at is (omega (arith, here, done_long)) (omega (arith, here, more_room)) (made ∙ ap (put list place) (rw here next_part)) both
+  pub more_place : place + more * length u ≡ at + (number - (left - more)) * length u
+  more_place = rw next_done (omega (arith, here, add-mul done more (length u)))
+
+  pub raised_more : {new : List ℤ} → new ≡ put list place (raised list (place - back) (take (more * length u) beside)) → new ≡ put old at (raised old (at - back) (repeated u (number - (left - more))))
+  raised_more made =
+      let long : length raised_done ≡ done * length u = raised_long old (at - back) (repeated u done) (omega (arith, repeated_long u done, here, more_room, may.before)) ∙ repeated_long u done in
+      rw next_done
+      (put_behind old raised_done raised_next at is (omega (arith, here, long)) (omega (arith, more_room)) (made ∙ ap (put list place) (rw amounts_are next_part)) both)
 
 -- ---- one entry more
 module _ {old list : List ℤ} {at back : ℕ} {amounts : List ℤ} {i : ℕ} (may : Raisable old at back amounts) (more : i < length amounts) (is : list ≡ paste old at (raised old (at - back) amounts) i) where
@@ -418,7 +430,7 @@ module _ (from to : ℕ) {s z y : List ℤ} (first : Addable s (pos 0) z) (secon
 
 -- ---- rows each made of the one before: those up to d stand at a place of a list, and one more goes behind them
 module _ (old : List ℤ) (at : ℕ) {s z : List ℤ} (ready : Addable s (pos 0) z) {list : List ℤ} {from to d place : ℕ} (low : from < d) (more : d < to) (enough : at + (to - from) * length s ≤ length old) (here : place ≡ at + (d - from) * length s) (so_far : list ≡ put old at (rows_of s z from d)) where
-  row_fits : place + length s ≤ length old
+  pub row_fits : place + length s ≤ length old
   row_fits = omega (arith, row_room from d to (length s) (omega arith) more)
 
   one : (d - (d - 1)) * length s ≡ length s

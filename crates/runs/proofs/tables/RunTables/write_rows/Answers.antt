@@ -2,7 +2,7 @@ use Rattle.std.proofs.Common.{◌≡◌, ◌+◌, ◌-◌, ◌≤◌, ◌<◌, l
 use Rattle.mathematics.specs.Writing.{put}
 use Rattle.walker.proofs.BlockRows.{rows_none, row_room, row_after}
 use Rattle.runs.proofs.Written.{none_written}
-use Rattle.runs.proofs.Raising.{one_row, row_may, row_written}
+use Rattle.runs.proofs.Raising.{one_row, row_fits, row_may, row_written}
 use Rattle.runs.proofs.tables.RunTables.write_rows.Goals as goal
 
 pub returns-then-is_empty : goal.returns-then-is_empty
@@ -28,11 +28,8 @@ loop-init c =
 
 pub overflow_add-place : goal.overflow_add-place
 overflow_add-place c =
-    let s = c.args in
     let low = c.loop.auto.counter in
-    let enough = c.requires.2 in
-    let place = c.loop.invariant.place in
-    let room = row_room s.span.from c.loop.counter s.span.to (length s.config.now) (omega arith) (omega arith) in
+    let fits = row_fits _ _ c.requires.0 (omega arith) c.loop-test.true c.requires.2 c.loop.invariant.place c.loop.invariant.list in
     search rules
 
 pub raise-requires : goal.raise-requires
