@@ -36,35 +36,26 @@ module _ (free : List ℕ) (cycle : ℕ → List ℤ) (L n : ℕ) where
       rw (e, states_next free cycle L n s k, run_is s k (λ i l. h i (omega arith)), h k (omega arith))
       (sym (between_next (λ i. block L (width L n) (with_cycle s (pos i) (cycle 1)) (cycle 0)) 0 k (omega arith)))
 
-  -- ---- a step keeps what each cycle keeps
-  stepped_keeps : (P : List ℤ → Type 0) (k j : ℕ) → ((i : ℕ) (s : List ℤ) (t : ℤ) → j ≤ i → i < k + j → P s → P (with_cycle s t (cycle i))) → (s : List ℤ) → P s → P (stepped free cycle L k j s)
-  unfolding stepped counted_up
-  stepped_keeps P zero j keep s h = h
-  stepped_keeps P (suc k) j keep s h =
-      go
-      (stepped_keeps P k (suc j) (λ i s t a b. keep i s t (omega arith) (omega arith)) _ (keep j s (neg_ℤ (pos (2 * L))) (omega arith) (omega arith) h))
-      (lt_z (get_or s (get_or free j 0) (pos 0)) (pos L))
-    where
-      go : P (stepped free cycle L k (suc j) (with_cycle s (neg_ℤ (pos (2 * L))) (cycle j))) → (b : Bool) → P (cond b (with_cycle s (pos 1) (cycle j)) (stepped free cycle L k (suc j) (with_cycle s (neg_ℤ (pos (2 * L))) (cycle j))))
-      go later true = keep j s (pos 1) (omega arith) (omega arith) h
-      go later false = later
-
-  stepped_long : (k j : ℕ) (s : List ℤ) → length (stepped free cycle L k j s) ≡ length s
-  stepped_long k j s = stepped_keeps (λ l. length l ≡ length s) k j (λ i l t a b h. added_length l t (cycle i) ∙ h) s refl
-
-  walked_long : (s : List ℤ) (k : ℕ) → length (walked free cycle L n s k) ≡ length s
-  walked_long s zero = ap length (walked_none free cycle L n s)
-  walked_long s (suc k) = ap (λ i. length (walked free cycle L n s i)) (sym (add-one k)) ∙ ap length (walked_next free cycle L n s k) ∙ stepped_long (n - 1) 1 (walked free cycle L n s k) ∙ walked_long s k
-
   -- the later free edges leave the second one
-  later_digit : ((j : ℕ) → 1 < j → j < n → get_or (cycle j) (get_or free 1 0) (pos 0) ≡ pos 0) → (s : List ℤ) → ((j : ℕ) → j < n → length (cycle j) ≡ length s)
-      → get_or (stepped free cycle L (n - 2) 2 s) (get_or free 1 0) (pos 0) ≡ get_or s (get_or free 1 0) (pos 0)
-  later_digit zeros s long =
-      (stepped_keeps (λ l. (length l ≡ length s) × (get_or l (get_or free 1 0) (pos 0) ≡ get_or s (get_or free 1 0) (pos 0))) (n - 2) 2
-      (λ i l t a b h. (
-        added_length l t (cycle i) ∙ h.0,
-        added_at l t (cycle i) (get_or free 1 0) (long i (omega arith) ∙ sym h.0) ∙ rw (zeros i (omega arith) (omega arith), *ℤ-zero t) (+ℤ_idr (get_or l (get_or free 1 0) (pos 0))) ∙ h.1,
-      )) s (refl, refl)).1
+  module _ (zeros : (j : ℕ) → 1 < j → j < n → get_or (cycle j) (get_or free 1 0) (pos 0) ≡ pos 0) where
+    abbrev digit : List ℤ → ℤ
+    digit s = get_or s (get_or free 1 0) (pos 0)
+
+    added_digit : (s : List ℤ) (t : ℤ) (j : ℕ) → 1 < j → j < n → length (cycle j) ≡ length s → digit (with_cycle s t (cycle j)) ≡ digit s
+    added_digit s t j h k long = added_at s t (cycle j) (get_or free 1 0) long ∙ rw (zeros j h k, *ℤ-zero t) (+ℤ_idr (digit s))
+
+    later_digit : (k j : ℕ) (s : List ℤ) → 1 < j → k + j ≤ n → ((i : ℕ) → i < n → length (cycle i) ≡ length s) → digit (stepped free cycle L k j s) ≡ digit s
+    unfolding stepped counted_up
+    later_digit zero j s h fits long = refl
+    later_digit (suc k) j s h fits long =
+        go
+        (later_digit k (suc j) (with_cycle s (neg_ℤ (pos (2 * L))) (cycle j)) (omega arith) (omega arith) (λ i l. long i l ∙ sym (added_length s (neg_ℤ (pos (2 * L))) (cycle j))))
+        (lt_z (get_or s (get_or free j 0) (pos 0)) (pos L))
+      where
+        go : digit (stepped free cycle L k (suc j) (with_cycle s (neg_ℤ (pos (2 * L))) (cycle j))) ≡ digit (with_cycle s (neg_ℤ (pos (2 * L))) (cycle j)) → (b : Bool) → digit (cond b (with_cycle s (pos 1) (cycle j)) (stepped free cycle L k (suc j) (with_cycle s (neg_ℤ (pos (2 * L))) (cycle j)))) ≡ digit s
+        go later true = added_digit s (pos 1) j h (omega arith) (long j (omega arith))
+        go later false =
+            later ∙ added_digit s (neg_ℤ (pos (2 * L))) j h (omega arith) (long j (omega arith))
 
 -- ---- a digit below L, and at L
 below_top : (L i : ℕ) → i < 2 * L → lt_z (neg_ℤ (pos L) +ℤ pos i) (pos L) ≡ true
@@ -147,7 +138,10 @@ module _ {free : List ℕ} {cycles : List ℤ} {L n : ℕ} {s : List ℤ} {left 
 
     module _ {new : List ℤ} (made : new ≡ next_run) where
       pub new_long : length new ≡ length s
-      new_long = ap length made ∙ stepped_long free cycle L n (n - 2) 2 s
+      new_long = ap length (made ∙ sym whole_run.1) ∙ fit.sized wide
+
+      walked_again : (i : ℕ) → walked free cycle L n new i ≡ walked free cycle L n s (wide + i)
+      walked_again i = ap (λ t. walked free cycle L n t i) (made ∙ sym whole_run.1) ∙ sym (walked_on free cycle L n s wide i)
 
       pub run_first : walked_states free cycle L n s left ≡ run_states L (width L n) s (cycle 0) (cycle 1) 0 run ++ walked_states free (row (length new) cycles) L n new (left - run)
       run_first = rw (new_long, made) (go (dec_le left wide))
@@ -171,8 +165,8 @@ module _ {free : List ℕ} {cycles : List ℤ} {L n : ℕ} {s : List ℤ} {left 
             few = omega (arith, fit.few);
             values = λ i h e.
                 let all : run ≡ wide = omega arith in
-                rw (new_long, made, ← whole_run.1, ← (walked_on free cycle L n s wide i)) (fit.values (wide + i) (omega arith) e);
-            sized = λ i. walked_long free (row (length new) cycles) L n new i;
+                rw (new_long, walked_again i) (fit.values (wide + i) (omega arith) e);
+            sized = λ i. rw (new_long, walked_again i) (fit.sized (wide + i));
           }
 
       pub runs_next : Runs free cycles L n new
@@ -180,5 +174,5 @@ module _ {free : List ℕ} {cycles : List ℤ} {L n : ℕ} {s : List ℤ} {left 
           record {
             own = rw new_long runs.own;
             others = rw new_long runs.others;
-            low = λ some. rw made (later_digit free cycle L n runs.others s (λ i h. long i (omega (arith, fit.cycles_fit.free_few))) ∙ runs.low some);
+            low = λ some. rw made (later_digit free cycle L n runs.others (n - 2) 2 s (omega arith) (omega arith) (λ i h. long i (omega (arith, fit.cycles_fit.free_few))) ∙ runs.low some);
           }
