@@ -27,11 +27,12 @@ use lib.Signed.{mag}
 use mir.Syntax.{w8, w32}
 use mir.Val.{to_z, of_z}
 use Rattle.std.proofs.Common.{FitsSigned}
-use Rattle.mathematics.proofs.Signed.{zero8, back32, small_back}
-use Rattle.walker.proofs.Adding.{sign_back, entry_added}
+use Rattle.mathematics.proofs.Signed.{zero8}
 use Rattle.walker.proofs.Candidates.{within}
 use Rattle.walker.proofs.Interval.{between_tests, moves, inside_span, span_inside, within_entries, entries_within, rows_by_tests}
 use Rattle.walker.proofs.Narrowing.{span_bound, span_more}
+use Rattle.mathematics.proofs.Signed.{back32, small_back}
+use Rattle.walker.proofs.Adding.{sign_back, entry_added}
 
 -- ---- the lists are made edge by edge
 -- a list that holds the edges of one kind among the first e
@@ -103,7 +104,7 @@ module _ {z y : List ℤ} {k m : ℕ} {list : List ℕ} {count : ℕ} (h : Edges
 
 -- ---- the values on listed edges
 module _ (list : List ℕ) (count : ℕ) (s : List ℤ) (room : count ≤ length list) where
-  pub picked_at : (q : ℕ) → q < count → get_or (picked list count s) q (pos 0) ≡ get_or s (get_or list q 0) (pos 0)
+  picked_at : (q : ℕ) → q < count → get_or (picked list count s) q (pos 0) ≡ get_or s (get_or list q 0) (pos 0)
   unfolding picked
   picked_at q k =
       map_at (λ e. get_or s e (pos 0)) (take count list) q 0 (pos 0) (omega (arith, length-take-le count list room))

@@ -118,11 +118,11 @@ module _ (list : List ℤ) (from : ℕ) (amounts : List ℤ) (room : from + leng
   part_long : length (take (length amounts) (drop from list)) ≡ length amounts
   part_long = length-take-le (length amounts) (drop from list) (omega (arith, length-drop from list))
 
-  pub raised_long : length (raised list from amounts) ≡ length amounts
+  raised_long : length (raised list from amounts) ≡ length amounts
   unfolding raised
   raised_long = added_length (take (length amounts) (drop from list)) (pos 1) amounts ∙ part_long
 
-  pub raised_at : (i : ℕ) → i < length amounts → get_or (raised list from amounts) i (pos 0) ≡ get_or list (from + i) (pos 0) +ℤ get_or amounts i (pos 0)
+  raised_at : (i : ℕ) → i < length amounts → get_or (raised list from amounts) i (pos 0) ≡ get_or list (from + i) (pos 0) +ℤ get_or amounts i (pos 0)
   unfolding raised
   raised_at i h =
       let y = get_or amounts i (pos 0) in
@@ -262,7 +262,7 @@ unfolding repeated raised with_cycle
 nothing_raised u old at from = sym (put_none old at)
 
 -- ---- the rows of a block
-pub times_split : (m a b c : ℕ) → a ≤ b → b ≤ c → (c - a) * m ≡ (b - a) * m + (c - b) * m
+times_split : (m a b c : ℕ) → a ≤ b → b ≤ c → (c - a) * m ≡ (b - a) * m + (c - b) * m
 times_split m a b c h k =
     let e : c - a ≡ b - a + (c - b) = omega arith in
     rw e (add-mul (b - a) (c - b) m)
