@@ -32,7 +32,8 @@ use Rattle.walker.proofs.Candidates.{within}
 use Rattle.walker.proofs.Interval.{between_tests, moves, inside_span, span_inside, within_entries, entries_within, rows_by_tests}
 use Rattle.walker.proofs.Narrowing.{span_bound, span_more}
 use Rattle.mathematics.proofs.Signed.{back32, small_back}
-use Rattle.walker.proofs.Adding.{sign_back, entry_added}
+use Rattle.walker.proofs.Adding.{sign_back}
+use Rattle.cycles.proofs.Adding.{added_at}
 
 -- ---- the lists are made edge by edge
 -- a list that holds the edges of one kind among the first e
@@ -143,7 +144,7 @@ module _ (L n : ℕ) (s z : List ℤ) (signs : Small 1 z) (list : List ℕ) (cou
 -- in the machine: a listed value with y added to it t times, and the span that it narrows further
 module _ {s y : List ℤ} {t u : ℤ} (may : Addable s t y) (back : u ≡ t) (e : ℕ) {r : ℤ} (fits : mag r < 2 ^ 31) (is : r ≡ to_z w32 (of_z w32 (get_or s e (pos 0))) +ℤ u *ℤ to_z w8 (of_z w8 (get_or y e (pos 0)))) where
   pub value_back : to_z w32 (of_z w32 r) ≡ get_or (with_cycle s t y) e (pos 0)
-  value_back = back32 r fits ∙ entry_added may e (small_back (get_or s e (pos 0)) (omega (arith, may.values e))) back is
+  value_back = back32 r fits ∙ is ∙ rw (small_back (get_or s e (pos 0)) (omega (arith, may.values e)), back, sign_back (get_or y e (pos 0)) (may.signs e)) (sym (added_at s t y e may.sized))
 
   pub edge_narrows : {L n : ℕ} (z : List ℤ) → Small 1 z → (list : List ℕ) {q : ℕ} → q < length list → e ≡ get_or list q 0 → {old new : Span} → Narrowed L n (to_z w32 (of_z w32 r)) (to_z w8 (of_z w8 (get_or z e (pos 0)))) old new
       → SpanTo L n (picked list (length list) (with_cycle s u y)) (picked list (length list) z) q old → SpanTo L n (picked list (length list) (with_cycle s u y)) (picked list (length list) z) (q + 1) new

@@ -12,10 +12,6 @@ use Rattle.walker.specs.Steps.{Addable}
 pub sign_back : (s : ℤ) → nat_abs s ≤ 1 → to_z w8 (of_z w8 s) ≡ s
 sign_back s h = to_z-of_z {w = w8} {z = s} (size_fits w8 s (omega arith))
 
--- the sum of one entry
-pub entry_added : {s z : List ℤ} {t : ℤ} → Addable s t z → (e : ℕ) {x u r : ℤ} → x ≡ get_or s e (pos 0) → u ≡ t → r ≡ x +ℤ u *ℤ to_z w8 (of_z w8 (get_or z e (pos 0))) → r ≡ get_or (with_cycle s t z) e (pos 0)
-entry_added {s} {z} {t} can e value times is = is ∙ rw (value, times, sign_back (get_or z e (pos 0)) (can.signs e)) (sym (added_at s t z e can.sized))
-
 module _ (s z now : List ℤ) (t : ℤ) (e : ℕ) (can : Addable s t z) where
   times_back : to_z w32 (of_z w32 t) ≡ t
   times_back = small_back t (omega (arith, can.times))
@@ -35,7 +31,7 @@ module _ (s z now : List ℤ) (t : ℤ) (e : ℕ) (can : Addable s t z) where
           → set now e (to_z w32 (of_z w32 r)) ≡ take (e + 1) (with_cycle s (to_z w32 (of_z w32 t)) z) ++ drop (e + 1) s
       added_more r fits is =
           rw (back32 r fits, times_back)
-          (front_more s (with_cycle s t z) now e (pos 0) (added_length s t z) so_far_is r here (entry_added can e value_back times_back is))
+          (front_more s (with_cycle s t z) now e (pos 0) (added_length s t z) so_far_is r here (is ∙ rw (value_back, times_back, sign_back (get_or z e (pos 0)) (can.signs e)) (sym (added_at s t z e can.sized))))
 
 -- what can be added no times can be added a few times
 pub may_times : (s z : List ℤ) (n : ℕ) → Addable s (pos 0) z → n ≤ 2 ^ 20 → Addable s (pos n) z
@@ -53,4 +49,5 @@ module _ (s z old now : List ℤ) (t u : ℤ) (e : ℕ) (can : Addable s t z) (b
       → set now e (to_z w32 (of_z w32 r)) ≡ take (e + 1) (with_cycle s t z) ++ drop (e + 1) old
   filled_more here r fits is =
       rw (back32 r fits)
-      (front_more old (with_cycle s t z) now e (pos 0) same so_far r here (entry_added can e (small_back (get_or s e (pos 0)) (omega (arith, can.values e))) back is))
+      (front_more old (with_cycle s t z) now e (pos 0) same so_far r here
+      (is ∙ rw (small_back (get_or s e (pos 0)) (omega (arith, can.values e)), back, sign_back (get_or z e (pos 0)) (can.signs e)) (sym (added_at s t z e can.sized))))
