@@ -58,7 +58,7 @@ module _ (free : List ℕ) (cycle : ℕ → List ℤ) (L n : ℕ) (s : List ℤ)
 
   pub states_few : (k : ℕ) → length (states k) ≤ k * width L n
   states_few zero = rw states_none (omega arith)
-  states_few (suc k) = omega (arith, ap length (states_suc k), length-append (states k) (block L (width L n) (at k) (cycle 0)), states_few k, block_few L (width L n) (at k) (cycle 0))
+  states_few (suc k) = rw (states_suc k, length-append (states k) (block L (width L n) (at k) (cycle 0))) (omega (arith, states_few k, block_few L (width L n) (at k) (cycle 0)))
 
 -- ---- some blocks, then the others
 module _ (free : List ℕ) (cycle : ℕ → List ℤ) (L n : ℕ) where
