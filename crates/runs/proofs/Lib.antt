@@ -1,11 +1,9 @@
 pub mod EdgeLists
-pub mod Raising
+pub mod Added
 pub mod Between
+pub mod Written
+pub mod Raising
 pub mod Sides
 pub mod RunRows
-pub mod RunRoom
 pub mod Walked
-pub mod Turns
-pub mod Turn
 pub mod OneRun
-pub mod Written

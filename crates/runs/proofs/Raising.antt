@@ -1,14 +1,14 @@
 -- Rows made of those of the block before, or each of the row before.
 use Prim.Native.Nat.{ℕ, zero, suc, min, max, ◌+◌, ◌-◌, ◌*◌, ◌^◌, ◌≤◌, ◌<◌}
-use mathlib.Core.List.{List, [], ◌∷◌, ◌++◌, append_assoc, append-nil, flatten}
+use mathlib.Core.List.{List, [], ◌∷◌, ◌++◌, append_assoc, append-nil, flat_map, flatten}
 use mathlib.Core.Path.{◌≡◌, refl, sym, ap, ap₂, ◌∙◌}
 use native.Mathlib.Omega.{arith}
 use native.Mathlib.Numerals.{add-one}
 use native.Mathlib.Nat.{add-zero, sub-zero, mul-le-mul_right, add-mul}
-use native.Mathlib.Decide.{dec_le, dec_lt}
+use native.Mathlib.Decide.{dec_lt}
 use lib.IntN.{ℤ, pos, neg_ℤ, nat_abs, ◌+ℤ◌, ◌*ℤ◌, *ℤ_comm, +ℤ_idl}
 use lib.ListN.{length, get_or, take, drop, replicate, length-append, length-replicate, length-drop, take-append-drop, get_or-append, get_or-eq_default}
-use lib.Seq.{take-nil, get_or-take, get_or-drop, take-append-le, drop-append-le, take_all, take-add, drop-drop, take_at, drop_at, get_or-append-add, length-take-le}
+use lib.Seq.{get_or-take, get_or-drop, take-append-le, drop-append-le, take-add, drop-drop, take_at, drop_at, get_or-append-add, length-take-le}
 use lib.ListN.{set}
 use lib.Seq.{paste, paste-suc}
 use mathlib.Core.Logic.{inl}
@@ -16,83 +16,83 @@ use mir.Syntax.{w32}
 use mir.Val.{to_z, of_z}
 use mir.Facts.{to_z-of_z}
 use Rattle.std.proofs.Common.{FitsSigned}
+use Rattle.std.proofs.lemmas.List.Concat.{flat_map_single}
+use Rattle.mathematics.specs.Counting.{below}
+use Rattle.mathematics.specs.Writing.{put}
 use Rattle.mathematics.proofs.Signed.{back32, size_fits}
 use Rattle.mathematics.proofs.Pasted.{paste_outside}
-use Rattle.mathematics.proofs.Puts.{paste_put}
-use Rattle.mathematics.specs.Writing.{put}
-use Rattle.mathematics.proofs.Integers.{positive, negative, linear, the, ◌⊞◌, ⊖◌, times_one, minus_one_times}
+use Rattle.mathematics.proofs.Puts.{paste_put, put_none, put_front, put_length}
+use Rattle.mathematics.proofs.Integers.{times_one}
 use Rattle.mathematics.proofs.Flat.{flatten_last, flatten_append}
-use Rattle.mathematics.proofs.Puts.{put_none, put_front, put_more}
 use Rattle.cycles.specs.Cycles.{with_cycle}
 use Rattle.cycles.proofs.Adding.{added_length, added_at, zeros_at}
 use Rattle.cycles.proofs.Rows.{zero_row}
 use Rattle.walker.specs.Walker.{block_rows}
 use Rattle.walker.specs.Steps.{Small, Addable}
 use Rattle.walker.specs.declared.blocks.Span.{Span}
-use Rattle.runs.specs.Rows.{repeated, Beside, raised, Raisable, RowsBefore}
 use Rattle.walker.proofs.BlockRows.{rows_none, rows_more, rows_long, row_room}
 use Rattle.walker.proofs.Stepping.{added_small}
-use Rattle.runs.proofs.RunRows.{once_more}
+use Rattle.runs.specs.Rows.{repeated, Beside, raised, Raisable, RowsBefore}
+use Rattle.runs.specs.Runs.{between}
+use Rattle.runs.proofs.Added.{once_more, put_back, either_order}
+use Rattle.runs.proofs.Between.{between_by, between_split}
+use Rattle.runs.proofs.Written.{put_behind}
 
 -- ---- a list again and again
 module _ (s : List ℤ) where
-  pub repeated_next : (n : ℕ) → repeated s (n + 1) ≡ repeated s n ++ s
+  repeated_next : (n : ℕ) → repeated s (n + 1) ≡ repeated s n ++ s
   unfolding repeated
   repeated_next n = rw (add-one n)
 
-  pub repeated_long : (n : ℕ) → length (repeated s n) ≡ n * length s
+  repeated_long : (n : ℕ) → length (repeated s n) ≡ n * length s
   unfolding repeated
   repeated_long zero = omega arith
   repeated_long (suc n) = omega (arith, length-append (repeated s n) s, repeated_long n)
 
-  pub repeated_first : (r k : ℕ) → r ≤ k → take (r * length s) (repeated s k) ≡ repeated s r
+  repeated_add : (a b : ℕ) → repeated s (a + b) ≡ repeated s a ++ repeated s b
   unfolding repeated
-  repeated_first r zero h =
-      let e : r ≡ zero = omega arith in
-      rw e (take-nil (0 * length s))
-  repeated_first r (suc k) h = go (dec_le r k) (repeated_first r k)
-    where
-      go : Dec (r ≤ k) → (r ≤ k → take (r * length s) (repeated s k) ≡ repeated s r) → take (r * length s) (repeated s k ++ s) ≡ repeated s r
-      go (yes few) before =
-          let room : r * length s ≤ length (repeated s k) = omega (arith, repeated_long k, mul-le-mul_right (length s) few) in
-          take-append-le (r * length s) (repeated s k) s room ∙ before few
-      go (no all) before =
-          let e : r ≡ suc k = omega arith in
-          rw e (take_all (suc k * length s) (repeated s k ++ s) (omega (arith, length-append (repeated s k) s, repeated_long k)))
+  repeated_add a zero = rw (add-zero a) (sym (append-nil (repeated s a)))
+  repeated_add a (suc b) =
+      let e : a + suc b ≡ suc (a + b) = omega arith in
+      rw (e, repeated_add a b) (append_assoc (repeated s a) (repeated s b) s)
 
-  -- the front of a list over which it is written
-  pub repeated_put : (old : List ℤ) (r k : ℕ) → r ≤ k → take (r * length s) (put old 0 (repeated s k)) ≡ repeated s r
-  repeated_put old r k h =
-      let room : r * length s ≤ length (repeated s k) = omega (arith, repeated_long k, mul-le-mul_right (length s) h) in
-      rw (put_front old (repeated s k)) (take-append-le (r * length s) (repeated s k) _ room ∙ repeated_first r k h)
+  repeated_front : (r k : ℕ) → r ≤ k → (rest : List ℤ) → take (r * length s) (repeated s k ++ rest) ≡ repeated s r
+  repeated_front r k h rest =
+      let e : r + (k - r) ≡ k = omega arith in
+      ap (λ l. take (r * length s) (l ++ rest)) (rw e at (repeated_add r (k - r)))
+      ∙ ap (take (r * length s)) (append_assoc (repeated s r) (repeated s (k - r)) rest)
+      ∙ take_at (repeated s r) (repeated s (k - r) ++ rest) (r * length s) (repeated_long r)
 
--- a cycle added to zeros
-pub added_to_zeros : (y : List ℤ) → with_cycle (replicate (length y) (pos 0)) (pos 1) y ≡ y
+-- ---- what is added to rows: a cycle again and again, each time added to zeros
+pub zero_part : {m : ℕ} → m ≤ 63 → take (m - 0) (replicate 63 (pos 0)) ≡ replicate m (pos 0)
+zero_part {m} few = rw (sub-zero m) (zero_row 63 m 0 few (omega arith))
+
+added_to_zeros : (y : List ℤ) → with_cycle (replicate (length y) (pos 0)) (pos 1) y ≡ y
 unfolding with_cycle
 added_to_zeros [] = refl
 added_to_zeros (x ∷ y) = rw (*ℤ_comm (pos 1) x, times_one x, +ℤ_idl x, added_to_zeros y)
 
--- once more
-pub repeated_more : (s old list : List ℤ) (i place : ℕ) → list ≡ put old 0 (repeated s i) → place ≡ i * length s → i * length s ≤ length old → put list place s ≡ put old 0 (repeated s (i + 1))
-repeated_more s old list i place is at_place room =
-    let e : place ≡ 0 + length (repeated s i) = omega (arith, repeated_long s i) in
-    rw (is, e) (put_more old 0 (repeated s i) s (omega (arith, repeated_long s i)) ∙ ap (put old 0) (sym (repeated_next s i)))
+module _ (y : List ℤ) {zeros : List ℤ} (is : zeros ≡ replicate (length y) (pos 0)) where
+  pub zeros_addable : Small 1 y → Addable zeros (pos 0) y
+  zeros_addable signs =
+      rw is (record { sized = sym (length-replicate (length y) (pos 0)); values = λ e. rw (zeros_at (length y) e) (omega arith); times = omega arith; signs = signs })
 
--- ---- what is added to rows
-pub zero_part : (m : ℕ) → m ≤ 63 → take (m - 0) (replicate 63 (pos 0)) ≡ replicate m (pos 0)
-zero_part m few = rw (sub-zero m) (zero_row 63 m 0 few (omega arith))
+  module _ {i k room : ℕ} (more : i < k) (fits : k * length y ≤ room) where
+    pub one_fits : i * length y + length zeros ≤ room
+    one_fits =
+        let next : suc i ≤ k = omega arith in
+        omega (arith, fits, ap length is, length-replicate (length y) (pos 0), mul-le-mul_right (length y) next)
 
-pub zeros_addable : (y : List ℤ) → Small 1 y → Addable (replicate (length y) (pos 0)) (pos 1) y
-zeros_addable y signs =
-    record { sized = sym (length-replicate (length y) (pos 0)); values = λ e. rw (zeros_at (length y) e) (omega arith); times = omega arith; signs = signs }
+    pub beside_more : (old : List ℤ) {list new : List ℤ} → room ≤ length old → list ≡ put old 0 (repeated y i) → new ≡ put list (i * length y) (with_cycle zeros (pos 1) y) → new ≡ put old 0 (repeated y (i + 1))
+    beside_more old enough so_far made = put_behind old (repeated y i) y 0 so_far (omega (arith, repeated_long y i)) (omega (arith, one_fits)) (rw (is, added_to_zeros y) at made) (repeated_next y i)
 
-pub beside_is : (y old list : List ℤ) (k : ℕ) → length list ≡ 256 → list ≡ put old 0 (repeated y k) → Beside y k list
-beside_is y old list k long is = record { long = long; is = λ r h. ap (take (r * length y)) is ∙ repeated_put y old r k h }
+pub beside_is : (old : List ℤ) {y list : List ℤ} {k : ℕ} → length list ≡ 256 → list ≡ put old 0 (repeated y k) → Beside y k list
+beside_is old {y} {k = k} long is = record { long = long; is = λ r h. ap (take (r * length y)) (is ∙ put_front old (repeated y k)) ∙ repeated_front y r k h _ }
 
 -- the first of them
-pub beside_one : (y list : List ℤ) (m : ℕ) → length y ≡ m → Beside y 1 list → take m list ≡ y
+pub beside_one : {y list : List ℤ} {m : ℕ} → length y ≡ m → Beside y 1 list → take m list ≡ y
 unfolding repeated
-beside_one y list m long h =
+beside_one {y} {m = m} long h =
     let e : 1 * length y ≡ m = omega arith in
     rw e at (h.is 1 (omega arith))
 
@@ -103,23 +103,6 @@ added_append [] t [] y k h = refl
 added_append [] t (a ∷ z) y k h = absurd (omega arith)
 added_append (x ∷ s) t [] y k h = absurd (omega arith)
 added_append (x ∷ s) t (a ∷ z) y k h = ap (λ l. (x +ℤ k *ℤ a) ∷ l) (added_append s t z y k (omega arith))
-
-value_raised : (x y z : ℤ) (d : ℕ) → ((x +ℤ neg_ℤ (pos 1) *ℤ y) +ℤ pos d *ℤ z) +ℤ pos 1 *ℤ y ≡ x +ℤ pos d *ℤ z
-unfolding positive negative
-value_raised x y z d =
-    let e : pos 1 *ℤ y ≡ y = *ℤ_comm (pos 1) y ∙ times_one y in
-    let f : neg_ℤ (pos 1) *ℤ y ≡ neg_ℤ y = minus_one_times y in
-    rw (e, f) (linear (the x ⊞ ⊖ the y ⊞ the (pos d *ℤ z) ⊞ the y) (the x ⊞ the (pos d *ℤ z)) (omega arith))
-
--- a row of the block before, with the second cycle y once more
-raised_row : (s z y : List ℤ) (d : ℕ) → length z ≡ length s → length y ≡ length s → with_cycle (with_cycle (with_cycle s (neg_ℤ (pos 1)) y) (pos d) z) (pos 1) y ≡ with_cycle s (pos d) z
-unfolding with_cycle
-raised_row [] [] [] d h k = refl
-raised_row [] (a ∷ z) y d h k = absurd (omega arith)
-raised_row [] [] (b ∷ y) d h k = absurd (omega arith)
-raised_row (x ∷ s) [] y d h k = absurd (omega arith)
-raised_row (x ∷ s) (a ∷ z) [] d h k = absurd (omega arith)
-raised_row (x ∷ s) (a ∷ z) (b ∷ y) d h k = rw (value_raised x b a d, raised_row s z y d (omega arith) (omega arith))
 
 small_append : (B : ℕ) (s t : List ℤ) → Small B s → Small B t → Small B (s ++ t)
 small_append B s t h k e = go (dec_lt e (length s))
@@ -135,11 +118,11 @@ module _ (list : List ℤ) (from : ℕ) (amounts : List ℤ) (room : from + leng
   part_long : length (take (length amounts) (drop from list)) ≡ length amounts
   part_long = length-take-le (length amounts) (drop from list) (omega (arith, length-drop from list))
 
-  pub raised_long : length (raised list from amounts) ≡ length amounts
+  raised_long : length (raised list from amounts) ≡ length amounts
   unfolding raised
   raised_long = added_length (take (length amounts) (drop from list)) (pos 1) amounts ∙ part_long
 
-  pub raised_at : (i : ℕ) → i < length amounts → get_or (raised list from amounts) i (pos 0) ≡ get_or list (from + i) (pos 0) +ℤ get_or amounts i (pos 0)
+  raised_at : (i : ℕ) → i < length amounts → get_or (raised list from amounts) i (pos 0) ≡ get_or list (from + i) (pos 0) +ℤ get_or amounts i (pos 0)
   unfolding raised
   raised_at i h =
       let y = get_or amounts i (pos 0) in
@@ -148,13 +131,6 @@ module _ (list : List ℤ) (from : ℕ) (amounts : List ℤ) (room : from + leng
       ∙ rw (e, get_or-take (length amounts) (drop from list) i (pos 0) h, get_or-drop from list i (pos 0))
 
 -- ---- what is raised in two parts
-pub repeated_add : (s : List ℤ) (a b : ℕ) → repeated s (a + b) ≡ repeated s a ++ repeated s b
-unfolding repeated
-repeated_add s a zero = rw (add-zero a) (sym (append-nil (repeated s a)))
-repeated_add s a (suc b) =
-    let e : a + suc b ≡ suc (a + b) = omega arith in
-    rw (e, repeated_add s a b) (append_assoc (repeated s a) (repeated s b) s)
-
 raised_append : (list : List ℤ) (from : ℕ) (u v : List ℤ) → from + length u + length v ≤ length list → raised list from (u ++ v) ≡ raised list from u ++ raised list (from + length u) v
 unfolding raised
 raised_append list from u v room =
@@ -185,66 +161,73 @@ small_part B u v w h e = go (dec_lt e (length v))
     go (yes l) = rw (← (get_or-append v w (pos 0) e l), ← (get_or-append-add u (v ++ w) e (pos 0))) (h (length u + e))
     go (no l) = rw (get_or-eq_default v (pos 0) {n = e} (omega arith)) (omega arith)
 
--- ---- rows are raised, some of them already
-module _ (u old list : List ℤ) (at back number done more : ℕ) (may : Raisable old at back (repeated u number)) (fits : done + more ≤ number) (is : list ≡ put old at (raised old (at - back) (repeated u done))) where
-  abbrev row_size : ℕ
-  row_size = length u
+-- ---- rows are raised, so many at once: some of them already, some are left
+module _ {u beside old list : List ℤ} {at back number rows left more place : ℕ} (may : Raisable old at back (repeated u number)) (stands : Beside u rows beside) (few : left ≤ number) (chosen : more ≡ min rows left) (here : place ≡ at + (number - left) * length u) (is : list ≡ put old at (raised old (at - back) (repeated u (number - left)))) where
+  abbrev done : ℕ
+  done = number - left
 
-  counted : number * row_size ≡ done * row_size + more * row_size + (number - (done + more)) * row_size
-  counted =
-      let e : number ≡ done + more + (number - (done + more)) = omega arith in
-      ap (λ n. n * row_size) e ∙ add-mul (done + more) (number - (done + more)) row_size ∙ ap (λ n. n + (number - (done + more)) * row_size) (add-mul done more row_size)
+  abbrev raised_done : List ℤ
+  raised_done = raised old (at - back) (repeated u done)
 
-  source_from : at + done * row_size - back ≡ at - back + done * row_size
-  source_from = omega (arith, may.before)
+  abbrev raised_next : List ℤ
+  raised_next = raised old (at - back + done * length u) (repeated u more)
 
-  enough : at + number * row_size ≤ length old
-  enough = omega (arith, may.room, repeated_long u number)
+  amounts_are : take (more * length u) beside ≡ repeated u more
+  amounts_are = stands.is more (omega arith)
 
-  next_part : raised list (at + done * row_size - back) (repeated u more) ≡ raised old (at - back + done * row_size) (repeated u more)
+  inside : done * length u + more * length u ≤ number * length u
+  inside =
+      let fewer : done + more ≤ number = omega arith in
+      omega (arith, mul-le-mul_right (length u) fewer, add-mul done more (length u))
+
+  pub more_room : place + more * length u ≤ length old
+  more_room = omega (arith, here, may.room, repeated_long u number, inside)
+
+  next_part : raised list (place - back) (repeated u more) ≡ raised_next
   unfolding raised
   next_part =
+      let from : place - back ≡ at - back + done * length u = omega (arith, here, may.before) in
       ap (λ l. with_cycle l (pos 1) (repeated u more))
-      (ap₂ (λ k l. take (length (repeated u more)) (drop k l)) source_from is
-      ∙ put_before old (raised old (at - back) (repeated u done)) at (length (repeated u more)) (at - back + done * row_size)
-      (omega (arith, repeated_long u more, repeated_long u number, may.apart, may.before, counted)) (omega (arith, enough)))
+      (ap₂ (λ k l. take (length (repeated u more)) (drop k l)) from is
+      ∙ put_before old raised_done at (length (repeated u more)) (at - back + done * length u) (omega (arith, repeated_long u more, repeated_long u number, may.apart, may.before, inside)) (omega (arith, here, more_room)))
 
-  both : raised old (at - back) (repeated u (done + more)) ≡ raised old (at - back) (repeated u done) ++ raised old (at - back + done * row_size) (repeated u more)
+  both : raised old (at - back) (repeated u (done + more)) ≡ raised_done ++ raised_next
   both =
       ap (raised old (at - back)) (repeated_add u done more)
-      ∙ raised_append old (at - back) (repeated u done) (repeated u more) (omega (arith, repeated_long u done, repeated_long u more, enough, counted, may.before))
-      ∙ ap (λ n. raised old (at - back) (repeated u done) ++ raised old (at - back + n) (repeated u more)) (repeated_long u done)
+      ∙ raised_append old (at - back) (repeated u done) (repeated u more) (omega (arith, repeated_long u done, repeated_long u more, here, more_room, may.before))
+      ∙ ap (λ n. raised_done ++ raised old (at - back + n) (repeated u more)) (repeated_long u done)
 
-  done_long : length (raised old (at - back) (repeated u done)) ≡ done * row_size
-  done_long = raised_long old (at - back) (repeated u done) (omega (arith, repeated_long u done, enough, counted, may.before)) ∙ repeated_long u done
-
-  pub may_raise_more : length list ≡ length old → Raisable list (at + done * row_size) back (repeated u more)
+  pub may_raise_more : length list ≡ length old → Raisable list place back (take (more * length u) beside)
   may_raise_more same =
       let rest = number - (done + more) in
+      let raised_rest = raised old (at - back + length (repeated u (done + more))) (repeated u rest) in
       let e : done + more + rest ≡ number = omega arith in
-      let all : raised old (at - back) (repeated u number) ≡ raised old (at - back) (repeated u done) ++ (raised old (at - back + done * row_size) (repeated u more) ++ raised old (at - back + length (repeated u (done + more))) (repeated u rest)) =
+      let all : raised old (at - back) (repeated u number) ≡ raised_done ++ (raised_next ++ raised_rest) =
       ap (λ n. raised old (at - back) (repeated u n)) (sym e) ∙ ap (raised old (at - back)) (repeated_add u (done + more) rest)
-      ∙ raised_append old (at - back) (repeated u (done + more)) (repeated u rest) (omega (arith, repeated_long u (done + more), repeated_long u rest, enough, counted, may.before, add-mul done more row_size))
-      ∙ ap (λ l. l ++ raised old (at - back + length (repeated u (done + more))) (repeated u rest)) both
-      ∙ append_assoc (raised old (at - back) (repeated u done)) (raised old (at - back + done * row_size) (repeated u more)) _ in
-      record {
-        before = omega (arith, may.before);
-        apart = omega (arith, may.apart, repeated_long u more, repeated_long u number, counted);
-        room = omega (arith, repeated_long u more, enough, counted, same);
-        small = rw next_part (small_part (2 ^ 25) (raised old (at - back) (repeated u done)) (raised old (at - back + done * row_size) (repeated u more)) (raised old (at - back + length (repeated u (done + more))) (repeated u rest)) (rw all at may.small));
-      }
+      ∙ raised_append old (at - back) (repeated u (done + more)) (repeated u rest) (omega (arith, repeated_long u (done + more), repeated_long u rest, repeated_long u number, may.room, may.before, ap (λ n. n * length u) e, add-mul (done + more) rest (length u)))
+      ∙ ap (λ l. l ++ raised_rest) both ∙ append_assoc raised_done raised_next raised_rest in
+      rw amounts_are
+      (record {
+        before = omega (arith, here, may.before);
+        apart = omega (arith, may.apart, repeated_long u more, repeated_long u number, inside);
+        room = omega (arith, repeated_long u more, more_room, same);
+        small = rw next_part (small_part (2 ^ 25) raised_done raised_next raised_rest (rw all at may.small));
+      })
 
-  pub more_room : at + done * length u + more * length u ≤ length old
-  more_room = omega (arith, may.room, repeated_long u number, mul-le-mul_right (length u) fits, add-mul done more (length u))
+  next_done : number - (left - more) ≡ done + more
+  next_done = omega arith
 
-  pub raised_more : (new : List ℤ) → new ≡ put list (at + done * row_size) (raised list (at + done * row_size - back) (repeated u more)) → new ≡ put old at (raised old (at - back) (repeated u (done + more)))
-  raised_more new made =
-      made ∙ rw (next_part, is, ← done_long)
-      (put_more old at (raised old (at - back) (repeated u done)) (raised old (at - back + length (raised old (at - back) (repeated u done))) (repeated u more)) (omega (arith, done_long, enough, counted)))
-      ∙ ap (put old at) (ap (λ n. raised old (at - back) (repeated u done) ++ raised old (at - back + n) (repeated u more)) done_long ∙ sym both)
+  pub more_place : place + more * length u ≡ at + (number - (left - more)) * length u
+  more_place = rw next_done (omega (arith, here, add-mul done more (length u)))
+
+  pub raised_more : {new : List ℤ} → new ≡ put list place (raised list (place - back) (take (more * length u) beside)) → new ≡ put old at (raised old (at - back) (repeated u (number - (left - more))))
+  raised_more made =
+      let long : length raised_done ≡ done * length u = raised_long old (at - back) (repeated u done) (omega (arith, repeated_long u done, here, more_room, may.before)) ∙ repeated_long u done in
+      rw next_done
+      (put_behind old raised_done raised_next at is (omega (arith, here, long)) (omega (arith, more_room)) (made ∙ ap (put list place) (rw amounts_are next_part)) both)
 
 -- ---- one entry more
-module _ (old : List ℤ) (at back : ℕ) (amounts : List ℤ) (may : Raisable old at back amounts) (list : List ℤ) (i : ℕ) (more : i < length amounts) (is : list ≡ paste old at (raised old (at - back) amounts) i) where
+module _ {old list : List ℤ} {at back : ℕ} {amounts : List ℤ} {i : ℕ} (may : Raisable old at back amounts) (more : i < length amounts) (is : list ≡ paste old at (raised old (at - back) amounts) i) where
   readable : at - back + length amounts ≤ length old
   readable = omega (arith, may.before, may.apart, may.room)
 
@@ -269,8 +252,8 @@ module _ (old : List ℤ) (at back : ℕ) (amounts : List ℤ) (may : Raisable o
         rw (to_z-of_z sum_fits, back32 value x.sfits, back32 amount y.sfits, ← raised_here, is, add-one i)
         (paste-suc old at (raised old (at - back) amounts) i (pos 0) (omega (arith, may.room)) (omega (arith, raised_long old (at - back) amounts readable)))
 
-pub raised_whole : (old : List ℤ) (at back : ℕ) (amounts : List ℤ) → Raisable old at back amounts → (list : List ℤ) (i : ℕ) → i ≡ length amounts → list ≡ paste old at (raised old (at - back) amounts) i → list ≡ put old at (raised old (at - back) amounts)
-raised_whole old at back amounts may list i all is =
+pub raised_whole : {old list : List ℤ} {at back : ℕ} {amounts : List ℤ} {i : ℕ} → Raisable old at back amounts → i ≡ length amounts → list ≡ paste old at (raised old (at - back) amounts) i → list ≡ put old at (raised old (at - back) amounts)
+raised_whole {old} {list} {at} {back} {amounts} {i} may all is =
     let past : i ≡ length (raised old (at - back) amounts) = omega (arith, raised_long old (at - back) amounts (omega (arith, may.before, may.apart, may.room))) in
     (rw past at is) ∙ paste_put old at (raised old (at - back) amounts)
 
@@ -278,234 +261,199 @@ pub nothing_raised : (u old : List ℤ) (at from : ℕ) → old ≡ put old at (
 unfolding repeated raised with_cycle
 nothing_raised u old at from = sym (put_none old at)
 
+-- ---- the rows of a block
+times_split : (m a b c : ℕ) → a ≤ b → b ≤ c → (c - a) * m ≡ (b - a) * m + (c - b) * m
+times_split m a b c h k =
+    let e : c - a ≡ b - a + (c - b) = omega arith in
+    rw e (add-mul (b - a) (c - b) m)
+
 module _ (s z : List ℤ) where
-  pub rows_split : (a b j : ℕ) → a ≤ b → block_rows s z a (b + j) ≡ block_rows s z a b ++ block_rows s z b (b + j)
-  rows_split a b zero h =
-      let none : b - b ≡ 0 = omega arith in
-      rw (add-zero b, rows_none s z b b none) (sym (append-nil (block_rows s z a b)))
-  rows_split a b (suc j) h =
-      let e : b + suc j ≡ b + j + 1 = omega arith in
-      rw (e, rows_more s z a (b + j) (omega arith), rows_more s z b (b + j) (omega arith), rows_split a b j h)
-      (append_assoc (block_rows s z a b) (block_rows s z b (b + j)) _)
-
-  -- the entries of rows are small
-  module _ (ready : Addable s (pos 0) z) where
-    rows_flat_small : (d r : ℕ) → d + r ≤ 2 ^ 20 → Small (2 ^ 25) (flatten (block_rows s z d (d + r)))
-    unfolding flatten
-    rows_flat_small d zero h =
-        let none : d + 0 - d ≡ 0 = omega arith in
-        λ e. rw (rows_none s z d (d + 0) none) (omega arith)
-    rows_flat_small d (suc r) h =
-        let e : d + suc r ≡ d + r + 1 = omega arith in
-        let row : Small (2 ^ 24 + 2 ^ 20) (with_cycle s (pos (d + r)) z) = added_small s (pos (d + r)) z (2 ^ 24) (2 ^ 20) ready.sized ready.values (omega arith) ready.signs in
-        rw (e, rows_more s z d (d + r) (omega arith), flatten_last (block_rows s z d (d + r)) (with_cycle s (pos (d + r)) z))
-        (small_append (2 ^ 25) (flatten (block_rows s z d (d + r))) (with_cycle s (pos (d + r)) z) (rows_flat_small d r (omega arith)) (λ e. omega (arith, row e)))
-
--- ---- rows of the block before, with the second cycle once more
-module _ (s z y : List ℤ) (first_long : length z ≡ length s) (second_long : length y ≡ length s) where
-  abbrev pub earlier : List ℤ
-  earlier = with_cycle s (neg_ℤ (pos 1)) y
-
-  earlier_long : length earlier ≡ length s
-  earlier_long = added_length s (neg_ℤ (pos 1)) y
-
-  rows_raised : (d r : ℕ) → with_cycle (flatten (block_rows earlier z d (d + r))) (pos 1) (repeated y r) ≡ flatten (block_rows s z d (d + r))
-  unfolding repeated flatten with_cycle
-  rows_raised d zero =
-      let none : d + 0 - d ≡ 0 = omega arith in
-      rw (rows_none earlier z d (d + 0) none, rows_none s z d (d + 0) none)
-  rows_raised d (suc r) =
-      let e : d + suc r ≡ d + r + 1 = omega arith in
-      let rows = block_rows earlier z d (d + r) in
-      let row = with_cycle earlier (pos (d + r)) z in
-      let n : d + r - d ≡ r = omega arith in
-      let same : length (repeated y r) ≡ length (flatten rows) =
-      repeated_long y r ∙ ap (λ l. r * l) (second_long ∙ sym earlier_long) ∙ sym (rows_long earlier z d (d + r) ∙ ap (λ l. l * length earlier) n) in
-      rw (e, rows_more earlier z d (d + r) (omega arith), rows_more s z d (d + r) (omega arith), flatten_last rows row, flatten_last (block_rows s z d (d + r)) (with_cycle s (pos (d + r)) z))
-      (added_append (flatten rows) row (repeated y r) y (pos 1) same
-      ∙ rw (rows_raised d r, raised_row s z y (d + r) first_long second_long))
-
-  -- ---- they stand before a place of a list, behind which something was written
-  module _ (list : List ℤ) (at : ℕ) (last : Span) (stands : RowsBefore list at earlier z last) (new X : List ℤ) (is : new ≡ put list at X) where
-    abbrev rows : ℕ → ℕ → List ℤ
-    rows a b = flatten (block_rows earlier z a b)
-
-    module _ (low k : ℕ) (among : last.from ≤ low) (ends : low + k ≤ last.to) where
-      parts : rows last.from last.to ≡ rows last.from low ++ (rows low (low + k) ++ rows (low + k) last.to)
-      parts =
-          let e : low + (last.to - low) ≡ last.to = omega arith in
-          let f : low + k + (last.to - (low + k)) ≡ last.to = omega arith in
-          let one = rw e at (rows_split earlier z last.from low (last.to - low) among) in
-          let two = rw f at (rows_split earlier z low (low + k) (last.to - (low + k)) (omega arith)) in
-          ap flatten one ∙ flatten_append (block_rows earlier z last.from low) (block_rows earlier z low last.to)
-          ∙ ap (λ l. rows last.from low ++ l) (ap flatten two ∙ flatten_append (block_rows earlier z low (low + k)) (block_rows earlier z (low + k) last.to))
-
-      sizes : (last.to - last.from) * length s ≡ (low - last.from) * length s + (last.to - low) * length s
-      sizes =
-          let e : last.to - last.from ≡ low - last.from + (last.to - low) = omega arith in
-          rw e (add-mul (low - last.from) (last.to - low) (length s))
-
-      -- the rows from one on, k of them
-      source : take (k * length s) (drop (at - (last.to - low) * length s) new) ≡ rows low (low + k)
-      unfolding put
-      source =
-          let head = stands.head in
-          let all = rows last.from last.to in
-          let B = rows low (low + k) in
-          let A = head ++ rows last.from low in
-          let D = drop (at + length X) list in
-          let long : length (head ++ all) ≡ at = length-append head all ∙ ap (λ n. length head + n) (rows_long earlier z last.from last.to) ∙ stands.ends in
-          let front : take at list ≡ head ++ all = ap (take at) (stands.is ∙ sym (append_assoc head all stands.tail)) ∙ take_at (head ++ all) stands.tail at long in
-          let split : new ≡ A ++ (B ++ (rows (low + k) last.to ++ (X ++ D))) = is ∙ rw (front, parts) (simp append_assoc) in
-          let w : low + k - low ≡ k = omega arith in
-          let size : length B ≡ k * length s = rows_long earlier z low (low + k) ∙ rw (w, earlier_long) in
-          let here : length A ≡ at - (last.to - low) * length s = omega (arith, length-append head (rows last.from low), rows_long earlier z last.from low ∙ ap (λ n. (low - last.from) * n) earlier_long, stands.ends ∙ refl, ap (λ n. (last.to - last.from) * n) earlier_long, sizes) in
-          ap (λ l. take (k * length s) (drop (at - (last.to - low) * length s) l)) split
-          ∙ ap (take (k * length s)) (drop_at A (B ++ (rows (low + k) last.to ++ (X ++ D))) _ here)
-          ∙ take_at B (rows (low + k) last.to ++ (X ++ D)) (k * length s) size
-
-      pub next_rows : raised new (at - (last.to - low) * length s) (repeated y k) ≡ flatten (block_rows s z low (low + k))
-      unfolding raised
-      next_rows =
-          let long_is : length (repeated y k) ≡ k * length s = repeated_long y k ∙ ap (λ l. k * l) second_long in
-          rw (long_is, source) (rows_raised low k)
-
--- ---- a block of which the rows from low to before high are made of those of the block before
-module _ (s z y : List ℤ) (first : Addable s (pos 0) z) (second : Addable s (pos 0) y) (list : List ℤ) (at : ℕ) (last : Span) (stands : RowsBefore list at (earlier s z y first.sized second.sized) z last) (from to low high : ℕ)
-    (begins : low ≡ max from last.from) (stops : high ≡ min to last.to) (some : low < high) (bound : to ≤ 2 ^ 20) (enough : at + (to - from) * length s ≤ length list) where
-  over : from ≤ low
-  over = omega (arith, begins)
-
-  among : last.from ≤ low
-  among = omega (arith, begins)
-
-  pub under : high ≤ to
-  under = omega (arith, stops)
-
-  ends : high ≤ last.to
-  ends = omega (arith, stops)
-
   abbrev rows_of : ℕ → ℕ → List ℤ
   rows_of a b = flatten (block_rows s z a b)
 
-  pub first_room : (low - from) * length s + (high - low) * length s + (to - high) * length s ≡ (to - from) * length s
-  first_room =
-      let e : to - from ≡ low - from + (high - low) + (to - high) = omega (arith, over, under) in
-      rw e (sym (add-mul (low - from + (high - low)) (to - high) (length s) ∙ ap (λ n. n + (to - high) * length s) (add-mul (low - from) (high - low) (length s))))
+  rows_between : (a b : ℕ) → block_rows s z a b ≡ between (λ d. with_cycle s (pos d) z ∷ []) a b
+  unfolding block_rows between flat_map
+  rows_between a b = sym (flat_map_single (λ i. with_cycle s (pos (a + i)) z) (below (b - a)))
 
-  pub first_two : (high - from) * length s ≡ (low - from) * length s + (high - low) * length s
-  first_two =
-      let e : high - from ≡ low - from + (high - low) = omega (arith, over) in
-      rw e (add-mul (low - from) (high - low) (length s))
+  -- what each row more keeps holds of all of them
+  rows_by : (P : ℕ → List ℤ → Type 0) (a : ℕ) → P 0 [] → ((j : ℕ) (l : List ℤ) → P j l → P (j + 1) (l ++ with_cycle s (pos (a + j)) z)) → (b : ℕ) → P (b - a) (rows_of a b)
+  unfolding flatten
+  rows_by P a none more b =
+      rw (rows_between a b)
+      (between_by (λ d. with_cycle s (pos d) z ∷ []) (λ j l. P j (flatten l)) a none (λ j l i. rw (flatten_last l (with_cycle s (pos (a + j)) z)) (more j (flatten l) i)) b)
 
-  pub back_is : (last.to - from) * length s ≡ (low - from) * length s + (last.to - low) * length s
-  back_is =
-      let e : last.to - from ≡ low - from + (last.to - low) = omega (arith, over, ends) in
-      rw e (add-mul (low - from) (last.to - low) (length s))
+  rows_split : (a b c : ℕ) → a ≤ b → b ≤ c → rows_of a c ≡ rows_of a b ++ rows_of b c
+  rows_split a b c h k =
+      ap flatten (rows_between a c ∙ between_split (λ d. with_cycle s (pos d) z ∷ []) a b c h k ∙ sym (ap₂ (λ u v. u ++ v) (rows_between a b) (rows_between b c)))
+      ∙ flatten_append (block_rows s z a b) (block_rows s z b c)
 
-  pub before_at : (last.to - low) * length s ≤ at
-  before_at =
-      let fewer : last.to - low ≤ last.to - last.from = omega (arith, among) in
-      omega (arith, stands.ends, ap (λ n. (last.to - last.from) * n) (earlier_long s z y first.sized second.sized), mul-le-mul_right (length s) fewer)
+  pub one_row : (d : ℕ) → with_cycle s (pos d) z ≡ rows_of d (d + 1)
+  unfolding flatten
+  one_row d =
+      let none : d - d ≡ 0 = omega arith in
+      sym (rw (rows_more s z d d (omega arith), rows_none s z d d none) (append-nil (with_cycle s (pos d) z)))
+
+  -- rows written right behind the rows before them
+  rows_put : (old : List ℤ) (at a b c : ℕ) {list new : List ℤ} {place : ℕ} → a ≤ b → b ≤ c → at + (b - a) * length s ≤ length old → list ≡ put old at (rows_of a b) → place ≡ at + (b - a) * length s → new ≡ put list place (rows_of b c) → new ≡ put old at (rows_of a c)
+  rows_put old at a b c h k room so_far here made =
+      let size = rows_long s z a b in
+      put_behind old (rows_of a b) (rows_of b c) at so_far (omega (arith, size)) (omega arith) made (rows_split a b c h k)
+
+  -- the entries of rows are small
+  module _ (ready : Addable s (pos 0) z) where
+    row_small : (d : ℕ) → d ≤ 2 ^ 20 → Small (2 ^ 25) (with_cycle s (pos d) z)
+    row_small d h e = omega (arith, added_small s (pos d) z (2 ^ 24) (2 ^ 20) ready.sized ready.values (omega arith) ready.signs e)
+
+    rows_small : (low high : ℕ) → high ≤ 2 ^ 20 → Small (2 ^ 25) (rows_of low high)
+    rows_small low high h =
+        rows_by (λ j l. j ≤ 2 ^ 20 - low → Small (2 ^ 25) l) low (λ few e. omega arith) (λ j l i few. small_append (2 ^ 25) l (with_cycle s (pos (low + j)) z) (i (omega arith)) (row_small (low + j) (omega arith))) high (omega arith)
+
+-- ---- rows that end at a place
+pub behind : {new s z : List ℤ} (list : List ℤ) (place : ℕ) {end : ℕ} {p : Span} → place ≤ length list → new ≡ put list place (flatten (block_rows s z p.from p.to)) → end ≡ place + (p.to - p.from) * length s → RowsBefore new end s z p
+unfolding put
+behind {new} {s} {z} list place {end} {p} room made is =
+    record {
+      head = take place list;
+      tail = drop (place + length (flatten (block_rows s z p.from p.to))) list;
+      is = made ∙ append_assoc (take place list) (flatten (block_rows s z p.from p.to)) _;
+      ends = omega (arith, length-take-le place list room);
+    }
+
+-- none
+pub none_behind : {list s z : List ℤ} {at : ℕ} → at ≤ length list → RowsBefore list at s z (record { from = 0; to = 0 })
+unfolding flatten
+none_behind {list} {s} {z} {at} room =
+    let none : 0 - 0 ≡ 0 = omega arith in
+    behind list at room (sym (rw (rows_none s z 0 0 none) (put_none list at))) (omega arith)
+
+-- what stands in the middle of a list
+part_at : (A B D : List ℤ) {list : List ℤ} {n k : ℕ} → list ≡ A ++ (B ++ D) → length A ≡ n → length B ≡ k → take k (drop n list) ≡ B
+part_at A B D {list} {n} {k} is a b = ap (λ l. take k (drop n l)) is ∙ ap (take k) (drop_at A (B ++ D) n a) ∙ take_at B D k b
+
+rows_standing : {s z list : List ℤ} {at : ℕ} {last : Span} → RowsBefore list at s z last → (low high : ℕ) → last.from ≤ low → low ≤ high → high ≤ last.to → take ((high - low) * length s) (drop (at - (last.to - low) * length s) list) ≡ rows_of s z low high
+rows_standing {s} {z} {list} {at} {last} stands low high among some ends =
+    let A = stands.head ++ rows_of s z last.from low in
+    let D = rows_of s z high last.to ++ stands.tail in
+    let split : list ≡ A ++ (rows_of s z low high ++ D) = stands.is ∙ rw (rows_split s z last.from low last.to among (omega arith), rows_split s z low high last.to some ends) (simp append_assoc) in
+    part_at A (rows_of s z low high) D split (omega (arith, length-append stands.head (rows_of s z last.from low), rows_long s z last.from low, stands.ends, times_split (length s) last.from low last.to among (omega arith))) (rows_long s z low high)
+
+-- ---- rows of the block before, with the second cycle once more
+module _ (s z y : List ℤ) (long : length y ≡ length s) where
+  abbrev earlier : List ℤ
+  earlier = with_cycle s (neg_ℤ (pos 1)) y
+
+  row_raised : (d : ℕ) → with_cycle (with_cycle earlier (pos d) z) (pos 1) y ≡ with_cycle s (pos d) z
+  row_raised d = ap (λ l. with_cycle l (pos 1) y) (either_order s (neg_ℤ (pos 1)) (pos d) y z) ∙ put_back (with_cycle s (pos d) z) y (pos 1)
+
+  rows_raised : (low high : ℕ) → low ≤ high → with_cycle (rows_of earlier z low high) (pos 1) (repeated y (high - low)) ≡ rows_of s z low high
+  unfolding repeated flatten with_cycle
+  rows_raised low high h =
+      let e : low + (high - low) ≡ high = omega arith in
+      rw e
+      at (rows_by earlier z (λ j l. (length l ≡ j * length s) × (with_cycle l (pos 1) (repeated y j) ≡ rows_of s z low (low + j))) low
+      (omega arith, sym (ap flatten (rows_none s z low (low + 0) (omega arith))))
+      (λ j l i.
+      let row = with_cycle earlier (pos (low + j)) z in
+      let next : low + (j + 1) ≡ low + j + 1 = omega arith in (
+        omega (arith, i.0, length-append l row, added_length earlier (pos (low + j)) z, added_length s (neg_ℤ (pos 1)) y, add-mul j 1 (length s)),
+        rw (repeated_next y j, next, rows_more s z low (low + j) (omega arith), flatten_last (block_rows s z low (low + j)) (with_cycle s (pos (low + j)) z))
+            (added_append l row (repeated y j) y (pos 1) (omega (arith, repeated_long y j, i.0, ap (λ n. j * n) long)) ∙ rw (i.1, row_raised (low + j))),
+      )) high).1
+
+-- ---- a block of which the rows from low to before high are made of those of the block before
+-- all rows have room
+module _ (from to last_from last_to at m room : ℕ) {low high : ℕ} (begins : low ≡ max from last_from) (stops : high ≡ min to last_to) (some : low < high) (enough : at + (to - from) * m ≤ room) where
+  pub first_fits : (low ≤ to) × (at + (low - from) * m ≤ room)
+  first_fits = (omega arith, omega (arith, times_split m from low to (omega arith) (omega arith)))
+
+  pub last_fits : at + (high - from) * m + (to - high) * m ≤ room
+  last_fits = omega (arith, times_split m from high to (omega arith) (omega arith))
+
+module _ (from to : ℕ) {s z y : List ℤ} (first : Addable s (pos 0) z) (second : Addable s (pos 0) y) {list : List ℤ} {at : ℕ} {last : Span} (stands : RowsBefore list at (with_cycle s (neg_ℤ (pos 1)) y) z last) {low high : ℕ} (begins : low ≡ max from last.from) (stops : high ≡ min to last.to) (some : low < high) (enough : at + (to - from) * length s ≤ length list) where
+  earlier_long : length (with_cycle s (neg_ℤ (pos 1)) y) ≡ length s
+  earlier_long = added_length s (neg_ℤ (pos 1)) y
+
+  abbrev before : ℕ
+  before = (last.to - low) * length s
+
+  before_at : before ≤ at
+  before_at = omega (arith, rw earlier_long at stands.ends, times_split (length s) last.from low last.to (omega arith) (omega arith))
+
+  middle_few : (high - low) * length s ≤ before
+  middle_few = omega (arith, times_split (length s) low high last.to (omega arith) (omega arith))
 
   abbrev middle : ℕ
   middle = at + (low - from) * length s
 
+  middle_room : middle + (high - low) * length s ≤ length list
+  middle_room = omega (arith, times_split (length s) from low to (omega arith) (omega arith), times_split (length s) low high to (omega arith) (omega arith))
+
   abbrev back : ℕ
   back = (last.to - from) * length s
 
-  source_is : middle - back ≡ at - (last.to - low) * length s
-  source_is = omega (arith, back_is, before_at)
+  back_is : back ≡ (low - from) * length s + before
+  back_is = times_split (length s) from low last.to (omega arith) (omega arith)
 
-  module _ (one : List ℤ) (is : one ≡ put list at (rows_of from low)) (long : length one ≡ length list) where
-    middle_rows : raised one (middle - back) (repeated y (high - low)) ≡ rows_of low high
+  pub back_room : back ≤ length list
+  back_room = omega (arith, back_is, before_at, middle_room)
+
+  module _ {one : List ℤ} (is : one ≡ put list at (rows_of s z from low)) where
+    abbrev amounts : List ℤ
+    amounts = repeated y (high - low)
+
+    amounts_long : length amounts ≡ (high - low) * length s
+    amounts_long = repeated_long y (high - low) ∙ ap (λ l. (high - low) * l) second.sized
+
+    middle_rows : raised one (middle - back) amounts ≡ rows_of s z low high
+    unfolding raised
     middle_rows =
-        let e : low + (high - low) ≡ high = omega arith in
-        ap (λ n. raised one n (repeated y (high - low))) source_is
-        ∙ next_rows s z y first.sized second.sized list at last stands one (rows_of from low) is low (high - low) among (omega (arith, ends))
-        ∙ ap (rows_of low) e
+        let source : middle - back ≡ at - before = omega (arith, back_is, before_at) in
+        let stand = rw earlier_long at (rows_standing stands low high (omega arith) (omega arith) (omega arith)) in
+        rw (amounts_long, source, is, put_before list (rows_of s z from low) at ((high - low) * length s) (at - before) (omega (arith, before_at, middle_few)) (omega arith), stand) (rows_raised s z y second.sized low high (omega arith))
 
-    amounts_size : length (repeated y (high - low)) ≡ (high - low) * length s
-    amounts_size = repeated_long y (high - low) ∙ ap (λ l. (high - low) * l) second.sized
-
-    pub middle_may : Raisable one middle back (repeated y (high - low))
-    middle_may =
-        let e : low + (high - low) ≡ high = omega arith in
-        let fewer : high - low ≤ last.to - low = omega (arith, ends) in
+    pub middle_may : to ≤ 2 ^ 20 → Raisable one middle back amounts
+    middle_may bound =
+        let long : length one ≡ length list = ap length is ∙ put_length list at (rows_of s z from low) (omega (arith, rows_long s z from low, middle_room)) in
         record {
           before = omega (arith, back_is, before_at);
-          apart = omega (arith, amounts_size, back_is, mul-le-mul_right (length s) fewer);
-          room = omega (arith, amounts_size, first_room, long);
-          small = rw middle_rows (rw e at (rows_flat_small s z first low (high - low) (omega (arith, under))));
+          apart = omega (arith, amounts_long, back_is, middle_few);
+          room = omega (arith, amounts_long, middle_room, long);
+          small = rw middle_rows (rows_small s z first low high (omega arith));
         }
 
-    module _ (two : List ℤ) (made : two ≡ put one middle (raised one (middle - back) (repeated y (high - low)))) where
-      pub middle_written : two ≡ put list at (rows_of from high)
-      middle_written =
-          let e : low + (high - low) ≡ high = omega arith in
-          let size = rows_long s z from low in
-          made ∙ rw (middle_rows, is, ← size) (put_more list at (rows_of from low) (rows_of low high) (omega (arith, size, first_room)))
-          ∙ ap (put list at) (sym (flatten_append (block_rows s z from low) (block_rows s z low high)) ∙ ap flatten (sym (rw e at (rows_split s z from low (high - low) over))))
-
-      pub all_written : (three : List ℤ) → three ≡ put two (at + (high - from) * length s) (rows_of high to) → three ≡ put list at (rows_of from to)
-      all_written three last-is =
-          let e : high + (to - high) ≡ to = omega (arith, under) in
-          let size = rows_long s z from high in
-          last-is ∙ rw (middle_written, ← size) (put_more list at (rows_of from high) (rows_of high to) (omega (arith, size, first_two, first_room)))
-          ∙ ap (put list at) (sym (flatten_append (block_rows s z from high) (block_rows s z high to)) ∙ ap flatten (sym (rw e at (rows_split s z from high (to - high) (omega (arith, over))))))
+    pub all_written : {two three : List ℤ} → two ≡ put one middle (raised one (middle - back) amounts) → three ≡ put two (at + (high - from) * length s) (rows_of s z high to) → three ≡ put list at (rows_of s z from to)
+    all_written made ends =
+        let through : high ≤ to = omega arith in
+        let first_two = times_split (length s) from low high (omega arith) (omega arith) in
+        rows_put s z list at from high to (omega arith) through (omega (arith, first_two, middle_room))
+        (rows_put s z list at from low high (omega arith) (omega arith) (omega (arith, middle_room)) is refl (made ∙ ap (put one middle) middle_rows)) refl ends
 
 -- ---- rows each made of the one before: those up to d stand at a place of a list, and one more goes behind them
-module _ (s z : List ℤ) (ready : Addable s (pos 0) z) (old list : List ℤ) (at from to d place : ℕ) (low : from < d) (more : d < to) (bound : to ≤ 2 ^ 20) (enough : at + (to - from) * length s ≤ length old)
-    (same : length list ≡ length old) (here : place ≡ at + (d - from) * length s) (so_far : list ≡ put old at (flatten (block_rows s z from d))) where
-  row_before : d - 1 + 1 ≡ d
-  row_before = omega arith
+module _ (old : List ℤ) (at : ℕ) {s z : List ℤ} (ready : Addable s (pos 0) z) {list : List ℤ} {from to d place : ℕ} (low : from < d) (more : d < to) (enough : at + (to - from) * length s ≤ length old) (here : place ≡ at + (d - from) * length s) (so_far : list ≡ put old at (rows_of s z from d)) where
+  pub row_fits : place + length s ≤ length old
+  row_fits = omega (arith, row_room from d to (length s) (omega arith) more)
 
-  with_row : flatten (block_rows s z from d) ≡ flatten (block_rows s z from (d - 1)) ++ with_cycle s (pos (d - 1)) z
-  with_row = ap flatten (rw row_before at (rows_more s z from (d - 1) (omega arith))) ∙ flatten_last (block_rows s z from (d - 1)) (with_cycle s (pos (d - 1)) z)
-
-  row_sizes : (d - from) * length s ≡ (d - 1 - from) * length s + length s
-  row_sizes =
-      let e : d - from ≡ d - 1 - from + 1 = omega arith in
-      rw e (add-mul (d - 1 - from) 1 (length s) ∙ omega arith)
-
-  one_room : (d - from) * length s + length s ≤ (to - from) * length s
-  one_room = row_room from d to (length s) (omega arith) more
-
-  row_source : take (length s) (drop (place - length s) list) ≡ with_cycle s (pos (d - 1)) z
-  unfolding put
-  row_source =
-      let R = flatten (block_rows s z from (d - 1)) in
-      let row = with_cycle s (pos (d - 1)) z in
-      let A = take at old ++ R in
-      let D = drop (at + length (flatten (block_rows s z from d))) old in
-      let split : list ≡ A ++ (row ++ D) = so_far ∙ rw with_row (simp append_assoc) in
-      let head : length A ≡ place - length s = omega (arith, length-append (take at old) R, length-take-le at old (omega arith), rows_long s z from (d - 1), row_sizes, here) in
-      ap (λ l. take (length s) (drop (place - length s) l)) split
-      ∙ ap (take (length s)) (drop_at A (row ++ D) (place - length s) head)
-      ∙ take_at row D (length s) (added_length s (pos (d - 1)) z)
+  one : (d - (d - 1)) * length s ≡ length s
+  one = let n : d - (d - 1) ≡ 1 = omega arith in rw n (omega arith)
 
   row_next : raised list (place - length s) z ≡ with_cycle s (pos d) z
   unfolding raised
-  row_next = rw (ready.sized, row_source) (rw row_before at (once_more s z (d - 1)))
+  row_next =
+      let e : d - 1 + 1 ≡ d = omega arith in
+      let stands : RowsBefore list place s z (record { from = from; to = d }) = behind old at (omega (arith, here, row_fits)) so_far here in
+      let before = rw one at (rows_standing stands (d - 1) d (omega arith) (omega arith) (omega arith)) in
+      rw (ready.sized, before, ← (rw e at (one_row s z (d - 1)))) (rw e at (once_more s z (d - 1)))
 
-  pub row_may : Raisable list place (length s) z
-  row_may =
+  pub row_may : to ≤ 2 ^ 20 → Raisable list place (length s) z
+  row_may bound =
+      let same : length list ≡ length old = ap length so_far ∙ put_length old at (rows_of s z from d) (omega (arith, rows_long s z from d, here, row_fits)) in
+      let several = times_split (length s) from (d - 1) d (omega arith) (omega arith) in
       record {
-        before = omega (arith, here, row_sizes);
+        before = omega (arith, here, several, one);
         apart = omega (arith, ready.sized);
-        room = omega (arith, ready.sized, here, one_room, same);
-        small = rw row_next (λ e. omega (arith, added_small s (pos d) z (2 ^ 24) (2 ^ 20) ready.sized ready.values (omega arith) ready.signs e));
+        room = omega (arith, ready.sized, row_fits, same);
+        small = rw row_next (row_small s z ready d (omega arith));
       }
 
-  pub row_written : (new : List ℤ) → new ≡ put list place (raised list (place - length s) z) → new ≡ put old at (flatten (block_rows s z from (d + 1)))
-  row_written new is =
-      let size = rows_long s z from d in
-      is ∙ rw (row_next, so_far, here, ← size) (put_more old at (flatten (block_rows s z from d)) (with_cycle s (pos d) z) (omega (arith, size, one_room)))
-      ∙ ap (put old at) (sym (ap flatten (rows_more s z from d (omega arith)) ∙ flatten_last (block_rows s z from d) (with_cycle s (pos d) z)))
-
--- the first row
-pub first_row : (s z : List ℤ) (d : ℕ) → with_cycle s (pos d) z ≡ flatten (block_rows s z d (d + 1))
-unfolding flatten
-first_row s z d =
-    let none : d - d ≡ 0 = omega arith in
-    sym (rw (rows_more s z d d (omega arith), rows_none s z d d none) (append-nil (with_cycle s (pos d) z)))
+  pub row_written : {new : List ℤ} → new ≡ put list place (raised list (place - length s) z) → new ≡ put old at (rows_of s z from (d + 1))
+  row_written is = rows_put s z old at from d (d + 1) (omega arith) (omega arith) (omega (arith, here, row_fits)) so_far here (is ∙ ap (put list place) (row_next ∙ one_row s z d))

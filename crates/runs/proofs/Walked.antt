@@ -9,7 +9,7 @@ use native.Mathlib.Decide.{dec_le, dec_lt}
 use lib.IntN.{ℤ, pos, neg_ℤ, ◌+ℤ◌, *ℤ-zero, +ℤ_idr}
 use lib.Signed.{lt_z}
 use lib.ListN.{get_or, length}
-use Rattle.mathematics.proofs.Integers.{positive, negative, linear, parts, the, ◌⊞◌, ⊖◌, less_test, not_less_test, times_one}
+use Rattle.mathematics.proofs.Integers.{positive, negative, parts, the, ◌⊞◌, ⊖◌, less_test, not_less_test, times_one}
 use Rattle.cycles.specs.Cycles.{row, with_cycle}
 use Rattle.cycles.proofs.Adding.{added_at, added_length}
 use Rattle.walker.specs.Walker.{counted_up, stepped, block, width, walked, walked_states}
@@ -19,7 +19,7 @@ use Rattle.walker.proofs.Stepping.{cycle_long, cycle_signs, step_here, step_on, 
 use Rattle.walker.proofs.Walk.{added_none}
 use Rattle.runs.specs.Runs.{run_states, RunFit}
 use Rattle.runs.proofs.Between.{between_none, between_next}
-use Rattle.runs.proofs.RunRows.{once_more, added_sum}
+use Rattle.runs.proofs.Added.{once_more, taken_off}
 
 -- a block has candidates
 pub width_positive : (L n : ℕ) → 0 < width L n
@@ -35,20 +35,6 @@ module _ (free : List ℕ) (cycle : ℕ → List ℤ) (L n : ℕ) where
       let e : suc k ≡ k + 1 = sym (add-one k) in
       rw (e, states_next free cycle L n s k, run_is s k (λ i l. h i (omega arith)), h k (omega arith))
       (sym (between_next (λ i. block L (width L n) (with_cycle s (pos i) (cycle 1)) (cycle 0)) 0 k (omega arith)))
-
-  -- ---- a step keeps the length
-  pub counted_long : (k j : ℕ) (s : List ℤ) → length (stepped free cycle L k j s) ≡ length s
-  unfolding stepped counted_up
-  counted_long zero j s = refl
-  counted_long (suc k) j s = go (counted_long k (suc j) (with_cycle s (neg_ℤ (pos (2 * L))) (cycle j))) (lt_z (get_or s (get_or free j 0) (pos 0)) (pos L))
-    where
-      go : length (stepped free cycle L k (suc j) (with_cycle s (neg_ℤ (pos (2 * L))) (cycle j))) ≡ length (with_cycle s (neg_ℤ (pos (2 * L))) (cycle j)) → (b : Bool) → length (cond b (with_cycle s (pos 1) (cycle j)) (stepped free cycle L k (suc j) (with_cycle s (neg_ℤ (pos (2 * L))) (cycle j)))) ≡ length s
-      go later true = added_length s (pos 1) (cycle j)
-      go later false = later ∙ added_length s (neg_ℤ (pos (2 * L))) (cycle j)
-
-  walked_long : (s : List ℤ) (k : ℕ) → length (walked free cycle L n s k) ≡ length s
-  walked_long s zero = ap length (walked_none free cycle L n s)
-  walked_long s (suc k) = ap (λ i. length (walked free cycle L n s i)) (sym (add-one k)) ∙ ap length (walked_next free cycle L n s k) ∙ counted_long (n - 1) 1 (walked free cycle L n s k) ∙ walked_long s k
 
   -- the later free edges leave the second one
   module _ (zeros : (j : ℕ) → 1 < j → j < n → get_or (cycle j) (get_or free 1 0) (pos 0) ≡ pos 0) where
@@ -80,12 +66,8 @@ at_top : (L : ℕ) → lt_z (neg_ℤ (pos L) +ℤ pos (2 * L)) (pos L) ≡ false
 unfolding positive negative
 at_top L = not_less_test (neg_ℤ (pos L) +ℤ pos (2 * L)) (pos L) (omega (arith, parts (⊖ the (pos L) ⊞ the (pos (2 * L)))))
 
-and_back : (k : ℕ) → pos k +ℤ neg_ℤ (pos k) ≡ pos 0
-unfolding positive negative
-and_back k = linear (the (pos k) ⊞ ⊖ the (pos k)) (the (pos 0)) (omega arith)
-
 -- ---- the runs of a walk
-module _ (free : List ℕ) (cycles : List ℤ) (L n : ℕ) (s : List ℤ) (left : ℕ) (fit : Walkable free cycles L n s left) (runs : Runs free cycles L n s) where
+module _ {free : List ℕ} {cycles : List ℤ} {L n : ℕ} {s : List ℤ} {left : ℕ} (fit : Walkable free cycles L n s left) (runs : Runs free cycles L n s) where
   abbrev cycle : ℕ → List ℤ
   cycle = row (length s) cycles
 
@@ -111,8 +93,7 @@ module _ (free : List ℕ) (cycles : List ℤ) (L n : ℕ) (s : List ℤ) (left 
   behind_run some =
       let t = with_cycle s (pos (2 * L)) (cycle 1) in
       let on = step_on free cycle L n 1 t some (ap (λ x. lt_z x (pos L)) (second_digit some (2 * L)) ∙ at_top L) in
-      let back : with_cycle t (neg_ℤ (pos (2 * L))) (cycle 1) ≡ s = added_sum s (pos (2 * L)) (neg_ℤ (pos (2 * L))) (cycle 1) ∙ ap (λ x. with_cycle s x (cycle 1)) (and_back (2 * L)) ∙ added_none s (cycle 1) in
-      walked_next free cycle L n s (2 * L) ∙ ap (stepped free cycle L (n - 1) 1) (in_run some (2 * L) (omega arith)) ∙ on ∙ ap (stepped free cycle L (n - 2) 2) back
+      walked_next free cycle L n s (2 * L) ∙ ap (stepped free cycle L (n - 1) 1) (in_run some (2 * L) (omega arith)) ∙ on ∙ ap (stepped free cycle L (n - 2) 2) (taken_off s (cycle 1) (pos (2 * L)))
 
   abbrev wide : ℕ
   wide = width L (n - 1)
@@ -133,8 +114,8 @@ module _ (free : List ℕ) (cycles : List ℤ) (L n : ℕ) (s : List ℤ) (left 
           )
 
   -- ---- the next run, of those that are left
-  module _ (more : 0 < left) (run : ℕ) (is : run ≡ min left wide) where
-    pub run_some : (run ≤ left) × (0 < run)
+  module _ (more : 0 < left) {run : ℕ} (is : run ≡ min left wide) where
+    run_some : (run ≤ left) × (0 < run)
     run_some = (omega arith, omega (arith, width_positive L (n - 1)))
 
     in_this_run : (i : ℕ) → i < run → walked free cycle L n s i ≡ with_cycle s (pos i) (cycle 1)
@@ -155,12 +136,12 @@ module _ (free : List ℕ) (cycles : List ℤ) (L n : ℕ) (s : List ℤ) (left 
           values = λ i h e. rw (in_this_run i h) at (fit.values i (omega (arith, run_some.0)) e);
         }
 
-    next_long : length next_run ≡ length s
-    next_long = counted_long free cycle L n (n - 2) 2 s
+    module _ {new : List ℤ} (made : new ≡ next_run) where
+      pub new_long : length new ≡ length s
+      new_long = ap length (made ∙ sym whole_run.1) ∙ fit.sized wide
 
-    module _ (new : List ℤ) (made : new ≡ next_run) where
-      new_long : length new ≡ length s
-      new_long = ap length made ∙ next_long
+      walked_again : (i : ℕ) → walked free cycle L n new i ≡ walked free cycle L n s (wide + i)
+      walked_again i = ap (λ t. walked free cycle L n t i) (made ∙ sym whole_run.1) ∙ sym (walked_on free cycle L n s wide i)
 
       pub run_first : walked_states free cycle L n s left ≡ run_states L (width L n) s (cycle 0) (cycle 1) 0 run ++ walked_states free (row (length new) cycles) L n new (left - run)
       run_first = rw (new_long, made) (go (dec_le left wide))
@@ -184,8 +165,8 @@ module _ (free : List ℕ) (cycles : List ℤ) (L n : ℕ) (s : List ℤ) (left 
             few = omega (arith, fit.few);
             values = λ i h e.
                 let all : run ≡ wide = omega arith in
-                rw (new_long, made, ← whole_run.1, ← (walked_on free cycle L n s wide i)) (fit.values (wide + i) (omega arith) e);
-            sized = λ i. walked_long free (row (length new) cycles) L n new i;
+                rw (new_long, walked_again i) (fit.values (wide + i) (omega arith) e);
+            sized = λ i. rw (new_long, walked_again i) (fit.sized (wide + i));
           }
 
       pub runs_next : Runs free cycles L n new
@@ -193,8 +174,5 @@ module _ (free : List ℕ) (cycles : List ℤ) (L n : ℕ) (s : List ℤ) (left 
           record {
             own = rw new_long runs.own;
             others = rw new_long runs.others;
-            low = λ some.
-                rw made
-                (later_digit free cycle L n runs.others (n - 2) 2 s (omega arith) (omega arith) (λ i h. long i (omega (arith, fit.cycles_fit.free_few)))
-                ∙ runs.low some);
+            low = λ some. rw made (later_digit free cycle L n runs.others (n - 2) 2 s (omega arith) (omega arith) (λ i h. long i (omega (arith, fit.cycles_fit.free_few))) ∙ runs.low some);
           }

@@ -11,7 +11,7 @@ use Rattle.mathematics.specs.Counting.{below, applied}
 use Rattle.mathematics.proofs.Flat.{flat_map_last}
 use Rattle.cycles.specs.Cycles.{row}
 use Rattle.walker.specs.Steps.{Walkable}
-use Rattle.walker.specs.Walker.{stepped, first_within, end_within, block_rows, block, width, walked, walked_states}
+use Rattle.walker.specs.Walker.{stepped, first_within, end_within, block, width, walked, walked_states}
 use Rattle.walker.proofs.Interval.{stop_bound}
 use Rattle.walker.proofs.BlockRows.{rows_length}
 
@@ -28,6 +28,11 @@ pub width_some : (L n : ℕ) → (n ≡ 0 → ⊥) → 2 * L + 1 ≡ width L n
 unfolding width
 width_some L zero h = absurd (h refl)
 width_some L (suc n) h = refl
+
+-- a block has no more states than candidates
+pub block_few : (L n : ℕ) (s z : List ℤ) → length (block L n s z) ≤ n
+unfolding block
+block_few L n s z = rw (rows_length s z (first_within L n s z (length s)) (end_within L n s z (length s))) (omega (arith, stop_bound L n s z (length s)))
 
 module _ (free : List ℕ) (cycle : ℕ → List ℤ) (L n : ℕ) (s : List ℤ) where
   abbrev at : ℕ → List ℤ
@@ -51,16 +56,9 @@ module _ (free : List ℕ) (cycle : ℕ → List ℤ) (L n : ℕ) (s : List ℤ)
   pub states_next : (k : ℕ) → states (k + 1) ≡ states k ++ block L (width L n) (at k) (cycle 0)
   states_next k = rw (add-one k) (states_suc k)
 
-  -- a block has no more states than candidates
   pub states_few : (k : ℕ) → length (states k) ≤ k * width L n
-  unfolding block
   states_few zero = rw states_none (omega arith)
-  states_few (suc k) =
-      let w = width L n in
-      let from = first_within L w (at k) (cycle 0) (length (at k)) in
-      let to = end_within L w (at k) (cycle 0) (length (at k)) in
-      rw (states_suc k, length-append (states k) (block_rows (at k) (cycle 0) from to), rows_length (at k) (cycle 0) from to)
-      (omega (arith, states_few k, stop_bound L w (at k) (cycle 0) (length (at k))))
+  states_few (suc k) = rw (states_suc k, length-append (states k) (block L (width L n) (at k) (cycle 0))) (omega (arith, states_few k, block_few L (width L n) (at k) (cycle 0)))
 
 -- ---- some blocks, then the others
 module _ (free : List ℕ) (cycle : ℕ → List ℤ) (L n : ℕ) where

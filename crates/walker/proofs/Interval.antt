@@ -86,6 +86,13 @@ module _ (L n d : ℕ) where
   inside_entry x (negsuc zero) h k a b = rw (minus_size x) (inside_sum (negsuc 0 *ℤ x) a b)
   inside_entry x (negsuc (suc m)) h k a b = absurd (omega arith)
 
+-- a test that says whether a number is from one to before another
+pub between_tests : (b : Bool) (from to d : ℕ) → (b ≡ true → (from ≤ d) × (d < to)) → (from ≤ d → d < to → b ≡ true) → b ≡ (leb from d && ltb d to)
+between_tests b from to d inside all =
+    same_tests b (leb from d && ltb d to)
+    (λ t. let i = inside t in and_both _ _ (le-leb _ d i.0) (lt-ltb d _ i.1))
+    (λ t. let p = and_parts (leb from d) (ltb d to) t in all (leb-true _ d p.0) (ltb-true d _ p.1))
+
 -- ---- all entries
 pub stop_bound : (L n : ℕ) (s z : List ℤ) (m : ℕ) → end_within L n s z m ≤ n
 unfolding end_within
@@ -123,13 +130,8 @@ module _ (L n : ℕ) (s z : List ℤ) (signs : Small 1 z) where
 
     within_span : (d : ℕ) → d < n → within L (with_cycle s (pos d) z) ≡ (leb (first_within L n s z (length s)) d && ltb d (end_within L n s z (length s)))
     within_span d h =
-        same_tests (within L (with_cycle s (pos d) z)) _
-        (λ t.
-        let r = inside_span d (length s) h (within_entries d t) in
-        and_both _ _ (le-leb _ d r.0) (lt-ltb d _ r.1))
-        (λ t.
-        let r = and_parts (leb (first_within L n s z (length s)) d) (ltb d (end_within L n s z (length s))) t in
-        entries_within d (span_inside d (length s) h (leb-true _ d r.0) (ltb-true d _ r.1)))
+        between_tests (within L (with_cycle s (pos d) z)) (first_within L n s z (length s)) (end_within L n s z (length s)) d (λ t. inside_span d (length s) h (within_entries d t))
+        (λ low high. entries_within d (span_inside d (length s) h low high))
 
     -- the multiples within the bounds, where they are an interval
     kept_rows : (from to : ℕ) → to ≤ n → ((d : ℕ) → d < n → within L (with_cycle s (pos d) z) ≡ (leb from d && ltb d to)) → keep (within L) (map (λ d. with_cycle s (pos d) z) (below n)) ≡ block_rows s z from to

@@ -1,6 +1,5 @@
-use Rattle.std.proofs.Common.{◌≡◌, ◌+◌, ◌-◌, length, refl, ◌∙◌, rules, arith}
-use Rattle.std.proofs.Math.Nat.{add-mul}
-use Rattle.runs.proofs.Raising.{nothing_raised, may_raise_more, more_room, raised_more}
+use Rattle.std.proofs.Common.{◌≡◌, ◌-◌, refl, ◌∙◌, rules, arith}
+use Rattle.runs.proofs.Raising.{nothing_raised, may_raise_more, more_room, more_place, raised_more}
 use Rattle.runs.proofs.tables.RunTables.raise_rows.Goals as goal
 
 pub loop-left-init : goal.loop-left-init
@@ -11,32 +10,22 @@ loop-left-init c =
 
 pub raise-requires : goal.raise-requires
 raise-requires c =
-    let s = c.args in
     let now = c.loop-left.invariant in
-    rw (c.requires.1.is c.min-more.result (omega (arith, c.min-more.ensures)), now.place)
-    (may_raise_more s.self.now.second.now s.states.now c.loop-left.states s.at s.back s.number (s.number - c.loop-left.left) c.min-more.result c.requires.0 (omega (arith, now.few, c.min-more.ensures)) now.list now.long)
+    may_raise_more c.requires.0 c.requires.1 now.few c.min-more.ensures now.place now.list now.long
 
 pub overflow_add-place : goal.overflow_add-place
 overflow_add-place c =
-    let s = c.args in
     let now = c.loop-left.invariant in
-    let place = now.place in
     let long = now.long in
-    let room = more_room s.self.now.second.now s.states.now c.loop-left.states s.at s.back s.number (s.number - c.loop-left.left) c.min-more.result c.requires.0 (omega (arith, now.few, c.min-more.ensures)) now.list in
+    let room = more_room c.requires.0 c.requires.1 now.few c.min-more.ensures now.place now.list in
     search rules
 
 pub loop-left-preserved : goal.loop-left-preserved
 loop-left-preserved c =
-    let s = c.args in
     let now = c.loop-left.invariant in
-    let u = s.self.now.second.now in
-    let more = c.min-more.result in
-    let done = s.number - c.loop-left.left in
-    let now_done : s.number - (c.loop-left.left - more) ≡ done + more = omega (arith, now.few, c.min-more.ensures) in
-    let made = rw (c.requires.1.is more (omega (arith, c.min-more.ensures)), now.place) at c.raise.ensures in
     record {
       few = omega (arith, now.few);
-      place = rw now_done (omega (arith, now.place, add-mul done more (length u)));
+      place = more_place c.requires.0 c.requires.1 now.few c.min-more.ensures now.place now.list;
       long = c.raise.auto.states ∙ now.long;
-      list = rw now_done (raised_more u s.states.now c.loop-left.states s.at s.back s.number done more c.requires.0 (omega (arith, now.few, c.min-more.ensures)) now.list c.raise.new.states made);
+      list = raised_more c.requires.0 c.requires.1 now.few c.min-more.ensures now.place now.list c.raise.ensures;
     }

@@ -1,19 +1,16 @@
-use Rattle.std.proofs.Common.{◌≡◌, ◌+◌, ◌*◌, length, pos, neg_ℤ}
-use mathlib.Core.List.{flatten}
-use Rattle.mathematics.specs.Writing.{put}
+use Rattle.std.proofs.Common.{◌≡◌, ◌+◌, ◌*◌, ◌≤◌, length, pos, neg_ℤ}
 use Rattle.cycles.specs.Cycles.{with_cycle}
+use Rattle.walker.specs.Blocks.{WrittenAt}
 use Rattle.runs.specs.Rows.{RowsBefore}
 use Rattle.runs.specs.Runs.{run_states}
 use Rattle.runs.proofs.tables.RunTables.write.Given as goal
 
 abbrev pub invariant-loop : goal.invariant-loop
-invariant-loop l =
-    let all = run_states l.self.lambda l.self.width l.config l.self.first.now l.self.second.now l.fn.span.from l.counter in
-    record {
-      sized : length l.row ≡ length l.config;
-      row : l.row ≡ with_cycle l.config (pos l.counter) l.self.second.now;
-      long : length l.states ≡ length l.fn.states;
-      count : l.count ≡ length all;
-      list : l.states ≡ put l.fn.states l.at (flatten all);
-      last : RowsBefore l.states (l.at + length all * length l.config) (with_cycle l.row (neg_ℤ (pos 1)) l.self.second.now) l.self.first.now l.last;
-    }
+invariant-loop l = record {
+  sized : length l.row ≡ length l.config;
+  row : l.row ≡ with_cycle l.config (pos l.counter) l.self.second.now;
+  long : length l.states ≡ length l.fn.states;
+  room : l.at + l.count * length l.config ≤ length l.states;
+  written : WrittenAt (run_states l.self.lambda l.self.width l.config l.self.first.now l.self.second.now l.fn.span.from l.counter) l.fn.states l.states l.at l.count;
+  last : RowsBefore l.states (l.at + l.count * length l.config) (with_cycle l.row (neg_ℤ (pos 1)) l.self.second.now) l.self.first.now l.last;
+}

@@ -1,19 +1,14 @@
-use Rattle.std.proofs.Common.{◌≡◌, ◌+◌, ◌-◌, ◌≤◌, ◌<◌, length, sym, ap, ◌∙◌, arith, rules}
-use mathlib.Core.List.{flatten}
+use Rattle.std.proofs.Common.{◌≡◌, ◌+◌, ◌-◌, ◌≤◌, ◌<◌, length, ap, ◌∙◌, arith, rules}
 use Rattle.mathematics.specs.Writing.{put}
-use Rattle.mathematics.proofs.Puts.{put_none}
-use Rattle.walker.specs.Walker.{block_rows}
 use Rattle.walker.proofs.BlockRows.{rows_none, row_room, row_after}
-use Rattle.runs.proofs.Raising.{first_row, row_may, row_written}
+use Rattle.runs.proofs.Written.{none_written}
+use Rattle.runs.proofs.Raising.{one_row, row_fits, row_may, row_written}
 use Rattle.runs.proofs.tables.RunTables.write_rows.Goals as goal
 
 pub returns-then-is_empty : goal.returns-then-is_empty
-unfolding flatten
 returns-then-is_empty c =
-    let s = c.args in
-    let low : s.span.to ≤ s.span.from = c.is_empty.ensures.0 (search rules) in
-    let none : s.span.to - s.span.from ≡ 0 = omega arith in
-    rw (rows_none s.config.now s.self.now.first.now s.span.from s.span.to none) (sym (put_none s.states.now s.at))
+    let low : c.args.span.to ≤ c.args.span.from = c.is_empty.ensures.0 (search rules) in
+    (none_written (rows_none _ _ _ _ (omega arith))).list
 
 pub write_row-requires : goal.write_row-requires
 write_row-requires c =
@@ -28,34 +23,28 @@ loop-init c =
     record {
       place = rw one (omega arith);
       long = c.write_row.auto.states;
-      list = c.write_row.ensures ∙ ap (put s.states.now s.at) (first_row s.config.now s.self.now.first.now s.span.from);
+      list = c.write_row.ensures ∙ ap (put s.states.now s.at) (one_row s.config.now s.self.now.first.now s.span.from);
     }
 
 pub overflow_add-place : goal.overflow_add-place
 overflow_add-place c =
-    let s = c.args in
     let low = c.loop.auto.counter in
-    let enough = c.requires.2 in
-    let place = c.loop.invariant.place in
-    let room = row_room s.span.from c.loop.counter s.span.to (length s.config.now) (omega arith) (omega arith) in
+    let fits = row_fits _ _ c.requires.0 (omega arith) c.loop-test.true c.requires.2 c.loop.invariant.place c.loop.invariant.list in
     search rules
 
 pub raise-requires : goal.raise-requires
 raise-requires c =
-    let s = c.args in
     let low = c.loop.auto.counter in
-    rw c.requires.3
-    (row_may s.config.now s.self.now.first.now c.requires.0 s.states.now c.loop.states s.at s.span.from s.span.to c.loop.counter (c.loop.place + length s.config.now) (omega arith) (omega arith) c.requires.1 c.requires.2 c.loop.invariant.long c.loop.invariant.place c.loop.invariant.list)
+    rw c.requires.3 (row_may _ _ c.requires.0 (omega arith) c.loop-test.true c.requires.2 c.loop.invariant.place c.loop.invariant.list c.requires.1)
 
 pub loop-preserved : goal.loop-preserved
 loop-preserved c =
     let s = c.args in
     let low = c.loop.auto.counter in
-    let made = rw c.requires.3 at c.raise.ensures in
     record {
       place = omega (arith, c.loop.invariant.place, row_after s.span.from c.loop.counter (length s.config.now) (omega arith));
       long = c.raise.auto.states ∙ c.loop.invariant.long;
-      list = row_written s.config.now s.self.now.first.now c.requires.0 s.states.now c.loop.states s.at s.span.from s.span.to c.loop.counter (c.loop.place + length s.config.now) (omega arith) (omega arith) c.requires.1 c.requires.2 c.loop.invariant.long c.loop.invariant.place c.loop.invariant.list _ made;
+      list = row_written _ _ c.requires.0 (omega arith) c.loop-test.true c.requires.2 c.loop.invariant.place c.loop.invariant.list (rw c.requires.3 at c.raise.ensures);
     }
 
 pub returns : goal.returns
@@ -65,4 +54,4 @@ returns c =
     let low = c.loop.auto.counter in
     let high = c.loop.auto.counter-end in
     let all : c.loop.counter ≡ s.span.to = omega arith in
-    c.loop.invariant.list ∙ ap (λ d. put s.states.now s.at (flatten (block_rows s.config.now s.self.now.first.now s.span.from d))) all
+    rw all at c.loop.invariant.list
