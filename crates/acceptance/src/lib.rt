@@ -1,7 +1,7 @@
 // The one judge of a record: 4, 7, 8, 9, or accepted.
 #![tactic(auto)]
 
-ghost use Rattle.std.specs.Prelude.{◌≡◌, List, [], ◌∷◌, ◌++◌, map, ◌&&◌, ℕ, ◌+◌, ◌-◌, ◌*◌, ◌<◌, ◌≤◌, get_or, replicate, eqb};
+ghost use Rattle.std.specs.Prelude.{◌≡◌, List, [], ◌∷◌, ◌++◌, map, ◌&&◌, ℕ, ◌+◌, ◌*◌, ◌<◌, ◌≤◌, get_or, replicate, eqb};
 ghost use Rattle.mathematics.specs.Lists.{distinct};
 ghost use Rattle.mathematics.specs.Tests.{every_entry};
 ghost use Rattle.complex.specs.Complex.{Simplex, entries, simplices, complex_of};

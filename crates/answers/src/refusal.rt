@@ -1,6 +1,6 @@
 // Why a call refuses.
 ghost use Rattle.std.specs.Prelude.{◌≡◌, Some};
-ghost use Rattle.answers.specs.Refusal.{refusal_number, judged, Named};
+ghost use Rattle.answers.specs.Refusal.{refusal_number, Named};
 ghost use Rattle.answers.specs.Sentences.{sentence};
 
 use std::fmt::{Display, Formatter, Write};

@@ -1,7 +1,7 @@
 // `basis list`: reads a sheet from standard input and prints its states, or the number of its refusal.
 #![tactic(auto)]
 
-ghost use Rattle.std.specs.Prelude.{◌≡◌, ℕ, ◌+◌, ◌≤◌, List, OnOk, IfSome, length};
+ghost use Rattle.std.specs.Prelude.{◌≡◌, ℕ, ◌≤◌, List, OnOk, IfSome, length};
 ghost use Rattle.std.specs.Io.KnownBytes.{Appends};
 ghost use Rattle.pages.specs.Pages.{PageReady, Piece};
 ghost use Rattle.pages.specs.Text.{basis_refusal, basis_text};

@@ -1,6 +1,6 @@
 // The breadth-first search from vertex 0 over the edges of a record. Half-edge d is the end of edge d / 2 that stands at place d of the
 // flat list.
-ghost use Rattle.std.specs.Prelude.{◌≡◌, ℕ, ◌+◌, ◌*◌, ◌/◌, ◌<◌, ◌≤◌, get_or, length};
+ghost use Rattle.std.specs.Prelude.{◌≡◌, ℕ, ◌*◌, ◌/◌, ◌<◌, ◌≤◌, get_or, length};
 ghost use Rattle.complex.specs.Complex.{simplices};
 ghost use Rattle.complex.specs.Search.{look, scan, serve, whole_search, connected};
 ghost use Rattle.complex.specs.Tree.{opposite, Linked, search_of, Searchable, Fits, Searched};

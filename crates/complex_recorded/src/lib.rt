@@ -7,7 +7,6 @@ pub mod complex_cases;
 pub mod row_cases;
 
 ghost use Rattle.std.specs.Prelude.{◌≡◌};
-ghost use Rattle.recorded.specs.Bytes.{holds_u64s};
 ghost use Rattle.complex_recorded.specs.Agreement.{pentachora_agrees, indices_agrees, tree_agrees, loops_agrees, su2_loops_agrees, matvec_agrees};
 
 use complex_exports::{

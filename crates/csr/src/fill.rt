@@ -1,5 +1,5 @@
 // All rows, one after the other. While they are made, the list of starts holds the numbers of the states and the lengths of the rows.
-ghost use Rattle.std.specs.Prelude.{◌≡◌, List, ℕ, ◌+◌, ◌*◌, ◌^◌, ◌<◌, ◌≤◌, get_or, length, replicate};
+ghost use Rattle.std.specs.Prelude.{◌≡◌, List, ℕ, ◌+◌, ◌^◌, ◌<◌, ◌≤◌, get_or, length, replicate};
 ghost use Rattle.rows.specs.Entries.{pairs};
 ghost use Rattle.rows.specs.Row.{ColumnsDiffer};
 ghost use Rattle.rows.specs.RowLists.{RowFits};

@@ -28,7 +28,7 @@ use Rattle.cycles.specs.Cycles.{row, toward, PathTable, extended}
 use Rattle.cycles.proofs.Rows.{zero_row, row_length, row_written, row_kept, row_set, row_set_other}
 use Rattle.cycles.proofs.Paths.{path_none, path_more}
 
-joins_back : (s : Simplex) (v w : ℕ) → Joins s v w → Joins s w v
+pub joins_back : (s : Simplex) (v w : ℕ) → Joins s v w → Joins s w v
 joins_back s v w (inl j) = inr j
 joins_back s v w (inr j) = inl j
 

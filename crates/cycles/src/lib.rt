@@ -1,7 +1,7 @@
 // The paths in the spanning tree and the fundamental cycles, as tables of rows of 63 signs.
 #![tactic(auto)]
 
-ghost use Rattle.std.specs.Prelude.{◌≡◌, ◌≢◌, ◌+◌, ◌*◌, ◌<◌, ◌≤◌, get_or, length, pos, negsuc};
+ghost use Rattle.std.specs.Prelude.{◌≡◌, ◌≢◌, ◌+◌, ◌*◌, ◌<◌, ◌≤◌, get_or, length, negsuc};
 ghost use Rattle.std.proofs.Math.Seq.{paste};
 ghost use Rattle.complex.specs.Complex.{Joins, entries, complex_of};
 ghost use Rattle.complex.specs.Search.{across};

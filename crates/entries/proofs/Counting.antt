@@ -1,7 +1,7 @@
 -- What the code counts, by a list of the edges of all triangles, is what the rows have.
 use Prim.Native.Nat.{ℕ, zero, suc, ◌+◌, ◌*◌, ◌<◌, ◌≤◌}
 use mathlib.Core.List.{List, [], ◌∷◌}
-use mathlib.Core.Bool.{Bool, true, false, cond}
+use mathlib.Core.Bool.{cond}
 use mathlib.Core.Path.{◌≡◌, refl, sym, ap, ap₂, ◌∙◌}
 use native.Mathlib.Numerals.{add-one}
 use native.Mathlib.Omega.{arith}
@@ -16,22 +16,11 @@ use Rattle.gauss_law.specs.Listing.{states}
 use Rattle.matrices.specs.Squares.{squares}
 use Rattle.triangles.specs.Indices.{AllSides}
 use Rattle.plaquettes.specs.Joined.{staying}
-use Rattle.plaquettes.specs.Pairs.{stays}
 use Rattle.plaquettes.proofs.Pairing.{stays_told}
 use Rattle.plaquettes.proofs.TriangleTelling.{state_there}
 use Rattle.entries.specs.Count.{over_states, both_stay, moves_stay, row_entries, Countable, AllCountable}
 use Rattle.entries.specs.Entries.{row_number, entries_number}
 use Rattle.entries.proofs.Counted.{over_same}
-
-pub both_few : (L : ℕ) (s : List ℤ) (edges : List ℕ) → both_stay L s edges ≤ 2
-unfolding both_stay
-both_few L s edges = go (stays L s edges (pos 1)) (stays L s edges (negsuc 0))
-  where
-    go : (a b : Bool) → cond a 1 0 + cond b 1 0 ≤ 2
-    go true true = omega arith
-    go true false = omega arith
-    go false true = omega arith
-    go false false = omega arith
 
 pub same_countable : (L : ℕ) (s s' : List ℤ) (all : List ℕ) (n : ℕ) → s ≡ s' → Countable L s' all n → Countable L s all n
 same_countable L s s' all n e h = rw e h

@@ -14,15 +14,11 @@ use Rattle.matrices.specs.declared.coupling.KSParams.{KSParams}
 use Rattle.matrices.specs.Coupling.{float_of, coupling_right, u1_params, params_right, u1_right}
 use Rattle.matrices.specs.Squares.{energy}
 use Rattle.rows.specs.Row.{kept}
-use Rattle.rows.proofs.KeptDiagonals.{NotBelow, by_power, above_lowest, below_highest, coupling_positive, electric_low, energy_kept, no_energy}
+use Rattle.rows.proofs.KeptDiagonals.{NotBelow, one_is, by_power, above_lowest, below_highest, coupling_positive, electric_low, energy_kept, no_energy}
 
 two_is : float_of 2 ≡ fin false 1 (pos 1)
 unfolding float_of of_int round
 two_is = refl
-
-one_is : float_of 1 ≡ fin false 1 (pos 0)
-unfolding float_of of_int round
-one_is = refl
 
 -- half the lowest coupling
 abbrev pub least : Float

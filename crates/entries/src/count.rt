@@ -1,7 +1,6 @@
 // How many entries the rows have, counted state by state as a cursor goes over them, without a list. There is no heap, so the table `all` of the
 // sides of all triangles has room for the most triangles.
-ghost use Rattle.std.specs.Prelude.{◌≡◌, ◌<◌, ◌≤◌, eqb, length};
-ghost use Rattle.matrices.specs.Squares.{squares};
+ghost use Rattle.std.specs.Prelude.{◌≡◌, ◌≤◌};
 ghost use Rattle.walker.specs.Tables.{states_of};
 ghost use Rattle.plaquettes.specs.Pairs.{three, Movable};
 ghost use Rattle.entries.specs.Count.{over_states, both_stay, moves_stay, row_entries, Countable, AllCountable};

@@ -2,9 +2,8 @@
 use Rattle.std.proofs.Common.{◌≡◌, ℕ, ◌+◌, ◌*◌, ◌-◌, ◌^◌, ◌≤◌, Bool, true, List, [], ◌∷◌, ◌++◌, refl, Result, Ok, Err, IsErrAnd, ltb, sym, ◌∙◌, ℤ, length, ap, ne_eqb}
 use Rattle.std.proofs.lemmas.Result.{err_from_is_err_and}
 use Rattle.mathematics.specs.Tests.{every_entry}
-use Rattle.mathematics.specs.Refusals.{first}
+use Rattle.mathematics.specs.Refusals.{first, value}
 use Rattle.mathematics.proofs.Refusals.{numbered, first_stops}
-use Rattle.mathematics.specs.Refusals.{value}
 use Rattle.mathematics.specs.Calls.{Answered, none_lent}
 use Rattle.mathematics.proofs.Calls.{Tells, none, among, past_all, refuses, ends}
 use Rattle.complex.specs.declared.SimplicialComplex.{SimplicialComplex}

@@ -2,12 +2,11 @@
 use Prim.Native.Nat.{ℕ, zero, suc}
 use mathlib.Core.Path.{◌≡◌, refl, sym, ap, ◌∙◌}
 use borrow.Author.Tests.{ne_eqb}
-use lib.IntN.{ℤ, pos, neg_ℤ}
 use Rattle.mathematics.specs.Refusals.{Outcome, value, refused, first, outcome, written}
 use Rattle.mathematics.specs.Calls.{Call, Answered, NoneLent, none_lent}
 use Rattle.mathematics.proofs.Refusals.{refused_kept}
 use Rattle.mathematics.proofs.Calls.{refuses, ends, both, written_both}
-use Rattle.exports.specs.Exports.{signed, stored, value_lent, second_lent, zero_of, value_or}
+use Rattle.exports.specs.Exports.{stored, value_lent, second_lent, zero_of, value_or}
 use Rattle.answers.proofs.Outcomes.{refused_number, refused_some, value_none}
 use Rattle.exports.proofs.Signs.{zero_outcome}
 
@@ -39,15 +38,6 @@ lent_answers {A} {B} {call} h old is =
       lists = both h.lists (is ∙ ap (λ o. value_or o old) h.answer ∙ value_written n call.value old) ∙ sym (written_both n call.after call.before call.value old);
       known = h.known;
     }
-
--- what is told and what stands there, by the outcome
-pub lent_value : {A : Type 0} {a : Outcome A} {x : A} (old : A) → a ≡ value x → (pos 0 ≡ signed (zero_of a)) × (x ≡ value_or a old)
-unfolding signed zero_of value_or
-lent_value old is = rw is (refl, refl)
-
-pub lent_kept : {A : Type 0} {a : Outcome A} {k : ℕ} {r : ℤ} (old : A) → a ≡ refused k → r ≡ neg_ℤ (pos k) → (r ≡ signed (zero_of a)) × (old ≡ value_or a old)
-unfolding signed zero_of value_or
-lent_kept old is told = rw is (told, refl)
 
 -- ---- the second of two numbers does
 module _ {B C : Type 0} (call : Call (ℕ × ℕ) (B × C)) (old : ℕ) {b : B} {c : C} where

@@ -15,7 +15,7 @@ use Rattle.mathematics.specs.Tests.{every_entry}
 use Rattle.mathematics.specs.Refusals.{Outcome, value, refused, first}
 use Rattle.mathematics.specs.Calls.{Call, Answered, none_lent}
 use Rattle.mathematics.proofs.Refusals.{numbered, first_goes_on}
-use Rattle.mathematics.proofs.Calls.{Tells, among, refuses}
+use Rattle.mathematics.proofs.Calls.{among, refuses}
 use Rattle.mathematics.proofs.Signed.{back64}
 use Rattle.answers.specs.Refusal.{answer_of}
 use Rattle.answers.specs.declared.refusal.Refusal.{Refusal}

@@ -3,26 +3,18 @@ use Prim.Native.Nat.{ℕ, zero, suc, ◌<◌, ◌^◌}
 use mathlib.Core.Path.{◌≡◌, refl, ap, ◌∙◌}
 use mathlib.Core.Bool.{Bool, true, false, cond}
 use native.Mathlib.Omega.{arith}
-use borrow.Author.Tests.{ne_eqb}
-use lib.IntN.{ℤ, pos, neg_ℤ, ◌-ℤ◌, +ℤ_idl}
+use lib.IntN.{ℤ, pos}
 use lib.Signed.{mag}
 use mir.Syntax.{w64}
 use mir.Val.{to_z, of_z, bool_byte}
 use Rattle.mathematics.proofs.Signed.{back64}
 use mir.Facts.{to_z_pos}
-use Rattle.mathematics.specs.Refusals.{Outcome, value, refused, outcome}
+use Rattle.mathematics.specs.Refusals.{Outcome, outcome}
 use Rattle.mathematics.specs.Calls.{Call, Answered}
 use Rattle.exports.specs.Exports.{signed, yes_of, zero_of, Exported}
 
 pub plain : (n : ℕ) → n < 2 ^ 31 → to_z w64 n ≡ pos n
 plain n h = to_z_pos w64 (omega arith)
-
-pub small_mag : (n : ℕ) → n < 256 → mag (neg_ℤ (pos n)) < 2 ^ 63
-small_mag zero h = omega arith
-small_mag (suc n) h = omega arith
-
-pub minus : (n : ℕ) → n < 256 → pos 0 -ℤ to_z w64 n ≡ neg_ℤ (pos n)
-minus n h = rw (to_z_pos w64 {n = n} (omega arith)) (+ℤ_idl (neg_ℤ (pos n)))
 
 -- an answer of a call is exported as its signed number
 pub exports : {B : Type 0} {call : Call ℕ B} {a : Outcome ℕ} {l : B} → Answered call a l → {r : ℤ} → r ≡ signed a → Exported call r l

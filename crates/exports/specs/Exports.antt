@@ -1,10 +1,10 @@
 -- What the exported functions answer: one signed number, the value or minus the refusal.
-use Rattle.std.specs.Prelude.{ℕ, List, [], ◌∷◌, ◌++◌, Bool, cond, ◌≡◌, ℤ, pos, neg_ℤ, Float, eqb}
+use Rattle.std.specs.Prelude.{ℕ, List, [], ◌∷◌, ◌++◌, Bool, cond, ◌≡◌, ℤ, pos, neg_ℤ, Float}
 use Rattle.mathematics.specs.Refusals.{Outcome, value, refused, first, outcome, written}
 use Rattle.mathematics.specs.Calls.{Call, NoneLent}
 use Rattle.matrices.specs.declared.coupling.KSParams.{KSParams}
 use Rattle.complex.specs.Complex.{Complex, complex_of}
-use Rattle.sheet.specs.Sheet.{sheet_in, reading_tests, reading_refusal}
+use Rattle.sheet.specs.Sheet.{sheet_in, reading_tests}
 
 -- the value, or minus the refusal
 unfoldable pub signed : Outcome ℕ → ℤ

@@ -11,17 +11,16 @@ use Rattle.mathematics.specs.Integers.{sum_below}
 use Rattle.mathematics.proofs.Ordered.{at_each}
 use Rattle.mathematics.proofs.Below.{listed_member}
 use Rattle.mathematics.proofs.Sums.{sum_same, sum_zero}
-use Rattle.complex.specs.Complex.{Complex}
+use Rattle.complex.specs.Complex.{Complex, uncharged}
 use Rattle.complex.specs.Search.{whole_search, Ends, SpansReached}
 use Rattle.complex.specs.Judge.{Accepted}
 use Rattle.complex.proofs.Searches.{search_spans, connected_reached, connected_tree}
-use Rattle.gauss_law.specs.Listing.{tree_edges, free_edges, listing, Complete}
+use Rattle.gauss_law.specs.Listing.{tree_edges, free_edges, states, listing, Before, Complete}
 use Rattle.gauss_law.proofs.Solving.{Solved}
 use Rattle.gauss_law.proofs.Tree.{Solvable, spans_solvable, spans_solved}
 use Rattle.gauss_law.proofs.Listing.{edges_split, solvable_complete, complete_once}
 use Rattle.gauss_law.proofs.Roots.{one_times}
 use Rattle.gauss_law.proofs.Extension.{Root, Rooted, Extends, extends_once, extension}
-use Rattle.complex.specs.Complex.{uncharged}
 
 module _ (c : Complex) (accepted : Accepted c) where
   pub accepted_ends : Ends c.vertices c.edges
@@ -50,6 +49,10 @@ module _ (c : Complex) (accepted : Accepted c) where
   -- ---- the list of states
   pub listing_complete : (q : ℕ → ℤ) (L : ℕ) → Complete c q L (listing c q L)
   listing_complete q L = solvable_complete c q L accepted_tree
+
+  pub states_ordered : (L i j : ℕ) → i < j → j < length (states c L) → Before c (get_or (states c L) i []) (get_or (states c L) j [])
+  unfolding states
+  states_ordered L = (listing_complete c.charges L).ordered
 
   pub complete_listing : (q : ℕ → ℤ) (L : ℕ) (ss : List (List ℤ)) → Complete c q L ss → ss ≡ listing c q L
   complete_listing q L ss h = complete_once c q L ss (listing c q L) h (listing_complete q L)

@@ -1,13 +1,11 @@
 -- The tree of a record and the lists that it goes to.
-use Prim.Native.Nat.{ℕ, ◌≤◌}
+use Prim.Native.Nat.{ℕ}
 use mathlib.Core.List.{List, ◌++◌}
-use mathlib.Core.Bool.{Bool, false, ◌||◌}
+use mathlib.Core.Bool.{Bool, ◌||◌}
 use mathlib.Core.Path.{◌≡◌}
-use borrow.Author.Tests.{ltb-false}
 use lib.Dec.{ltb}
 use lib.ListN.{length, take, drop}
 use Rattle.mathematics.specs.Writing.{front}
-use Rattle.mathematics.proofs.Tests.{or_fell}
 use Rattle.complex.specs.declared.SimplicialComplex.{SimplicialComplex}
 use Rattle.complex.specs.declared.search.SpanningTree.{SpanningTree}
 use Rattle.complex.specs.Complex.{complex_of}
@@ -19,11 +17,6 @@ use Rattle.gauss_law.proofs.Spanned.{spanned_tree, spanned_found}
 -- one of two lists has too few entries
 abbrev pub short : ℕ → ℕ → ℕ → ℕ → Bool
 short tree free found count = ltb tree found || ltb free count
-
-pub long_enough : (tree free found count : ℕ) → short tree free found count ≡ false → (found ≤ tree) × (count ≤ free)
-long_enough tree free found count h =
-    let p = or_fell (ltb tree found) (ltb free count) h in
-    (ltb-false _ _ p.0, ltb-false _ _ p.1)
 
 module _ (c : SimplicialComplex) (t : SpanningTree) (s : Spanned c t) (f : EdgeList) (h : FreeOf (complex_of c) f) where
   -- the lists are measured by what the search has found

@@ -1,5 +1,5 @@
 // The spanning tree of a complex, and the edges that it leaves free.
-ghost use Rattle.std.specs.Prelude.{◌≡◌, ◌++◌, ℕ, ◌+◌, ◌<◌, ◌≤◌, get_or, length, drop};
+ghost use Rattle.std.specs.Prelude.{◌≡◌, ◌++◌, ℕ, ◌<◌, ◌≤◌, get_or, length, drop};
 ghost use Rattle.complex.specs.Complex.{complex_of};
 ghost use Rattle.mathematics.specs.Calls.{Answered};
 ghost use Rattle.answers.specs.Refusal.{answer_of};

@@ -8,14 +8,14 @@ use native.Mathlib.Nat.{mul-le-mul, mul-le-mul_right}
 use native.Mathlib.Omega.{arith}
 use lib.IntN.{ℤ, pos}
 use lib.Signed.{lt_z}
-use lib.ListN.{get_or, length, take, drop, length-take, length-drop}
+use lib.ListN.{get_or, length, take, drop}
 use lib.Seq.{get_or-take, length-take-le}
 use Rattle.std.proofs.Common.{reverse}
 use Rattle.std.proofs.lemmas.List.{get_or-reverse, length-reverse}
 use Rattle.std.proofs.lemmas.Grind.{get_or_default_zero}
 use Rattle.mathematics.proofs.Integers.{by_parts, not_less_test, test_not_less}
 use Rattle.hilbert.specs.Basis.{decided, smaller}
-use Rattle.hilbert.specs.Search.{row, Rows}
+use Rattle.hilbert.specs.Search.{row}
 
 -- ---- a list's first n entries, read from the last on
 pub read_back : (l : List ℕ) (n k x : ℕ) → n ≤ length l → (k < length (reverse (take n l))) × (x ≡ get_or (reverse (take n l)) k x) → (k < n) × (x ≡ get_or l (n - k - 1) 0)
@@ -63,13 +63,6 @@ pub row_room : (n m i room : ℕ) → n ≤ 2 ^ 20 → m ≤ 63 → i < n → n 
 row_room n m i room few small inside long =
     let below : i ≤ 2 ^ 20 = omega arith in
     (omega (arith, long, mul-le-mul_right m inside), mul-le-mul below small)
-
-module _ (list : List ℤ) (n : ℕ) (config : List ℤ) (free : List ℕ) (n_free : ℕ) (rows : Rows list n config free n_free) (i : ℕ) (inside : i < n) where
-  row_inside : i * length config + length config ≤ length list
-  row_inside = (row_room n (length config) i (length list) rows.few rows.edges_few inside rows.long).0
-
-  pub row_long : length (row (length config) list i) ≡ length config
-  row_long = rw (length-take, length-drop) (omega (arith, row_inside))
 
 -- the entries from a row's start to its end
 pub row_part : (list : List ℤ) (m i : ℕ) → take (i * m + m - i * m) (drop (i * m) list) ≡ row m list i

@@ -1,15 +1,14 @@
 -- The electric part as the code writes it, and the whole product from it.
-use Prim.Native.Nat.{ℕ, zero, suc, ◌+◌, ◌<◌}
+use Prim.Native.Nat.{ℕ, ◌+◌, ◌<◌}
 use mathlib.Core.List.{List, [], ◌∷◌, ◌++◌, map, map-append}
-use mathlib.Core.Path.{◌≡◌, refl, sym, ap, ap₂, ◌∙◌}
+use mathlib.Core.Path.{◌≡◌, sym, ap, ◌∙◌}
 use native.Mathlib.Numerals.{add-one}
-use native.Mathlib.Omega.{arith}
 use lib.IntN.{ℤ}
 use lib.Ieee.{Float, binary64, nan, add, mul}
 use lib.ListN.{get_or, length, set, drop, length-map}
 use Rattle.mathematics.specs.Counting.{below}
 use Rattle.mathematics.specs.Writing.{front}
-use Rattle.mathematics.proofs.Below.{length_below}
+use Rattle.mathematics.proofs.Below.{length_below, below_same}
 use Rattle.mathematics.proofs.Front.{store}
 use Rattle.complex.specs.Complex.{Complex}
 use Rattle.gauss_law.specs.Listing.{states}
@@ -44,14 +43,6 @@ module _ (factor : Float) (m : ℕ) (list : List ℤ) (v : List Float) where
   electric_all n old = ap (λ k. electric_parts factor m list v n ++ drop k old) (sym (parts_long n))
 
 -- the rows of the list are the states
-map_agree : (f g : ℕ → Float) (n : ℕ) → ((i : ℕ) → i < n → f i ≡ g i) → map f (below n) ≡ map g (below n)
-unfolding below
-map_agree f g zero h = refl
-map_agree f g (suc n) h =
-    map-append f (below n) (n ∷ [])
-    ∙ ap₂ (λ a b. a ++ (b ∷ [])) (map_agree f g n (λ i l. h i (omega arith))) (h n (omega arith))
-    ∙ sym (map-append g (below n) (n ∷ []))
-
 module _ (c : Complex) (list : List ℤ) (s : Sizes) (free : List ℕ) (basis : BasisList c list s free) (p : KSParams) (v : List Float) where
   abbrev state_part : ℕ → Float
   state_part i = add binary64 (float_of 0) (mul binary64 (energy p.electric (squares (get_or (states c s.lambda) i []))) (get_or v i nan))
@@ -59,7 +50,7 @@ module _ (c : Complex) (list : List ℤ) (s : Sizes) (free : List ℕ) (basis : 
   electric_is : electric_parts p.electric s.edges list v s.states ≡ electric_product c s.lambda p v
   unfolding electric_parts electric_product electric_term
   electric_is =
-      map_agree (part p.electric s.edges list v) state_part s.states (λ i h. rw (row_is c list s free basis i h))
+      below_same (part p.electric s.edges list v) state_part s.states (λ i h. rw (row_is c list s free basis i h))
       ∙ ap (λ n. map state_part (below n)) basis.count
 
   electric_long : length (electric_product c s.lambda p v) ≡ length (states c s.lambda)

@@ -1,15 +1,16 @@
 -- The next state of the list: where the first cycle can be added to a state, the sum stands right behind it.
 use Prim.Native.Nat.{ℕ, zero, suc, ◌+◌, ◌<◌, ◌≤◌}
-use mathlib.Core.List.{List, [], ◌∷◌}
+use mathlib.Core.List.{List, []}
 use mathlib.Core.Path.{◌≡◌, refl, sym, ap, ◌∙◌}
 use mathlib.Core.Logic.{◌≢◌}
 use native.Mathlib.Nat.{add-zero}
 use native.Mathlib.Omega.{arith}
 use native.Mathlib.Decide.{dec_lt, ℕ_discrete}
 use lib.Dec.{eqb}
-use lib.IntN.{ℤ, pos, nat_abs, ◌+ℤ◌, ◌*ℤ◌, zero-*ℤ, *ℤ-zero, +ℤ_idr}
+use lib.IntN.{ℤ, pos, nat_abs, ◌+ℤ◌, ◌*ℤ◌, *ℤ-zero}
 use lib.Signed.{◌<ℤ◌}
 use lib.ListN.{get_or, length}
+use Rattle.walker.proofs.Walk.{added_none}
 use Rattle.mathematics.specs.Lists.{position}
 use Rattle.mathematics.proofs.Integers.{positive, negative, parts_sum, to_parts, by_parts, less_to_parts, times_one}
 use Rattle.mathematics.proofs.Ordered.{ordered_at}
@@ -19,7 +20,7 @@ use Rattle.complex.specs.Judge.{Accepted}
 use Rattle.gauss_law.specs.Gauss.{State}
 use Rattle.gauss_law.specs.Listing.{free_edges, Free, Before, states}
 use Rattle.gauss_law.proofs.Free.{free_rising}
-use Rattle.gauss_law.proofs.Accepted.{listing_complete}
+use Rattle.gauss_law.proofs.Accepted.{states_ordered}
 use Rattle.cycles.specs.Cycles.{with_cycle, Cycle}
 use Rattle.cycles.proofs.Adding.{added_length, added_at, gauss_closed}
 use Rattle.hilbert.specs.Basis.{place, At}
@@ -35,10 +36,6 @@ module _ (c : Complex) (accepted : Accepted c) (L : ℕ) where
       go zero l is = omega (arith, is)
       go (suc k) l is = omega (arith, is, ordered_at 0 (free_rising c) 0 (suc k) (omega arith) l)
 
-  pub ordered : (i j : ℕ) → i < j → j < length (states c L) → Before c (get_or (states c L) i []) (get_or (states c L) j [])
-  unfolding states
-  ordered = (listing_complete c accepted c.charges L).ordered
-
   -- a state that has 1 more on the first free edge, and the same on the other free edges, is the next
   module _ (i : ℕ) (h : i < length (states c L)) (t : List ℤ) (state : State c c.charges L t) where
     abbrev s : List ℤ
@@ -53,7 +50,7 @@ module _ (c : Complex) (accepted : Accepted c) (L : ℕ) where
 
       not_before : (p : ℕ) → At c L t p → p < i → ⊥
       unfolding positive negative
-      not_before p at-t l = go (rw at-t.state at (ordered p i l h))
+      not_before p at-t l = go (rw at-t.state at (states_ordered c accepted L p i l h))
         where
           go : Before c t s → ⊥
           go b = by (ℕ_discrete b.edge f)
@@ -68,7 +65,7 @@ module _ (c : Complex) (accepted : Accepted c) (L : ℕ) where
 
       not_beyond : (p : ℕ) → At c L t p → i + 1 < p → ⊥
       unfolding positive negative
-      not_beyond p at-t l = go (ordered i (i + 1) (omega arith) (omega (arith, l, at-t.below))) (rw at-t.state at (ordered (i + 1) p l at-t.below))
+      not_beyond p at-t l = go (states_ordered c accepted L i (i + 1) (omega arith) (omega (arith, l, at-t.below))) (rw at-t.state at (states_ordered c accepted L (i + 1) p l at-t.below))
         where
           z : List ℤ
           z = get_or (states c L) (i + 1) []
@@ -109,12 +106,6 @@ module _ (c : Complex) (accepted : Accepted c) (L : ℕ) where
           go (no l) (no d) (no r) = let e : place c L t ≡ i + 1 = omega arith in rw e at stands
 
 -- ---- the first cycle, added again and again
-with_none : (s z : List ℤ) → with_cycle s (pos 0) z ≡ s
-unfolding with_cycle
-with_none [] z = refl
-with_none (x ∷ s) [] = refl
-with_none (x ∷ s) (y ∷ z) = rw (zero-*ℤ y, +ℤ_idr x, with_none s z)
-
 sum_suc : (x : ℤ) (d : ℕ) → x +ℤ pos (suc d) ≡ (x +ℤ pos d) +ℤ pos 1
 unfolding positive negative
 sum_suc x d = by_parts _ _ (omega (arith, parts_sum x (pos (suc d)), parts_sum x (pos d), parts_sum (x +ℤ pos d) (pos 1)))
@@ -137,7 +128,7 @@ module _ (c : Complex) (accepted : Accepted c) (L : ℕ) (z : List ℤ) (cycle :
         }
 
   pub run_states : (d : ℕ) → ((k : ℕ) → k ≤ d → (e : ℕ) → e < length c.edges → nat_abs (get_or base e (pos 0) +ℤ pos k *ℤ get_or z e (pos 0)) ≤ L) → At c L (with_cycle base (pos d) z) (i + d)
-  run_states zero inside = rw (with_none base z, add-zero i) (record { below = h; state = refl })
+  run_states zero inside = rw (added_none base z, add-zero i) (record { below = h; state = refl })
   run_states (suc d) inside =
       let before = run_states d (λ k l. inside k (omega arith)) in
       let e : i + suc d ≡ i + d + 1 = omega arith in

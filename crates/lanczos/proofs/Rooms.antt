@@ -16,8 +16,9 @@ use Rattle.std.proofs.lemmas.List.{get_or_append_left}
 use Rattle.std.proofs.Math.Seq.{get_or-append_seam}
 use mir.Syntax.{w8, w32}
 use mir.Val.{SFits, to_z, of_z}
-use mir.Facts.{to_z_pos, to_z-of_z}
-use Rattle.mathematics.proofs.Signed.{size_sign, size_fits, zero_bits, small_back}
+use mir.Facts.{to_z_pos}
+use Rattle.walker.proofs.Adding.{sign_back}
+use Rattle.mathematics.proofs.Signed.{size_sign, zero_bits, small_back}
 use Rattle.mathematics.proofs.Integers.{positive, negative, parts, parts_size, one_part, the, ◌⊞◌, ◌⊟◌, ⊖◌, times_one, times_minus_one, equal_true}
 use Rattle.mathematics.proofs.Tests.{and_parts}
 use Rattle.gauss_law.specs.Gauss.{within}
@@ -68,7 +69,7 @@ module _ (L : ℕ) (x : ℤ) (small : nat_abs x ≤ L) where
 -- how far it is above the value times its sign, as the code makes that
 module _ {L : ℕ} (few : L ≤ 1000) (x s : ℤ) (small : nat_abs x ≤ L) (unit : nat_abs s ≤ 1) {t : ℤ} (told : t ≡ to_z w32 (of_z w32 x) *ℤ to_z w8 (of_z w8 s)) where
   turned_is : t ≡ x *ℤ s
-  turned_is = told ∙ ap₂ ◌*ℤ◌ (small_back x (omega arith)) (to_z-of_z (size_fits w8 s (omega arith)))
+  turned_is = told ∙ ap₂ ◌*ℤ◌ (small_back x (omega arith)) (sign_back s (omega arith))
 
   turned_small : nat_abs t ≤ L
   turned_small = rw turned_is (omega (arith, size_sign x s unit, small))

@@ -11,6 +11,7 @@ use lib.Dec.{eqb}
 use lib.IntN.{ℤ, pos, negsuc, nat_abs, neg_ℤ, ◌+ℤ◌, ◌*ℤ◌, *ℤ-zero, +ℤ_idr}
 use lib.Ieee.{Float}
 use lib.ListN.{get_or, length, take}
+use Rattle.gauss_law.proofs.Accepted.{states_ordered}
 use Rattle.mathematics.specs.Integers.{equal}
 use Rattle.mathematics.specs.Lists.{listed}
 use Rattle.mathematics.proofs.Integers.{positive, negative, by_parts, parts_sum, equal_true}
@@ -35,7 +36,7 @@ use Rattle.plaquettes.proofs.Pairing.{movable_rows, stays_target, pair_target}
 use Rattle.lanczos.specs.declared.state_runs.Run.{Run}
 use Rattle.lanczos.specs.Walk.{run_added}
 use Rattle.lanczos.specs.Runs.{Covers, CycleRun, MoveRun, RunRows, RunLength, RunGoes, RunOver, RunFound, FirstCycle}
-use Rattle.lanczos.proofs.Neighbours.{run_states, ordered}
+use Rattle.lanczos.proofs.Neighbours.{run_states}
 use Rattle.lanczos.proofs.Folds.{Way, way_miss, way_up, way_hit}
 
 -- a shorter run
@@ -72,7 +73,7 @@ module _ (c : Complex) (list : List ℤ) (s : Sizes) (free : List ℕ) (basis : 
   one_state none = go (dec_lt 1 s.states)
     where
       go : Dec (1 < s.states) → s.states ≤ 1
-      go (yes l) = let b = ordered c basis.accepted L 0 1 (omega arith) (there c list s free basis 1 l) in absurd (empty (free_edges c) b.edge none b.free)
+      go (yes l) = let b = states_ordered c basis.accepted L 0 1 (omega arith) (there c list s free basis 1 l) in absurd (empty (free_edges c) b.edge none b.free)
       go (no l) = omega arith
 
   module _ (t : ℕ) (sides : Sides) (of : SidesOf c t sides) (edges : List ℕ) (count : ℕ) (z : List ℤ) (first : FirstCycle c z) (covers : Covers edges count z) where

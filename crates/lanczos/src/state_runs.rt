@@ -102,7 +102,7 @@ pub struct Run {
     pub length: usize,
 }
 
-impl<'a> RunTables<'a> {
+impl RunTables<'_> {
     ghost use Rattle.std.specs.Prelude.{◌≡◌, ◌<◌, ◌≤◌, nat_abs, true};
     ghost use Rattle.plaquettes.specs.Pairs.{row_stays};
     ghost use Rattle.lanczos.specs.Tables.{Runs};

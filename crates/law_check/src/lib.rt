@@ -1,7 +1,7 @@
 // Whether a configuration obeys Gauss's law, and where it first does not.
 #![tactic(auto)]
 
-ghost use Rattle.std.specs.Prelude.{◌≡◌, ◌≢◌, [], ◌∷◌, ◌<◌, ◌≤◌, pos, get_or, length};
+ghost use Rattle.std.specs.Prelude.{◌≡◌, ◌≢◌, [], ◌∷◌, ◌≤◌, pos, get_or, length};
 ghost use Rattle.complex.specs.Complex.{simplices, complex_of, uncharged};
 ghost use Rattle.complex.specs.Search.{Ends};
 ghost use Rattle.complex.specs.Judge.{refusal};

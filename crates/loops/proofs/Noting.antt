@@ -9,7 +9,8 @@ use native.Mathlib.Numerals.{add-one}
 use native.Mathlib.Decide.{ℕ_discrete}
 use lib.Dec.{eqb}
 use lib.ListN.{get_or, length, set, length-set, replicate, get_or-replicate}
-use lib.Seq.{get_or-set_same, get_or-set_other, get_or-take}
+use lib.Seq.{get_or-set_same, get_or-set_other}
+use Rattle.cycles.proofs.PathTables.{vertex_found, edge_found}
 use Rattle.complex.specs.declared.SimplicialComplex.{SimplicialComplex}
 use Rattle.complex.specs.declared.search.SpanningTree.{SpanningTree}
 use borrow.Author.Tests.{eqb-false}
@@ -18,12 +19,11 @@ use Rattle.mathematics.proofs.Below.{place_right, listed_member}
 use Rattle.complex.specs.Complex.{complex_of}
 use Rattle.complex.specs.Search.{Search, whole_search, SpansReached}
 use Rattle.complex.specs.Judge.{Accepted}
-use Rattle.complex.specs.Tree.{search_of}
 use Rattle.complex.proofs.Accepting.{accepted}
 use Rattle.gauss_law.specs.Listing.{tree_edges}
 use Rattle.gauss_law.specs.Spanning.{Spanned}
 use Rattle.gauss_law.proofs.Accepted.{accepted_spans}
-use Rattle.gauss_law.proofs.Spanned.{spanned_tree, spanned_found}
+use Rattle.gauss_law.proofs.Spanned.{spanned_found}
 use Rattle.loops.specs.declared.climbing.TreeParents.{TreeParents}
 use Rattle.loops.specs.Parents.{parents_of}
 use Rattle.loops.specs.Loops.{parents}
@@ -83,14 +83,6 @@ module _ (c : SimplicialComplex) (t : SpanningTree) (spanned : Spanned c t) wher
   unfolding tree_edges
   tree_long = sym (spanned_found c t spanned)
 
-  vertex_found : (i : ℕ) → i ≤ t.found → get_or found.seen i 0 ≡ get_or t.queue i 0
-  unfolding search_of complex_of
-  vertex_found i h = ap (λ s. get_or s.seen i 0) (sym spanned.searched.stands) ∙ get_or-take (t.found + 1) t.queue i 0 (omega arith)
-
-  edge_found : (i : ℕ) → i < t.found → get_or found.tree i 0 ≡ get_or t.tree_edges i 0
-  unfolding tree_edges
-  edge_found i h = ap (λ l. get_or l i 0) (sym (spanned_tree c t spanned)) ∙ get_or-take t.found t.tree_edges i 0 h
-
   pub spanned_orderly : Orderly t
   spanned_orderly =
       let fits = spanned.searched.fits in
@@ -102,9 +94,9 @@ module _ (c : SimplicialComplex) (t : SpanningTree) (spanned : Spanned c t) wher
             λ i l.
             let few = good.few_vertices in
             let b = spans.below i (omega (arith, spans.sizes, tree_long)) in
-            let e = vertex_found i l in
+            let e = vertex_found c t spanned i l in
             omega arith;
-        once = λ i j l m q. spans.apart i j l (omega (arith, spans.sizes, tree_long)) (vertex_found i (omega arith) ∙ q ∙ sym (vertex_found j m));
+        once = λ i j l m q. spans.apart i j l (omega (arith, spans.sizes, tree_long)) (vertex_found c t spanned i (omega arith) ∙ q ∙ sym (vertex_found c t spanned j m));
       }
 
   module _ (r : TreeParents) (h : Noted t t.found r.place r.led) where
@@ -114,14 +106,14 @@ module _ (c : SimplicialComplex) (t : SpanningTree) (spanned : Spanned c t) wher
     place_of v l =
         let p = place_right 0 (listed_member v found.seen (accepted_seen (complex_of c) good v l)) in
         let few : position eqb v found.seen ≤ t.found = omega (arith, p.0, spans.sizes, tree_long) in
-        (few, sym (vertex_found (position eqb v found.seen) few) ∙ p.1)
+        (few, sym (vertex_found c t spanned (position eqb v found.seen) few) ∙ p.1)
 
     edge_of_place : (v q : ℕ) → (parents (complex_of c)).place v ≡ q → q ≢ 0 → q ≤ t.found → get_or t.queue q 0 ≡ v → get_or r.led v 0 ≡ (parents (complex_of c)).edge v
     unfolding parents parents_of complex_of
     edge_of_place v zero e n few is = absurd (n refl)
     edge_of_place v (suc i) e n few is =
         let less : position eqb v found.seen - 1 ≡ i = omega arith in
-        ap (λ x. get_or r.led x 0) (sym (ap (λ k. get_or t.queue k 0) (add-one i) ∙ is)) ∙ h.edges i few ∙ sym (edge_found i few) ∙ ap (λ k. get_or found.tree k 0) (sym less)
+        ap (λ x. get_or r.led x 0) (sym (ap (λ k. get_or t.queue k 0) (add-one i) ∙ is)) ∙ h.edges i few ∙ sym (edge_found c t spanned i few) ∙ ap (λ k. get_or found.tree k 0) (sym less)
 
     other : (v : ℕ) → (parents (complex_of c)).root v ≡ false → (parents (complex_of c)).place v ≢ 0
     unfolding parents parents_of

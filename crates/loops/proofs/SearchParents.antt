@@ -8,6 +8,7 @@ use native.Mathlib.Omega.{arith}
 use borrow.Author.Tests.{ne_eqb, eqb-false, eqb-true}
 use lib.Dec.{eqb}
 use lib.ListN.{get_or, length}
+use Rattle.cycles.proofs.PathTables.{joins_back}
 use Rattle.mathematics.specs.Lists.{listed, position, In}
 use Rattle.mathematics.proofs.Ordered.{Ordered, at_ordered, place_member}
 use Rattle.mathematics.proofs.Below.{listed_member, member_listed, place_right, place_at}
@@ -15,7 +16,6 @@ use Rattle.complex.specs.Complex.{Simplex, Joins}
 use Rattle.complex.specs.Search.{Search, SpansReached}
 use Rattle.complex.proofs.Looks.{joins_across}
 use Rattle.loops.specs.Parents.{ParentsOf, parent, Under, itself, above, Together, parents_of}
-use Rattle.loops.proofs.Treads.{joins_back}
 
 module _ (es : List Simplex) (n : ℕ) (s : Search) (spans : SpansReached es n s) where
   abbrev Seen : ℕ → Type 0

@@ -25,10 +25,6 @@ Simple w = Ordered (λ s t. s.0 ≢ t.0) w
 abbrev pub Free-of : ℕ → List Step → Type 0
 Free-of e w = Each (λ t. e ≢ t.0) w
 
-pub joins_back : (s : Simplex) (u v : ℕ) → Joins s u v → Joins s v u
-joins_back s u v (inl j) = inr j
-joins_back s u v (inr j) = inl j
-
 pub walk_append : {es : List Simplex} {tree : List ℕ} {a b c : ℕ} {l m : List Step} → Walk es tree a l b → Walk es tree b m c → Walk es tree a (l ++ m) c
 walk_append stay k = k
 walk_append (onward i g r) k = onward i g (walk_append r k)

@@ -10,6 +10,7 @@ use borrow.Author.Tests.{eq-eqb, ne_eqb, lt-ltb, le-ltb}
 use lib.Dec.{eqb}
 use lib.IntN.{ℤ, pos}
 use lib.ListN.{get_or, length-map}
+use Rattle.cycles.proofs.PathTables.{joins_back}
 use Rattle.mathematics.specs.Lists.{listed, In}
 use Rattle.mathematics.specs.Entries.{Each, none, also}
 use Rattle.mathematics.proofs.Ordered.{empty, before, each_to, each_append, each_parts, ordered_append, ordered_parts, ordered_map, ordered_at, at_ordered}
@@ -17,7 +18,7 @@ use Rattle.mathematics.proofs.Below.{map_at}
 use Rattle.complex.specs.Complex.{Simplex, start, Joins}
 use Rattle.loops.specs.Parents.{Parents, ParentsOf, parent, Under, itself, above, Together, leaving, step_from, climb, tree_path}
 use Rattle.loops.specs.Walks.{Step, edge_of, Goes, Walk, stay, onward, EdgesOnce, IsPath}
-use Rattle.loops.proofs.Treads.{Simple, Free-of, walk_append, joins_back, parent_earlier, parent_other, first_up, last_down}
+use Rattle.loops.proofs.Treads.{Simple, Free-of, walk_append, parent_earlier, parent_other, first_up, last_down}
 
 pub once_simple : (w : List Step) → EdgesOnce w → Simple w
 once_simple w once =

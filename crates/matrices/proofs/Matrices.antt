@@ -12,6 +12,7 @@ use lib.Dec.{eqb, ltb}
 use lib.Ieee.{Float, nan, binary64, add}
 use lib.ListN.{get_or, length, drop, set, replicate, length-set, length-map, length-append, length-drop, length-replicate, get_or-append, get_or-replicate}
 use lib.Seq.{get_or-set_same, get_or-set_other, get_or-append-add, get_or-append_right, get_or-drop, ext_get_or}
+use Rattle.mathematics.proofs.Tests.{same_turned}
 use Rattle.mathematics.specs.Counting.{below}
 use Rattle.mathematics.specs.Writing.{front}
 use Rattle.mathematics.proofs.Below.{length_below, map_below_at}
@@ -142,13 +143,6 @@ one_higher i k d = go (dec_lt i k)
     go : Dec (i < k) → ltb i (k + 1) ≡ ltb i k
     go (yes h) = lt-ltb i (k + 1) (omega arith) ∙ sym (lt-ltb i k h)
     go (no h) = le-ltb i (k + 1) (omega arith) ∙ sym (le-ltb i k (omega arith))
-
-same_turned : (i j : ℕ) → eqb i j ≡ eqb j i
-same_turned i j = go (ℕ_discrete i j)
-  where
-    go : Dec (i ≡ j) → eqb i j ≡ eqb j i
-    go (yes e) = eq-eqb i j e ∙ sym (eq-eqb j i (sym e))
-    go (no e) = ne_eqb i j e ∙ sym (ne_eqb j i (λ h. e (sym h)))
 
 module _ (f : ℕ → ℕ → Float) (g : ℕ → ℕ) (x : ℕ → Float) where
   pub passed_none : (i j : ℕ) → f i j ≡ passed f g x 0 i j

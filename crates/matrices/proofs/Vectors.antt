@@ -1,7 +1,7 @@
 -- What the judge of the weights, the coupling and the vector tells.
 use Prim.Native.Nat.{ℕ}
 use mathlib.Core.List.{List, ◌++◌}
-use mathlib.Core.Bool.{Bool, true, false, not, ◌&&◌, ◌||◌, cond, true≢false}
+use mathlib.Core.Bool.{Bool, true, false, not, ◌&&◌, ◌||◌, cond}
 use mathlib.Core.Path.{◌≡◌, refl}
 use lib.Dec.{eqb}
 use lib.Ieee.{Float}

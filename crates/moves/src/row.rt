@@ -1,5 +1,5 @@
 // The entries of a row, found by the moves of its state.
-ghost use Rattle.std.specs.Prelude.{◌≡◌, ◌+◌, ◌*◌, ◌-◌, ◌^◌, ◌<◌, ◌≤◌, nat_abs, get_or, length, take, replicate, ℕ, Bool, cond, Some, None};
+ghost use Rattle.std.specs.Prelude.{◌≡◌, ◌+◌, ◌*◌, ◌-◌, ◌^◌, ◌<◌, ◌≤◌, nat_abs, get_or, length, take, ℕ, cond, Some, None};
 ghost use Rattle.complex.specs.Complex.{entries};
 ghost use Rattle.rows.specs.Entries.{pairs};
 ghost use Rattle.moves.specs.Numbers.{sought, number_in};

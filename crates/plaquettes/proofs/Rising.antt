@@ -15,7 +15,7 @@ use Rattle.complex.specs.Judge.{Accepted}
 use Rattle.gauss_law.specs.Listing.{Before, states}
 use Rattle.gauss_law.specs.Shifts.{triangle_move}
 use Rattle.complex.specs.Sides.{side}
-use Rattle.gauss_law.proofs.Accepted.{listing_complete}
+use Rattle.gauss_law.proofs.Accepted.{states_ordered}
 use Rattle.gauss_law.proofs.Shifts.{added, triangle_moved, triangle_value}
 use Rattle.hilbert.specs.Basis.{comes_before, At}
 use Rattle.hilbert.proofs.Order.{before_smaller, self_smaller}
@@ -40,10 +40,6 @@ module _ (c : Complex) (accepted : Accepted c) (t : ℕ) (number : t < length c.
     sized : (i : ℕ) → i < length (states c L) → length (get_or (states c L) i []) ≡ length c.edges
     sized i h = (state_there c accepted L i h).sized
 
-    ordered : (i j : ℕ) → i < j → j < length (states c L) → Before c (get_or (states c L) i []) (get_or (states c L) j [])
-    unfolding states
-    ordered = (listing_complete c accepted c.charges L).ordered
-
     pub targets_rise : (i j p q : ℕ) → i < j → j < length (states c L) → At c L (moved_state c L t u i) p → At c L (moved_state c L t u j) q → p < q
     unfolding moved_state
     targets_rise i j p q less below at_i at_j = go (dec_lt p q) (dec_lt q p)
@@ -51,14 +47,14 @@ module _ (c : Complex) (accepted : Accepted c) (t : ℕ) (number : t < length c.
         rises : Before c (get_or (states c L) p []) (get_or (states c L) q [])
         rises =
             rw (at_i.state, at_j.state)
-            (before_moved (get_or (states c L) i []) (get_or (states c L) j []) (sized i (omega arith)) (sized j below) (ordered i j less below))
+            (before_moved (get_or (states c L) i []) (get_or (states c L) j []) (sized i (omega arith)) (sized j below) (states_ordered c accepted L i j less below))
 
         not_both : comes_before c (get_or (states c L) p []) (get_or (states c L) q []) ≡ true → comes_before c (get_or (states c L) p []) (get_or (states c L) q []) ≡ false → ⊥
         not_both a b = false≢true (sym b ∙ a)
 
         go : Dec (p < q) → Dec (q < p) → p < q
         go (yes l) r = l
-        go (no l) (yes r) = absurd (not_both (before_smaller c _ _ rises).0 (before_smaller c _ _ (ordered q p r at_i.below)).1)
+        go (no l) (yes r) = absurd (not_both (before_smaller c _ _ rises).0 (before_smaller c _ _ (states_ordered c accepted L q p r at_i.below)).1)
         go (no l) (no r) =
             let e : p ≡ q = omega arith in
             absurd (not_both (before_smaller c _ _ rises).0 (rw e (self_smaller c (get_or (states c L) q []))))

@@ -52,15 +52,7 @@ module _ {A : Type 0} (w : ℕ) (taken : ℕ → A) (b : List ℕ) where
             (store (take i l) old i (get_or l i d) d (length-take-le i l (omega arith)) room ∙ ap (λ k. k ++ drop (i + 1) old) (sym (take_next l i d inside)));
       }
 
--- all of them have
-pub read_all : {A : Type 0} {l old new : List A} {n i : ℕ} → Reading l old new n i → n ≤ i → ReadInto l old new n
-read_all {A} {l} {old} {new} {n} {i} h end =
-    let few = h.few in
-    let last : i ≡ n = omega arith in
-    let size : length (take n l) ≡ n = length-take-le n l (omega arith) in
-    record { count = few; list = h.list ∙ rw (last, size) }
-
--- the same where the entries went to the first n of a longer list
+-- all of them have, which went to the first n of a longer list
 pub read_part : {A : Type 0} {l old part : List A} {n i : ℕ} → n ≡ min (length l) (length old) → Reading l (take n old) part n i → n ≤ i → ReadInto l old (part ++ drop n old) n
 read_part {A} {l} {old} {part} {n} {i} few h end =
     let last : i ≡ n = omega (arith, h.within) in

@@ -1,5 +1,5 @@
 // The numbers that lists of bytes hold.
-ghost use Rattle.std.specs.Prelude.{◌≡◌, ℕ, Bool, ◌+◌, ◌<◌, ◌^◌, eqb, pos, Float};
+ghost use Rattle.std.specs.Prelude.{◌≡◌, ℕ, Bool, ◌+◌, ◌<◌, ◌^◌, eqb, pos};
 ghost use Rattle.std.specs.Float.{nan};
 ghost use Rattle.std.specs.Int.{w8, w32};
 ghost use Rattle.std.proofs.Common.{to_z, rules};

@@ -30,7 +30,7 @@ zero_is : float_of 0 ≡ fin false 0 (pos 0)
 unfolding float_of of_int round
 zero_is = refl
 
-one_is : float_of 1 ≡ fin false 1 (pos 0)
+pub one_is : float_of 1 ≡ fin false 1 (pos 0)
 unfolding float_of of_int round
 one_is = refl
 

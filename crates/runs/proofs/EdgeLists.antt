@@ -27,11 +27,10 @@ use lib.Signed.{mag}
 use mir.Syntax.{w8, w32}
 use mir.Val.{to_z, of_z}
 use Rattle.std.proofs.Common.{FitsSigned}
-use Rattle.mathematics.proofs.Signed.{zero_bits}
+use Rattle.mathematics.proofs.Signed.{zero_bits, back32, small_back}
 use Rattle.walker.proofs.Candidates.{within}
 use Rattle.walker.proofs.Interval.{between_tests, moves, inside_span, span_inside, within_entries, entries_within, rows_by_tests}
 use Rattle.walker.proofs.Narrowing.{span_bound, span_more}
-use Rattle.mathematics.proofs.Signed.{back32, small_back}
 use Rattle.walker.proofs.Adding.{sign_back}
 use Rattle.cycles.proofs.Adding.{added_at}
 

@@ -7,10 +7,8 @@ use native.Mathlib.Numerals.{add-one}
 use native.Mathlib.Nat.{add-zero, sub-zero, mul-le-mul_right, add-mul}
 use native.Mathlib.Decide.{dec_lt}
 use lib.IntN.{ℤ, pos, neg_ℤ, nat_abs, ◌+ℤ◌, ◌*ℤ◌, *ℤ_comm, +ℤ_idl}
-use lib.ListN.{length, get_or, take, drop, replicate, length-append, length-replicate, length-drop, take-append-drop, get_or-append, get_or-eq_default}
-use lib.Seq.{get_or-take, get_or-drop, take-append-le, drop-append-le, take-add, drop-drop, take_at, drop_at, get_or-append-add, length-take-le}
-use lib.ListN.{set}
-use lib.Seq.{paste, paste-suc}
+use lib.ListN.{length, get_or, take, drop, replicate, length-append, length-replicate, length-drop, take-append-drop, get_or-append, get_or-eq_default, set}
+use lib.Seq.{get_or-take, get_or-drop, take-append-le, drop-append-le, take-add, drop-drop, take_at, drop_at, get_or-append-add, length-take-le, paste, paste-suc}
 use mathlib.Core.Logic.{inl}
 use mir.Syntax.{w32}
 use mir.Val.{to_z, of_z}
@@ -21,7 +19,7 @@ use Rattle.mathematics.specs.Counting.{below}
 use Rattle.mathematics.specs.Writing.{put}
 use Rattle.mathematics.proofs.Signed.{back32, size_fits}
 use Rattle.mathematics.proofs.Pasted.{paste_outside}
-use Rattle.mathematics.proofs.Puts.{paste_put, put_none, put_front, put_length}
+use Rattle.mathematics.proofs.Puts.{paste_put, put_none, put_front, put_length, put_behind}
 use Rattle.mathematics.proofs.Integers.{times_one}
 use Rattle.mathematics.proofs.Flat.{flatten_last, flatten_append}
 use Rattle.cycles.specs.Cycles.{with_cycle}
@@ -36,7 +34,6 @@ use Rattle.runs.specs.Rows.{repeated, Beside, raised, Raisable, RowsBefore}
 use Rattle.runs.specs.Runs.{between}
 use Rattle.runs.proofs.Added.{once_more, put_back, either_order}
 use Rattle.runs.proofs.Between.{between_by, between_split}
-use Rattle.runs.proofs.Written.{put_behind}
 
 -- ---- a list again and again
 module _ (s : List ℤ) where

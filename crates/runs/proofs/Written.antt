@@ -2,14 +2,9 @@
 use Rattle.std.proofs.Common.{◌≡◌, ℕ, ◌+◌, ◌*◌, ◌≤◌, List, [], ◌++◌, append_assoc, ℤ, length, sym, ap, refl, ◌∙◌, arith, length-append}
 use Rattle.std.proofs.Math.Nat.{mul-le-mul_right, add-mul}
 use mathlib.Core.List.{flatten, append-nil}
-use Rattle.mathematics.specs.Writing.{put}
-use Rattle.mathematics.proofs.Puts.{put_none, put_more}
+use Rattle.mathematics.proofs.Puts.{put_none, put_behind}
 use Rattle.mathematics.proofs.Flat.{flatten_append}
 use Rattle.walker.specs.Blocks.{WrittenAt, StatesWritten}
-
--- what is written right behind another list stands behind it
-pub put_behind : (old s t : List ℤ) (at : ℕ) {list new whole : List ℤ} {place : ℕ} → list ≡ put old at s → place ≡ at + length s → place ≤ length old → new ≡ put list place t → whole ≡ s ++ t → new ≡ put old at whole
-put_behind old s t at is here room made all = made ∙ rw (is, here, all) (put_more old at s t (omega arith))
 
 pub none_written : {states : List (List ℤ)} {d : List ℤ} {at : ℕ} → states ≡ [] → WrittenAt states d d at 0
 unfolding flatten

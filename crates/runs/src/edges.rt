@@ -1,10 +1,7 @@
 // The edges by what the first two cycles do to them. A run of blocks is judged by those that neither moves, narrowed by those that the
 // second alone moves, and each of its blocks by those that the first moves.
-ghost use Rattle.std.specs.Prelude.{◌≡◌, ◌+◌, ◌^◌, ◌<◌, ◌≤◌, length, pos};
-ghost use Rattle.cycles.specs.Cycles.{with_cycle};
-ghost use Rattle.walker.specs.Steps.{Small, Addable};
-ghost use Rattle.walker.specs.Blocks.{SpanTo};
-ghost use Rattle.runs.specs.Edges.{Listed, Judged, picked};
+ghost use Rattle.std.specs.Prelude.{◌≡◌, ◌≤◌, length};
+ghost use Rattle.runs.specs.Edges.{Listed, Judged};
 ghost use Rattle.runs.specs.Kinds.{KindsOf};
 
 use numbers::edge_list::EdgeList;

@@ -64,7 +64,7 @@ fn raise(states: &mut [i32], at: usize, back: usize, amounts: &[i32])
     }
 }
 
-impl<'a> RunTables<'a> {
+impl RunTables<'_> {
     // The same for a number of rows, with the second cycle added to each. The last turn may have fewer rows than are raised at once.
     // The loop counts what is left: step_by was measured to be slower on short blocks.
     fn raise_rows(&self, states: &mut [i32], at: usize, back: usize, number: usize)

@@ -1,5 +1,5 @@
 // A run: the blocks that agree on all free edges but the first two.
-ghost use Rattle.std.specs.Prelude.{◌≡◌, ◌+◌, ◌*◌, ◌-◌, ◌^◌, ◌≤◌, length, pos};
+ghost use Rattle.std.specs.Prelude.{◌≡◌, ◌+◌, ◌*◌, ◌-◌, ◌^◌, ◌≤◌, length};
 ghost use Rattle.cycles.specs.Cycles.{with_cycle};
 ghost use Rattle.walker.specs.Walker.{width};
 ghost use Rattle.walker.specs.Steps.{Small, Addable};
@@ -23,7 +23,7 @@ pub fn run_width(n_free: usize, lambda: usize) -> usize
     if n_free < 2 { 1 } else { 2 * lambda + 1 }
 }
 
-impl<'a> RunTables<'a> {
+impl RunTables<'_> {
     // The multiples of a cycle that keep the values on listed edges within the bounds, below a width. Before that the second cycle is added
     // to the values some times, 0 where it is not.
     pub fn span_over(

@@ -1,7 +1,8 @@
 -- What the judge of the header tells, by the test that decides it.
-use Rattle.std.proofs.Common.{◌≡◌, ℕ, ◌+◌, ◌*◌, ◌<◌, ◌≤◌, List, [], ◌∷◌, Bool, true, false, refl, sym, ◌∙◌, get_or, length, take, lt-ltb, le-ltb}
+use Rattle.mathematics.proofs.Tests.{same_turned}
+use Rattle.std.proofs.Common.{◌≡◌, ℕ, ◌+◌, ◌*◌, ◌<◌, ◌≤◌, List, [], ◌∷◌, true, false, refl, get_or, length, take, lt-ltb, le-ltb}
 use Rattle.std.specs.List.{starts_with}
-use borrow.Author.Tests.{eq-eqb, ne_eqb, eqb-true, eqb-false}
+use borrow.Author.Tests.{eq-eqb, ne_eqb}
 use lib.Dec.{eqb}
 use lib.Pointwise.{pointwise}
 use Rattle.mathematics.specs.Lists.{same}
@@ -9,19 +10,12 @@ use Rattle.mathematics.specs.Refusals.{first}
 use Rattle.complex.specs.Judge.{counts_right}
 use Rattle.sheet.specs.Sheet.{word, header_tests}
 
-turned : (a b : ℕ) → eqb a b ≡ eqb b a
-turned a b = go (eqb a b) refl
-  where
-    go : (x : Bool) → eqb a b ≡ x → eqb a b ≡ eqb b a
-    go true e = e ∙ sym (eq-eqb b a (sym (eqb-true a b e)))
-    go false e = e ∙ sym (ne_eqb b a (λ h. eqb-false a b e (sym h)))
-
 same_entries : (l m : List ℕ) → pointwise eqb m l ≡ same l m
 unfolding same
 same_entries [] [] = refl
 same_entries [] (b ∷ m) = refl
 same_entries (a ∷ l) [] = refl
-same_entries (a ∷ l) (b ∷ m) = rw (turned b a, same_entries l m)
+same_entries (a ∷ l) (b ∷ m) = rw (same_turned b a, same_entries l m)
 
 module _ (b : List ℕ) where
   pub short_told : length b < 11 → 1 ≡ first (header_tests b)

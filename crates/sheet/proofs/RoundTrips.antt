@@ -14,7 +14,7 @@ use Rattle.mathematics.proofs.Flat.{flatten_length}
 use Rattle.complex.specs.Complex.{Complex, simplices, complex_of, uncharged}
 use Rattle.complex.specs.Judge.{counts_right, shape_tests, truncated_tests, refusal}
 use Rattle.complex.proofs.Simplices.{simplices_length}
-use Rattle.complex.proofs.Accepting.{Counts, counts, passed, Sized, simplices_sized}
+use Rattle.complex.proofs.Accepting.{passed, Sized, simplices_sized}
 use Rattle.complex.proofs.Judging.{truncated_passed}
 use Rattle.complex.proofs.Flattened.{flatten_simplices, simplices_flatten}
 use Rattle.sheet.specs.declared.Sheet.{Sheet}
@@ -38,9 +38,6 @@ record Plain (c : Complex) (lambda : ℕ) : Type 0 where
   neutral : c.charges ≡ uncharged
 
 module _ (c : Complex) (lambda : ℕ) (plain : Plain c lambda) where
-  few : Counts c.vertices (length c.edges) (length c.triangles)
-  few = counts c.vertices (length c.edges) (length c.triangles) plain.counts_pass
-
   edges_flat : length (flatten c.edges) ≡ 2 * length c.edges
   edges_flat = flatten_length 2 c.edges plain.pairs
 

@@ -33,10 +33,6 @@ pub spanned_next : (loops : List ℕ) (n : ℕ) → loop_sums loops (n + 1) ≡ 
 unfolding loop_sums
 spanned_next loops n = ap (loop_sums loops) (add-one n)
 
-pub combined_next : (loops : List ℕ) (k n : ℕ) → sum_of_loops loops k (n + 1) ≡ cond (eqb (bit k n) 1) (bit_xor (sum_of_loops loops k n) (get_or loops n 0)) (sum_of_loops loops k n)
-unfolding sum_of_loops
-combined_next loops k n = ap (sum_of_loops loops k) (add-one n)
-
 pub bits_next : (closing : List ℕ) (x n : ℕ) → closing_bits closing x (n + 1) ≡ closing_bits closing x n + bit x (get_or closing n 0) * 2 ^ n
 unfolding closing_bits
 bits_next closing x n = ap (closing_bits closing x) (add-one n)

@@ -10,8 +10,7 @@ use lib.Ieee.{Float, binary64, nan, add, mul}
 use lib.ListN.{get_or, length, length-append, get_or-append}
 use Rattle.mathematics.specs.Counting.{below}
 use Rattle.mathematics.specs.Writing.{front}
-use Rattle.mathematics.proofs.Below.{below_each, map_below_at}
-use Rattle.mathematics.proofs.Ordered.{each_to}
+use Rattle.mathematics.proofs.Below.{map_below_at, below_same}
 use Rattle.complex.specs.Complex.{Complex}
 use Rattle.complex.specs.Judge.{Accepted}
 use Rattle.matrices.specs.declared.coupling.KSParams.{KSParams}
@@ -23,13 +22,9 @@ use Rattle.su2_masks.specs.Flips.{su2_target}
 use Rattle.su2_rows.proofs.ListedRows.{states_few}
 use Rattle.su2_masks.proofs.Flips.{su2_target_read, flip_within}
 use Rattle.su2_rows.specs.Rows.{su2_diagonal, Tables}
-use Rattle.mathematics.proofs.Maps.{map_each}
 use Rattle.su2_products.specs.Product.{su2_electric_part, su2_product_at, su2_product, listed_part, flip_part, listed_product_at, BlockFits, ProductOf}
 
 -- numbers with equal values
-below_same : (f g : ℕ → Float) (n : ℕ) → ((i : ℕ) → i < n → f i ≡ g i) → map f (below n) ≡ map g (below n)
-below_same f g n same = map_each f g (each_to (λ i h. same i h) (below_each n))
-
 -- ---- one triangle more in a block
 module _ (electric : Float) (states places : List ℕ) (terms vector : List Float) where
   abbrev with_triangles : ℕ → ℕ → Float

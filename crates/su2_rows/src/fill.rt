@@ -7,7 +7,7 @@ use crate::row::{add_row, flip_row};
 use matrices::electric::mask_energy;
 
 // The rows of the first n states go to the beginning of three lists. The tables hold the columns and the terms of the triangles in one row after
-// the other, at first those of row 0.
+// the other, at first those of row 0: they are two, as flip_row takes them.
 pub fn write_rows(
     n: usize,
     electric: f64,

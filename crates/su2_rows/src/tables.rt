@@ -14,7 +14,7 @@ use su2_masks::flip::triangle_place;
 use triangles::{all_sides, sides_at};
 
 // Of each triangle of an accepted record the place of its edges, and its magnetic factor × weight: they are its entry in row 0. Two lists begin with
-// them. By number: triangle t has its sides, its weight and its place in both lists.
+// them: they are two, as flip_row takes them. By number: triangle t has its sides, its weight and its place in both lists.
 pub fn write_tables(
     places: &mut [u32],
     terms: &mut [f64],

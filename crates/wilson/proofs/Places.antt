@@ -17,7 +17,7 @@ use Rattle.complex.specs.Complex.{Complex}
 use Rattle.complex.specs.Judge.{Accepted}
 use Rattle.gauss_law.specs.Listing.{Before, states}
 use Rattle.gauss_law.specs.Shifts.{raised, shifted}
-use Rattle.gauss_law.proofs.Accepted.{listing_complete}
+use Rattle.gauss_law.proofs.Accepted.{states_ordered}
 use Rattle.gauss_law.proofs.Listing.{before_trans}
 use Rattle.gauss_law.proofs.Shifts.{shifted_length, shifted_at, shifted_elsewhere}
 use Rattle.hilbert.specs.Basis.{comes_before, place}
@@ -61,10 +61,6 @@ front_kept p d (x ∷ l) down i h = go (front_kept p d l (λ i j k m. down (suc 
 
 -- ---- places
 module _ (c : Complex) (accepted : Accepted c) (L : ℕ) where
-  pub ordered : (i j : ℕ) → i < j → j < length (states c L) → Before c (get_or (states c L) i []) (get_or (states c L) j [])
-  unfolding states
-  ordered = (listing_complete c accepted c.charges L).ordered
-
   pub place_within : (s : List ℤ) → place c L s ≤ length (states c L)
   unfolding place
   place_within s = kept_few (λ t. comes_before c t s) (states c L)
@@ -73,7 +69,7 @@ module _ (c : Complex) (accepted : Accepted c) (L : ℕ) where
   unfolding place
   before_place s i h =
       front_kept (λ t. comes_before c t s) [] (states c L)
-      (λ i j k m e. (before_smaller c _ _ (before_trans c _ _ _ (ordered i j k m) (smaller_before c _ _ accepted e))).0) i h
+      (λ i j k m e. (before_smaller c _ _ (before_trans c _ _ _ (states_ordered c accepted L i j k m) (smaller_before c _ _ accepted e))).0) i h
 
   pub places_rise : (s t : List ℤ) → Before c s t → place c L s ≤ place c L t
   places_rise s t r = go (dec_lt (place c L t) (place c L s))

@@ -10,6 +10,7 @@ use lib.Dec.{ltb}
 use lib.IntN.{ℤ, pos, nat_abs}
 use lib.Ieee.{Float}
 use lib.ListN.{get_or, length, length-take, length-drop}
+use Rattle.gauss_law.proofs.Accepted.{states_ordered}
 use Rattle.std.specs.Bool.{Decides}
 use lib.Seq.{ext_get_or}
 use Rattle.mathematics.specs.Entries.{Each}
@@ -29,7 +30,7 @@ use Rattle.plaquettes.proofs.TriangleTelling.{state_there}
 use Rattle.wilson.specs.Wilson.{Step, path_of, stays, walked, with_reached, wilson_sum, wilson}
 use Rattle.wilson.specs.Walking.{PathFits, same_values, with_product, Summed}
 use Rattle.wilson.proofs.Walks.{path_long, path_at}
-use Rattle.wilson.proofs.Places.{ordered, place_within, before_place, places_rise, before_walked}
+use Rattle.wilson.proofs.Places.{place_within, before_place, places_rise, before_walked}
 
 -- ---- rows that are compared
 same_rows : (s t : List ℤ) → length s ≡ length t → same_values s t ≡ true → s ≡ t
@@ -133,7 +134,7 @@ module _ (c : Complex) (list : List ℤ) (s : Sizes) (free : List ℕ) (basis : 
             let more : with_reached c L a i config total ≡ wilson_sum c L a w (i + 1) = rw (so_far.sum, add-one i, stay, reached) in
             record {
               sum = told ∙ more;
-              later = λ k l below. rw (found, ← reached) (places_rise c basis.accepted L _ _ (before_walked c s.edges (state i) (state k) w (sized i (there c list s free basis i inside)) (sized k below) (path_inside s.edges es ds fits) (ordered c basis.accepted L i k (omega arith) below)));
+              later = λ k l below. rw (found, ← reached) (places_rise c basis.accepted L _ _ (before_walked c s.edges (state i) (state k) w (sized i (there c list s free basis i inside)) (sized k below) (path_inside s.edges es ds fits) (states_ordered c basis.accepted L i k (omega arith) below)));
             }
           where
             sized : (j : ℕ) → j < length (states c L) → length (state j) ≡ s.edges

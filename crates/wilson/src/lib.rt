@@ -10,7 +10,7 @@ ghost use Rattle.complex.specs.Complex.{Complex, complex_of};
 ghost use Rattle.gauss_law.specs.Shifts.{raised};
 ghost use Rattle.plaquettes.specs.Targets.{BasisList};
 ghost use Rattle.wilson.specs.Wilson.{path_of, wilson, step_right, wilson_call};
-ghost use Rattle.wilson.specs.Walking.{PathFits, Amplitudes, same_values, with_product, Stepped, Arrived};
+ghost use Rattle.wilson.specs.Walking.{PathFits, Amplitudes, with_product, Stepped, Arrived};
 
 use answers::refusal::Refusal;
 use complex::SimplicialComplex;

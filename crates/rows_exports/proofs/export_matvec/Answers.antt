@@ -1,6 +1,4 @@
-use Rattle.std.proofs.Common.{◌≡◌, sym, subst}
 use Rattle.exports.proofs.Signs.{told}
-use Rattle.mathematics.specs.Calls.{Answered}
 use Rattle.exports.proofs.OnSheets.{zero_answered, small_zero}
 use Rattle.rows_exports.proofs.export_matvec.Goals as goal
 

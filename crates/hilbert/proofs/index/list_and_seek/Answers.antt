@@ -1,5 +1,4 @@
-use Rattle.hilbert.proofs.Found.{rows, found_in}
-use Rattle.hilbert.proofs.Found.{room}
+use Rattle.hilbert.proofs.Found.{rows, found_in, room}
 use Rattle.hilbert.proofs.Prepared.{walks_by}
 use Rattle.hilbert.proofs.index.list_and_seek.Goals as goal
 

@@ -1,6 +1,6 @@
 use Rattle.std.proofs.Common.{◌≡◌, ◌<◌, ◌∙◌, arith, pos, get_or, length, get_or-take, length-take, to_z, of_z, w8, w32}
-use mir.Facts.{to_z-of_z}
-use Rattle.mathematics.proofs.Signed.{small_back, size_fits}
+use Rattle.walker.proofs.Adding.{sign_back}
+use Rattle.mathematics.proofs.Signed.{small_back}
 use Rattle.lanczos.proofs.Rooms.{run_more}
 use Rattle.lanczos.proofs.state_runs.cycle_run.Goals as goal
 
@@ -13,7 +13,7 @@ loop-edge-preserved c =
     let x = get_or c.args.row.now c.from-e.result (pos 0) in
     let z = get_or c.args.cycle.now c.from-e.result (pos 0) in
     let value : to_z w32 (of_z w32 x) ≡ x = small_back x (omega (arith, c.requires.0.values c.from-e.result, c.requires.0.truncation)) in
-    let sign : to_z w8 (of_z w8 z) ≡ z = to_z-of_z (size_fits w8 z (omega (arith, c.requires.0.signs c.from-e.result))) in
+    let sign : to_z w8 (of_z w8 z) ≡ z = sign_back z (c.requires.0.signs c.from-e.result) in
     run_more _ _ _ _ _ _ _ c.loop-edge.invariant _ (rw (value, sign, edge) at c.room-r.ensures)
 
 pub returns : goal.returns
