@@ -10,6 +10,13 @@ use lib.IntN.{ℤ, pos}
 use lib.Signed.{lt_z}
 use lib.ListN.{get_or, length, take, drop}
 use lib.Seq.{get_or-take, length-take-le}
+use Rattle.std.proofs.Common.{Bor, Option, Some, None, Iter}
+use Rattle.std.specs.declared.iter.Rev.{Rev}
+use Rattle.std.specs.Iterator.{Yields}
+use Rattle.std.specs.Iterator.Adapters.{rev_source, rev_steps}
+use Rattle.std.specs.Slice.Iter.{iter_rest, iter_steps_back}
+use Rattle.std.proofs.lemmas.Iterator.Adapters.{YieldsList-from_rev_slice}
+use Rattle.std.proofs.lemmas.Iterator.Consumers.{YieldsList-turn, YieldsList-end}
 use Rattle.std.proofs.Common.{reverse}
 use Rattle.std.proofs.lemmas.List.{get_or-reverse, length-reverse}
 use Rattle.std.proofs.lemmas.Grind.{get_or_default_zero}
@@ -18,12 +25,23 @@ use Rattle.hilbert.specs.Basis.{decided, smaller}
 use Rattle.hilbert.specs.Search.{row}
 
 -- ---- a list's first n entries, read from the last on
-pub read_back : (l : List ℕ) (n k x : ℕ) → n ≤ length l → (k < length (reverse (take n l))) × (x ≡ get_or (reverse (take n l)) k x) → (k < n) × (x ≡ get_or l (n - k - 1) 0)
+read_back : (l : List ℕ) (n k x : ℕ) → n ≤ length l → (k < length (reverse (take n l))) × (x ≡ get_or (reverse (take n l)) k x) → (k < n) × (x ≡ get_or l (n - k - 1) 0)
 read_back l n k x room there =
     let long : length (take n l) ≡ n = length-take-le n l room in
     let inside : k < n = omega (arith, there.0, length-reverse (take n l), long) in
     let same : length (take n l) - 1 - k ≡ n - k - 1 = omega (arith, long) in
     (inside, there.1 ∙ get_or-reverse (take n l) k x (omega (arith, inside, long)) ∙ rw same (get_or-take n l (n - k - 1) x (omega (arith, inside)) ∙ get_or_default_zero l (n - k - 1) x (omega (arith, inside, room))))
+
+module _ (l : List ℕ) (n : ℕ) (room : n ≤ length l) (read : List (Bor ℕ)) (s t u : Rev (Iter ℕ)) (start : iter_rest (rev_source s) ≡ take n l) (by : Yields (rev_steps iter_steps_back) s read t) {r : Option (Bor ℕ)} (step : rev_steps iter_steps_back t r u) where
+  -- another entry
+  pub read_next : {x : Bor ℕ} → r ≡ Some x → (length read < n) × (x.now ≡ get_or l (n - length read - 1) 0)
+  read_next {x} is = read_back l n (length read) x.now room (YieldsList-turn (YieldsList-from_rev_slice (take n l) start) read t by r u x is step)
+
+  -- none is left
+  pub read_end : r ≡ None → n - length read ≡ 0
+  read_end is =
+      let end = YieldsList-end (YieldsList-from_rev_slice (take n l) start) read t by r u is step in
+      omega (arith, end.1, length-reverse (take n l), length-take-le n l room)
 
 -- ---- one value decides
 module _ (b : Bool) (x y : ℤ) where

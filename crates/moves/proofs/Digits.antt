@@ -6,7 +6,6 @@ use native.Mathlib.Omega.{arith}
 use native.Mathlib.Nat.{mul-le-mul_left}
 use lib.IntN.{ℤ, pos, nat_abs, ◌+ℤ◌}
 use lib.ListN.{get_or, length, take, length-append}
-use lib.Seq.{length-take-le}
 use mir.Syntax.{w32, w64}
 use mir.Val.{Fits, to_z, of_z}
 use Rattle.std.proofs.Common.{Bor, Option, Some, None, Iter}
@@ -14,11 +13,8 @@ use Rattle.std.specs.declared.iter.Rev.{Rev}
 use Rattle.std.specs.Iterator.{Yields}
 use Rattle.std.specs.Iterator.Adapters.{rev_source, rev_steps}
 use Rattle.std.specs.Slice.Iter.{iter_rest, iter_steps_back}
-use Rattle.std.proofs.lemmas.List.{length-reverse}
-use Rattle.std.proofs.lemmas.Iterator.Adapters.{YieldsList-from_rev_slice}
-use Rattle.std.proofs.lemmas.Iterator.Consumers.{YieldsList-turn, YieldsList-end}
 use Rattle.mathematics.proofs.Signed.{small_back}
-use Rattle.hilbert.proofs.Searching.{read_back}
+use Rattle.hilbert.proofs.Searching.{read_next, read_end}
 use Rattle.moves.specs.Numbers.{numeral, digit, number, Numbered}
 
 numeral_least : (base : ℕ) (x : ℕ → ℕ) (n a : ℕ) → 1 ≤ base → a ≤ numeral base x n a
@@ -47,7 +43,7 @@ module _ {L low : ℕ} {free : List ℕ} {n : ℕ} {row : List ℤ} (h : Numbere
     -- another is read
     module _ {x : Bor ℕ} (is : r ≡ Some x) where
       there : (length read < n) × (x.now ≡ get_or free (n - length read - 1) 0)
-      there = read_back free n (length read) x.now room (YieldsList-turn (YieldsList-from_rev_slice (take n free) start) read t by r u x is step)
+      there = read_next free n room read s t u start by step is
 
       next : (d : ℕ) → d ≡ digit low free row (n - length read - 1) → (numeral (2 * L + 1) (digit low free row) (n - length read - 1) (a * (2 * L + 1) + d) ≡ number L low free n row) × (a * (2 * L + 1) + d ≤ number L low free n row)
       next d told = numeral_next (2 * L + 1) (digit low free row) (n - length read) a d _ (omega arith) (omega (arith, there.0)) so_far told
@@ -75,7 +71,4 @@ module _ {L low : ℕ} {free : List ℕ} {n : ℕ} {row : List ℤ} (h : Numbere
     -- none is left
     pub number_read : r ≡ None → a ≡ number L low free n row
     unfolding numeral
-    number_read is =
-        let end = YieldsList-end (YieldsList-from_rev_slice (take n free) start) read t by r u is step in
-        let none : n - length read ≡ 0 = omega (arith, end.1, length-reverse (take n free), length-take-le n free room) in
-        rw none at so_far
+    number_read is = rw (read_end free n room read s t u start by step is) at so_far
