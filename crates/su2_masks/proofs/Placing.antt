@@ -1,6 +1,6 @@
 -- The states and the place of a mask, by the tables of their complex.
-use Prim.Native.Nat.{ℕ, zero, suc, ◌^◌, ◌<◌, ◌≤◌}
-use mathlib.Core.List.{List}
+use Prim.Native.Nat.{ℕ, zero, suc, ◌*◌, ◌^◌, ◌<◌, ◌≤◌}
+use mathlib.Core.List.{List, [], ◌∷◌}
 use mathlib.Core.Bool.{true}
 use mathlib.Core.Path.{◌≡◌, refl, sym, ap, ap₂, ◌∙◌}
 use native.Mathlib.Nat.{lt_of_lt_of_le}
@@ -8,11 +8,15 @@ use native.Mathlib.Omega.{arith}
 use lib.ListN.{get_or, length, take}
 use lib.Seq.{get_or-take, length-take-le}
 use Rattle.complex.specs.declared.SimplicialComplex.{SimplicialComplex}
-use Rattle.complex.specs.Complex.{Complex, complex_of}
+use Rattle.complex.specs.Complex.{Complex, complex_of, entries}
 use Rattle.complex.specs.Judge.{refusal}
 use Rattle.complex.proofs.Accepting.{accepted}
 use Rattle.gauss_law.specs.Listing.{free_edges}
 use Rattle.gauss_law.proofs.Spanned.{edges_long}
+use Rattle.triangles.specs.declared.Sides.{Sides}
+use Rattle.triangles.specs.Indices.{SidesOf, AllSides}
+use Rattle.triangles.proofs.AllSides.{own_sides}
+use Rattle.triangles.proofs.SidesFound.{triangles_long, sides_below}
 use Rattle.su2_even_sets.specs.declared.Forest.{Forest}
 use Rattle.su2_even_sets.specs.EvenSets.{even, su2_states, mask_place}
 use Rattle.su2_even_sets.specs.Loops.{grown, loop_sums, closing_bits}
@@ -83,7 +87,7 @@ module _ (c : Complex) (f : Forest) (of : LoopsOf c f) (x : ℕ) where
   listed_place e b = place_is ∙ sym (mask_place_read c of.accepted x e b)
 
 -- the tables of an accepted complex with few closing edges can be read
-pub loops_readable : (c : Complex) (f : Forest) → LoopsOf c f → f.count ≤ 20 → Readable f
+loops_readable : (c : Complex) (f : Forest) → LoopsOf c f → f.count ≤ 20 → Readable f
 loops_readable c f of few =
     record {
       long = of.keeps.closing.long;
@@ -96,3 +100,17 @@ loops_readable c f of few =
   where
     edges_few : length c.edges ≤ 64
     edges_few = omega (arith, of.accepted.few_edges)
+
+-- triangle t of a record, whose sides were read off the table of all
+module _ (c : SimplicialComplex) {f : Forest} (of : LoopsOf (complex_of c) f) {t : ℕ} (inside : t < c.n_triangles) {all : List ℕ} (sides : AllSides (complex_of c) all) {s : Sides}
+    (told : entries all (3 * t) 3 ≡ s.first ∷ s.second ∷ s.third ∷ []) where
+  -- they are its own
+  pub sides_told : SidesOf (complex_of c) t s
+  sides_told = own_sides (complex_of c) all sides t s (rw (triangles_long c) inside) told
+
+  -- and their place can be read
+  pub place_asked : f.count ≤ 20 → Readable f × (s.first < 64) × (s.second < 64) × (s.third < 64)
+  place_asked few =
+      let right = of.accepted in
+      let below = sides_below _ _ _ sides_told.are right sides_told.number in
+      (loops_readable (complex_of c) f of few, omega (arith, below.0, right.few_edges), omega (arith, below.1, right.few_edges), omega (arith, below.2, right.few_edges))

@@ -3,11 +3,10 @@ use lib.Ieee.{binary64, mul}
 use lib.ListN.{length-set}
 use Rattle.complex.specs.Complex.{complex_of}
 use Rattle.complex.proofs.Accepting.{accepted}
-use Rattle.triangles.proofs.SidesFound.{triangles_long, sides_below}
-use Rattle.triangles.proofs.AllSides.{own_sides}
+use Rattle.triangles.proofs.SidesFound.{triangles_long}
 use Rattle.matrices.specs.Weights.{weight, is_given, given_list}
 use Rattle.matrices.proofs.Weighing.{weight_there}
-use Rattle.su2_masks.proofs.Placing.{loops_readable}
+use Rattle.su2_masks.proofs.Placing.{sides_told, place_asked}
 use Rattle.su2_rows.proofs.TableRows.{place_few, table_more}
 use Rattle.su2_rows.proofs.tables.write_tables.Goals as goal
 
@@ -28,17 +27,12 @@ pub sides_at-requires : goal.sides_at-requires
 sides_at-requires c = omega (arith, triangles_long c.args.c, c.requires.0.of.accepted.few_triangles)
 
 pub triangle_place-place-requires : goal.triangle_place-place-requires
-triangle_place-place-requires c =
-    let there : c.loop-t.t < length (complex_of c.args.c).triangles = rw (triangles_long c.args.c) c.loop-t-test.true in
-    let of = own_sides _ _ c.all_sides-all.ensures _ _ there c.sides_at.ensures in
-    let right = c.requires.0.of.accepted in
-    let below = sides_below _ _ _ of.are right of.number in
-    (loops_readable _ _ c.requires.0.of c.requires.0.few, omega (arith, below.0, right.few_edges), omega (arith, below.1, right.few_edges), omega (arith, below.2, right.few_edges))
+triangle_place-place-requires c = place_asked _ c.requires.0.of c.loop-t-test.true c.all_sides-all.ensures c.sides_at.ensures c.requires.0.few
 
 pub overflow_cast-places : goal.overflow_cast-places
 overflow_cast-places c =
     let there : c.loop-t.t < length (complex_of c.args.c).triangles = rw (triangles_long c.args.c) c.loop-t-test.true in
-    let place = c.triangle_place-place.ensures _ _ c.requires.0.of (own_sides _ _ c.all_sides-all.ensures _ _ there c.sides_at.ensures) in
+    let place = c.triangle_place-place.ensures _ _ c.requires.0.of (sides_told _ c.requires.0.of c.loop-t-test.true c.all_sides-all.ensures c.sides_at.ensures) in
     let low = place_few _ _ c.requires.0.of c.requires.0.few _ there in
     omega arith
 
@@ -48,7 +42,7 @@ weight_at-requires c = weight_there _ _ _ c.requires.1 _ (rw (triangles_long c.a
 pub loop-t-preserved : goal.loop-t-preserved
 loop-t-preserved c =
     let there : c.loop-t.t < length (complex_of c.args.c).triangles = rw (triangles_long c.args.c) c.loop-t-test.true in
-    let place = c.triangle_place-place.ensures _ _ c.requires.0.of (own_sides _ _ c.all_sides-all.ensures _ _ there c.sides_at.ensures) in
+    let place = c.triangle_place-place.ensures _ _ c.requires.0.of (sides_told _ c.requires.0.of c.loop-t-test.true c.all_sides-all.ensures c.sides_at.ensures) in
     record {
       few = c.loop-t.invariant.few;
       places_long = rw length-set c.loop-t.invariant.places_long;
