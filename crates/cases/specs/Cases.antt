@@ -24,7 +24,7 @@ use Rattle.loops.specs.Walks.{Step}
 use Rattle.loops.specs.Loops.{fundamental_loops}
 use Rattle.su2_even_sets.specs.EvenSets.{su2_states}
 use Rattle.su2_quantum.specs.Dense.{su2_dense, su2_dense_tests}
-use Rattle.su2_loops.specs.Loop.{su2_expectation, su2_loop_tests}
+use Rattle.su2_loops.specs.Loop.{names, su2_expectation, su2_loop_tests}
 use Rattle.lines.specs.Lines.{ascii}
 use Rattle.lines.specs.Printed.{printed}
 
@@ -61,10 +61,11 @@ pub record Su2Loop : Type 0 where
   pub path : List ℕ
   pub expectation : Float
 
--- what is claimed of it: with a list that is just long enough the call is not refused, and the expectation is the expected one
+-- what is claimed of it: with a list that is just long enough the call is not refused, and by the set of the path's edges the expectation is the
+-- expected one
 pub record Su2LoopHolds (c : Complex) (x : Su2Loop) : Type 0 where
   pub accepted : first (su2_loop_tests c (map float_of x.amplitudes) x.path (length (su2_states c))) ≡ 0
-  pub expectation : su2_expectation c (map float_of x.amplitudes) x.path ≡ x.expectation
+  pub expectation : su2_expectation c (map float_of x.amplitudes) (names x.path) ≡ x.expectation
 
 -- of amplitudes: the product with the U(1) Hamiltonian for a coupling, without weights, the squares of the field on the edges, and the
 -- expectation along a path

@@ -72,5 +72,5 @@ next_is list at = refl
 pub whole_of : (list : List ℕ) (at : ℕ) → well_formed (length list) (case_at list at) ≡ true → Whole list at
 unfolding well_formed case_at
 whole_of list at h =
-    let p = and_parts (leb 1 (get_or list at 0) && leb (get_or list at 0) 25) (leb (place list at 15) (length list)) h in
+    let p = and_parts (leb 1 (get_or list at 0) && leb (get_or list at 0) 26) (leb (place list at 15) (length list)) h in
     leb-true (place list at 15) (length list) p.1

@@ -28,7 +28,7 @@ case_at list at = record { kind = get_or list at 0; field = field list at; next 
 
 -- there is such a kind, and the case ends within a list of the given length
 unfoldable pub well_formed : ℕ → Case → Bool
-well_formed n c = (leb 1 c.kind && leb c.kind 25) && leb c.next n
+well_formed n c = (leb 1 c.kind && leb c.kind 26) && leb c.next n
 
 -- the case at a place ends within the list
 abbrev pub Whole : List ℕ → ℕ → Type 0

@@ -84,7 +84,7 @@ record Numbers : Type 0 where
   one_of_two : replayed (listed_cases (counting 254 ++ counting 255)) ≡ Ok (record { cases = 2; differ = 1 })
   nothing : replayed [] ≡ Err (record { at = 0 })
   no_end : replayed (counting 255) ≡ Err (record { at = 39 })
-  no_kind : replayed (listed_cases (counting 255 ++ (26 ∷ empty 15))) ≡ Err (record { at = 39 })
+  no_kind : replayed (listed_cases (counting 255 ++ (27 ∷ empty 15))) ≡ Err (record { at = 39 })
 
 numbers : Numbers
 unfolding replayed ends behind cases cases_from case_at size place field word well_formed differing keep agreed chosen states_agreed counted_agrees tells on_sheet counted_call header_tests sheet_in padded first outcome signed equal number_at same

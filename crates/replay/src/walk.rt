@@ -27,7 +27,7 @@ fn stands(list: &[u8], at: usize) -> bool
     ensures { result ≡ well_formed (length list.now) (case_at list.now at) }
 {
     let kind = byte_at(list, at);
-    ((1 <= kind) & (kind <= 25)) & (place(list, at, FIELDS) <= list.len())
+    ((1 <= kind) & (kind <= 26)) & (place(list, at, FIELDS) <= list.len())
 }
 
 // Whether the byte 0 stands at a place, and nothing behind it.

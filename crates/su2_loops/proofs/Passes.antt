@@ -21,11 +21,10 @@ use Rattle.matrices.specs.Coupling.{float_of}
 use Rattle.gauss_law.specs.Listing.{limit}
 use Rattle.su2_even_sets.specs.EvenSets.{chosen, su2_states}
 use Rattle.su2_masks.specs.Basis.{su2_tests}
-use Rattle.su2_loops.specs.Loop.{names, passes, passes_oddly, counted_met, sign_of, counted_expectation, path_right, loop_tests, expectation_call, su2_loop_call, su2_passes_call}
+use Rattle.su2_loops.specs.Loop.{names, passes, passes_oddly, met, sign_of, su2_expectation, path_right, loop_tests, expectation_call, su2_loop_call, su2_passes_call}
 use Rattle.su2_loops.specs.Passes.{PassesKnown}
 use Rattle.su2_loops.proofs.Parity.{remainder_is}
 use Rattle.su2_loops.proofs.Paths.{passes_append}
-use Rattle.su2_loops.proofs.Shared.{named_call}
 
 -- ---- no edge twice
 passes_once : (path : List ℕ) → distinct eqb path ≡ true → (e : ℕ) → passes path e ≡ cond (listed eqb e path) 1 0
@@ -126,8 +125,8 @@ same_sign : (m n : ℕ) → m % 2 ≡ n % 2 → sign_of m ≡ sign_of n
 unfolding sign_of
 same_sign m n e = ap (λ (r : ℕ). cond (eqb r 0) (float_of 1) (neg (float_of 1))) e
 
-met_total : (c : Complex) (path : List ℕ) (x : ℕ) → counted_met c (passes_oddly path) x ≡ total (term x path) (length c.edges)
-unfolding counted_met term
+met_total : (c : Complex) (path : List ℕ) (x : ℕ) → met c (passes_oddly path) x ≡ total (term x path) (length c.edges)
+unfolding met term
 met_total c path x = keep_total (λ e. chosen x e && passes_oddly path e) (length c.edges)
 
 pub passes_known : (c : Complex) (vector : List Float) → PassesKnown c vector
@@ -135,10 +134,10 @@ unfolding su2_passes_call su2_loop_call
 passes_known c vector =
     record {
       refusals = λ path work. refl;
-      once = λ path work h. ap (λ (counts : ℕ → Bool). expectation_call c vector path counts work) (λ i e. once_same path h e i) ∙ named_call c vector path work;
+      once = λ path work h. ap (λ (counts : ℕ → Bool). expectation_call c vector path counts work) (λ i e. once_same path h e i);
       twice = λ path work h i. record {
         tests = su2_tests c ++ (twice_judged (length (su2_states c)) (length c.edges) vector path h i ++ ((15, ltb (length work) (length (su2_states c))) ∷ []));
-        value = counted_expectation c vector (λ e. twice_even path e i);
+        value = su2_expectation c vector (λ e. twice_even path e i);
         before = work;
         after = front (su2_states c) work;
         known = length (su2_states c) ≤ limit;

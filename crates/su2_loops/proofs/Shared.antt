@@ -19,7 +19,7 @@ use Rattle.complex.specs.Complex.{Complex}
 use Rattle.complex.specs.Judge.{Accepted}
 use Rattle.su2_even_sets.specs.EvenSets.{chosen, su2_states}
 use Rattle.su2_even_sets.proofs.EvenLists.{even_complete}
-use Rattle.su2_loops.specs.Loop.{met, sign_of, su2_loop_sum, su2_expectation, names, counted_met, counted_sum, counted_expectation, expectation_call, su2_loop_call, mask_sum}
+use Rattle.su2_loops.specs.Loop.{met, sign_of, su2_loop_sum, su2_expectation, mask_sum}
 
 -- ---- bit by bit
 and_half : (x y : ℕ) → bit_and x y / 2 ≡ bit_and (x / 2) (y / 2)
@@ -54,8 +54,8 @@ both_set zero (suc (suc b)) h k = absurd (omega arith)
 both_set (suc zero) (suc (suc b)) h k = absurd (omega arith)
 both_set (suc (suc a)) b h k = absurd (omega arith)
 
-shared_met : (c : Complex) (mask x : ℕ) → x < 2 ^ length c.edges → ones (bit_and x mask) ≡ counted_met c (chosen mask) x
-unfolding counted_met chosen
+shared_met : (c : Complex) (mask x : ℕ) → x < 2 ^ length c.edges → ones (bit_and x mask) ≡ met c (chosen mask) x
+unfolding met chosen
 shared_met c mask x h =
     let few : bit_and x mask < 2 ^ length c.edges = lt_of_le_of_lt (and_le_l x mask) h in
     ones_total (length c.edges) (bit_and x mask) few
@@ -76,8 +76,8 @@ sum_step vector states mask i sum amplitude sign state so_far a s turned = rw (s
 
 -- ---- the sum over the states
 module _ (c : Complex) (accepted : Accepted c) (vector : List Float) (mask : ℕ) (states rest : List ℕ) (begins : states ≡ su2_states c ++ rest) where
-  sum_is : (n : ℕ) → n ≤ length (su2_states c) → mask_sum vector states mask n ≡ counted_sum c vector (chosen mask) n
-  unfolding mask_sum counted_sum
+  sum_is : (n : ℕ) → n ≤ length (su2_states c) → mask_sum vector states mask n ≡ su2_loop_sum c vector (chosen mask) n
+  unfolding mask_sum su2_loop_sum
   sum_is zero h = refl
   sum_is (suc i) h =
       let state : get_or states i 0 ≡ get_or (su2_states c) i 0 = rw begins (get_or-append (su2_states c) rest 0 i h) in
@@ -85,22 +85,6 @@ module _ (c : Complex) (accepted : Accepted c) (vector : List Float) (mask : ℕ
       ap₂ (λ x (k : ℕ). add binary64 x (mul binary64 (mul binary64 (get_or vector i nan) (get_or vector i nan)) (sign_of k))) (sum_is i (omega arith))
       (ap (λ (x : ℕ). ones (bit_and x mask)) state ∙ shared_met c mask (get_or (su2_states c) i 0) few)
 
-  pub sum_told : (n : ℕ) (x : Float) → x ≡ mask_sum vector states mask n → n ≡ length (su2_states c) → x ≡ counted_expectation c vector (chosen mask)
-  unfolding counted_expectation
+  pub sum_told : (n : ℕ) (x : Float) → x ≡ mask_sum vector states mask n → n ≡ length (su2_states c) → x ≡ su2_expectation c vector (chosen mask)
+  unfolding su2_expectation
   sum_told n x is number = is ∙ ap (mask_sum vector states mask) number ∙ sum_is (length (su2_states c)) (omega arith)
-
--- ---- the loop of the edge set: it is told by the edges that the path names
-module _ (c : Complex) (vector : List Float) (path : List ℕ) where
-  named_sum : (n : ℕ) → counted_sum c vector (names path) n ≡ su2_loop_sum c vector path n
-  unfolding counted_sum su2_loop_sum counted_met met names
-  named_sum zero = refl
-  named_sum (suc i) =
-      ap (λ (x : Float). add binary64 x (mul binary64 (mul binary64 (get_or vector i nan) (get_or vector i nan)) (sign_of (met c path (get_or (su2_states c) i 0))))) (named_sum i)
-
-  named_expectation : counted_expectation c vector (names path) ≡ su2_expectation c vector path
-  unfolding counted_expectation su2_expectation
-  named_expectation = named_sum (length (su2_states c))
-
-  pub named_call : (work : List ℕ) → expectation_call c vector path (names path) work ≡ su2_loop_call c vector path work
-  unfolding su2_loop_call
-  named_call work = ap (λ (value : Float). record (expectation_call c vector path (names path) work) { value = value }) named_expectation

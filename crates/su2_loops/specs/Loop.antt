@@ -1,5 +1,5 @@
 -- The expectation of a Wilson loop in the two-valued mode: a sign for each state, and a sum over all states in a fixed order, with one rounding an
--- operation. Two calls read a path: one takes the set of its edges, the other counts each edge by its number of passes modulo two.
+-- operation. Two calls read a path, and differ in which of its edges count: one takes their set, the other their passes modulo two.
 use Rattle.std.specs.Prelude.{ℕ, zero, suc, ◌%◌, ◌^◌, ◌<◌, ◌≤◌, List, [], ◌∷◌, ◌++◌, Bool, not, ◌&&◌, cond, ◌≡◌, eqb, ltb, Float, get_or, length}
 use Rattle.std.specs.List.{FoldsTo}
 use Rattle.std.specs.Int.Bits.{bit_and}
@@ -18,26 +18,8 @@ use Rattle.gauss_law.specs.Listing.{limit}
 use Rattle.su2_even_sets.specs.EvenSets.{chosen, su2_states}
 use Rattle.su2_masks.specs.Basis.{su2_tests}
 
--- how many edges of the set x the path names; an edge named twice counts once
-unfoldable pub met : Complex → List ℕ → ℕ → ℕ
-met c path x = length (keep (λ e. chosen x e && listed eqb e path) (below (length c.edges)))
-
--- 1.0 for an even number, -1.0 for an odd one
-unfoldable pub sign_of : ℕ → Float
-sign_of n = cond (eqb (n % 2) 0) (float_of 1) (neg (float_of 1))
-
--- from 0.0, each of the first n states, rising, adds (amplitude × amplitude) × sign
-unfoldable pub su2_loop_sum : Complex → List Float → List ℕ → ℕ → Float
-su2_loop_sum c vector path zero = float_of 0
-su2_loop_sum c vector path (suc i) =
-    add binary64 (su2_loop_sum c vector path i) (mul binary64 (mul binary64 (get_or vector i nan) (get_or vector i nan)) (sign_of (met c path (get_or (su2_states c) i 0))))
-
--- of all states
-unfoldable pub su2_expectation : Complex → List Float → List ℕ → Float
-su2_expectation c vector path = su2_loop_sum c vector path (length (su2_states c))
-
--- ---- the same by the edges that count
--- every edge that the path names; one that is named twice counts once
+-- ---- which edges of a path count
+-- by their set, every edge that the path names; one that is named twice counts once
 unfoldable pub names : List ℕ → ℕ → Bool
 names path e = listed eqb e path
 
@@ -45,23 +27,28 @@ names path e = listed eqb e path
 unfoldable pub passes : List ℕ → ℕ → ℕ
 passes path e = length (keep (eqb e) path)
 
--- every edge that it passes an odd number of times
+-- by passes modulo two, every edge that it passes an odd number of times
 unfoldable pub passes_oddly : List ℕ → ℕ → Bool
 passes_oddly path e = eqb (passes path e % 2) 1
 
+-- ---- the sum
 -- how many edges of the set x count
-unfoldable pub counted_met : Complex → (ℕ → Bool) → ℕ → ℕ
-counted_met c counts x = length (keep (λ e. chosen x e && counts e) (below (length c.edges)))
+unfoldable pub met : Complex → (ℕ → Bool) → ℕ → ℕ
+met c counts x = length (keep (λ e. chosen x e && counts e) (below (length c.edges)))
+
+-- 1.0 for an even number, -1.0 for an odd one
+unfoldable pub sign_of : ℕ → Float
+sign_of n = cond (eqb (n % 2) 0) (float_of 1) (neg (float_of 1))
 
 -- from 0.0, each of the first n states, rising, adds (amplitude × amplitude) × sign
-unfoldable pub counted_sum : Complex → List Float → (ℕ → Bool) → ℕ → Float
-counted_sum c vector counts zero = float_of 0
-counted_sum c vector counts (suc i) =
-    add binary64 (counted_sum c vector counts i) (mul binary64 (mul binary64 (get_or vector i nan) (get_or vector i nan)) (sign_of (counted_met c counts (get_or (su2_states c) i 0))))
+unfoldable pub su2_loop_sum : Complex → List Float → (ℕ → Bool) → ℕ → Float
+su2_loop_sum c vector counts zero = float_of 0
+su2_loop_sum c vector counts (suc i) =
+    add binary64 (su2_loop_sum c vector counts i) (mul binary64 (mul binary64 (get_or vector i nan) (get_or vector i nan)) (sign_of (met c counts (get_or (su2_states c) i 0))))
 
 -- of all states
-unfoldable pub counted_expectation : Complex → List Float → (ℕ → Bool) → Float
-counted_expectation c vector counts = counted_sum c vector counts (length (su2_states c))
+unfoldable pub su2_expectation : Complex → List Float → (ℕ → Bool) → Float
+su2_expectation c vector counts = su2_loop_sum c vector counts (length (su2_states c))
 
 -- ---- what is judged
 -- every edge that the path names is below n
@@ -78,29 +65,23 @@ abbrev pub su2_loop_tests : Complex → List Float → List ℕ → ℕ → List
 su2_loop_tests c vector path work-room =
     su2_tests c ++ (loop_tests (length (su2_states c)) (length c.edges) vector path ++ ((15, ltb work-room (length (su2_states c))) ∷ []))
 
--- su2_wilson_loop: the expectation is told, and the list begins with the masks, ascending.
-unfoldable pub su2_loop_call : Complex → List Float → List ℕ → List ℕ → Call Float (List ℕ)
-su2_loop_call c vector path work =
-    record {
-      tests = su2_loop_tests c vector path (length work);
-      value = su2_expectation c vector path;
-      before = work;
-      after = front (su2_states c) work;
-      known = length (su2_states c) ≤ limit;
-    }
-
--- By the edges of the path that count the expectation is told, and the list begins with the masks, ascending.
+-- ---- the calls
+-- The expectation of a path is told, by the edges that count, and the list begins with the masks, ascending.
 abbrev pub expectation_call : Complex → List Float → List ℕ → (ℕ → Bool) → List ℕ → Call Float (List ℕ)
 expectation_call c vector path counts work =
     record {
       tests = su2_loop_tests c vector path (length work);
-      value = counted_expectation c vector counts;
+      value = su2_expectation c vector counts;
       before = work;
       after = front (su2_states c) work;
       known = length (su2_states c) ≤ limit;
     }
 
--- su2_wilson_passes: each edge counts by its number of passes modulo two.
+-- su2_wilson_loop: by the set of the path's edges
+unfoldable pub su2_loop_call : Complex → List Float → List ℕ → List ℕ → Call Float (List ℕ)
+su2_loop_call c vector path work = expectation_call c vector path (names path) work
+
+-- su2_wilson_passes: by its passes modulo two
 unfoldable pub su2_passes_call : Complex → List Float → List ℕ → List ℕ → Call Float (List ℕ)
 su2_passes_call c vector path work = expectation_call c vector path (passes_oddly path) work
 

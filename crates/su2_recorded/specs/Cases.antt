@@ -3,7 +3,7 @@ use Rattle.std.specs.Prelude.{Bool, [], ◌∷◌}
 use Rattle.recorded_fields.specs.Layout.{Case}
 use Rattle.recorded_fields.specs.Inputs.{sheet_of, path_of, coupling_of, given_of, weights_of, vector_of, told_of}
 use Rattle.recorded_fields.specs.Choosing.{chosen}
-use Rattle.su2_recorded.specs.Agreement.{su2_basis_agrees, su2_counted_agrees, su2_dense_agrees, su2_rows_agrees, su2_entries_agrees, su2_product_agrees, su2_loop_agrees}
+use Rattle.su2_recorded.specs.Agreement.{su2_basis_agrees, su2_counted_agrees, su2_dense_agrees, su2_rows_agrees, su2_entries_agrees, su2_product_agrees, su2_loop_agrees, su2_passes_agrees}
 
 -- the two-valued mode
 unfoldable pub z2_agreed : Case → Bool
@@ -16,4 +16,5 @@ z2_agreed c =
     ∷ (22, su2_entries_agrees (sheet_of c) (told_of c))
     ∷ (23, su2_product_agrees (sheet_of c) (coupling_of c) (given_of c) (weights_of c) (vector_of c) (told_of c) (c.field 11) (c.field 14))
     ∷ (24, su2_loop_agrees (sheet_of c) (vector_of c) (path_of c) (told_of c) (c.field 11) (c.field 14))
+    ∷ (26, su2_passes_agrees (sheet_of c) (vector_of c) (path_of c) (told_of c) (c.field 11) (c.field 14))
     ∷ [])

@@ -6,6 +6,7 @@ ghost use Rattle.su2_recorded.specs.Cases.{z2_agreed};
 use crate::{
     build_csr_su2_same, build_su2_hamiltonian_same, su2_basis_same, su2_count_entries_same,
     su2_count_states_same, su2_hamiltonian_matvec_same, su2_wilson_loop_same,
+    su2_wilson_passes_same,
 };
 use recorded_fields::case::Case;
 use recorded_fields::inputs::ROOM_8;
@@ -39,6 +40,7 @@ pub fn z2_same(case: Case) -> bool
         22 => su2_count_entries_same(sheet, told),
         23 => su2_hamiltonian_matvec_same(sheet, p, given, weights, vector, told, masks, result),
         24 => su2_wilson_loop_same(sheet, vector, case.field(4), told, masks, result),
+        26 => su2_wilson_passes_same(sheet, vector, case.field(4), told, masks, result),
         _ => false,
     }
 }

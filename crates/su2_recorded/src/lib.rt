@@ -148,7 +148,6 @@ pub fn su2_wilson_loop_same(
     (answer == told) & (same(&states, masks) & same(&[value], expectation))
 }
 
-// No case calls it: the list holds answers of the Rust, which has no such call (docs/DECISIONS.md 112).
 #[tactic(auto, using(recorded::proofs::Agreeing::agrees_by), unfolding(crate::specs::Agreement::su2_passes_agrees))]
 pub fn su2_wilson_passes_same(
     sheet: &[u8],

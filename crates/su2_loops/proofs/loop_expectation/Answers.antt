@@ -5,7 +5,7 @@ use Rattle.answers.proofs.Passing.{call_passed}
 use Rattle.gauss_law.proofs.Spanned.{edges_long}
 use Rattle.su2_masks.proofs.Placing.{masks_are}
 use Rattle.su2_masks.proofs.LoopsTold.{loops_refuse, past_loops, masks_known, states_counted, masks_front}
-use Rattle.su2_loops.specs.Loop.{counted_expectation}
+use Rattle.su2_loops.specs.Loop.{su2_expectation}
 use Rattle.su2_loops.proofs.Judging.{told_as, loop_fits, loop_refuses, past_loop}
 use Rattle.su2_loops.proofs.Shared.{sum_told}
 use Rattle.su2_loops.proofs.loop_expectation.Goals as goal
@@ -42,6 +42,6 @@ returns g c counts are =
     let states = rw (c.loops.ensures, masks_are _ _ loops.loops.of) at c.write_masks.ensures in
     ends _ (past_loops _ loops.number (past_loop _ _ _ _ (sym judged) (past (le-ltb _ _ (rw number at c.if-states-n.false)) none)))
     (sum_told _ loops.loops.of.accepted _ _ _ _ states _ _ c.mask_sum.ensures ((loop_fits _ _ _ _ (sym judged)).0)
-    ∙ ap (counted_expectation _ _) (are.counted _ c.counted_mask.ensures))
+    ∙ ap (su2_expectation _ _) (are.counted _ c.counted_mask.ensures))
     (masks_front _ _ loops.loops _ _ (rw c.loops.ensures at c.write_masks.ensures))
     (masks_known _ _ loops.loops).few

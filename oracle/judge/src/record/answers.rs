@@ -49,8 +49,9 @@ pub fn ask(call: Call, taken: &Fields) -> Result<Fields, String> {
         Call::BuildCsrSu2 => rows::<EvenSets>(taken),
         Call::Su2CountEntries => counted::<EvenSets>(taken, Counted::entries),
         Call::Su2HamiltonianMatvec => even_product(taken),
-        Call::Su2WilsonLoop => even_loop(taken),
+        Call::Su2WilsonLoop => even_loop(taken, Reading::EdgeSet),
         Call::Matvec => product(taken),
+        Call::Su2WilsonPasses => even_loop(taken, Reading::Passes),
     }
 }
 
@@ -264,8 +265,10 @@ fn even_product(taken: &Fields) -> Result<Fields, String> {
     Ok(answered(taken, basis.count() as i64).with(Field::First, basis.flat()).with(Field::Floats, &product))
 }
 
-fn even_loop(taken: &Fields) -> Result<Fields, String> {
-    let case = EvenLoop { reading: Reading::EdgeSet, given: given(taken), vector: taken.list(Field::Vector)?, path: taken.list(Field::Path)?, spare: SPARE };
+/// By passes it is what the Rust answers along the edges that are passed an odd number of times, each named once.
+fn even_loop(taken: &Fields, reading: Reading) -> Result<Fields, String> {
+    let (vector, path) = (taken.list(Field::Vector)?, taken.list(Field::Path)?);
+    let case = EvenLoop { reading, given: given(taken), vector, path, spare: SPARE };
     let basis = basis(&case.given)?;
     case.judge(basis, usize::MAX).map_err(refused)?;
     let expectation = case.expectation(basis)?;

@@ -37,6 +37,7 @@ impl Cases {
         cases.loops();
         cases.su2_loops();
         cases.products();
+        cases.su2_passes();
         cases
     }
 
@@ -167,7 +168,7 @@ impl Cases {
         for (sheet, triangle) in [(triangle(1), 0), (tetrahedron(), 0), (tetrahedron(), 3), (five.clone(), 9), (fullest, 192)] {
             self.put(Call::TriEdgeIndices, on(&sheet).with(Field::Numbers, &[triangle as u64]));
         }
-        self.draw(Call::TriEdgeIndices, (10, 180), at_least(0), |random| {
+        self.draw(Call::TriEdgeIndices, (5, 180), at_least(0), |random| {
             let complex = any_complex(random);
             let triangle = random.below(complex.triangles.len() as u64 + 1);
             on(&Sheet { complex, lambda: 1 }).with(Field::Numbers, &[triangle])

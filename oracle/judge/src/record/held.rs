@@ -108,6 +108,9 @@ fn floats(held: Held, sheet: &[u8]) -> Result<(), String> {
         Call::Su2WilsonLoop => {
             held.by(|masks, _: &mut No, _: &mut No, floats| port::su2_wilson_loop(sheet, &vector, path, masks, &mut floats[0]))
         }
+        Call::Su2WilsonPasses => {
+            held.by(|masks, _: &mut No, _: &mut No, floats| port::su2_wilson_passes(sheet, &vector, path, masks, &mut floats[0]))
+        }
         Call::Matvec => {
             let (starts, columns) = (case.list::<u32>(Field::First)?, case.list::<u32>(Field::Second)?);
             held.by(|_: &mut No, _: &mut No, _: &mut No, product| port::matvec(&starts, &columns, &list, &vector, product))

@@ -31,10 +31,11 @@ pub enum Call {
     Su2HamiltonianMatvec,
     Su2WilsonLoop,
     Matvec,
+    Su2WilsonPasses,
 }
 
 impl Call {
-    pub const ALL: [Call; 25] = [
+    pub const ALL: [Call; 26] = [
         Call::FromPentachorons,
         Call::TriEdgeIndices,
         Call::SpanningTree,
@@ -60,6 +61,7 @@ impl Call {
         Call::Su2HamiltonianMatvec,
         Call::Su2WilsonLoop,
         Call::Matvec,
+        Call::Su2WilsonPasses,
     ];
 
     pub fn of(number: u8) -> Option<Call> {

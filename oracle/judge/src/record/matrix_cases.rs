@@ -66,6 +66,12 @@ fn not_nothing(fields: &Fields) -> bool {
     fields.list(Field::Floats).is_ok_and(|floats| floats.into_iter().any(|float: f64| float != 0.0))
 }
 
+/// Whether a path names an edge more than once.
+fn comes_again(fields: &Fields) -> bool {
+    let path = fields.bytes(Field::Path);
+    (1..path.len()).any(|at| path[..at].contains(&path[at]))
+}
+
 /// Whether a path that has steps gives an expectation that is not 0.
 fn led_somewhere(fields: &Fields) -> bool {
     !fields.bytes(Field::Path).is_empty() && not_nothing(fields)
@@ -91,7 +97,7 @@ impl Cases {
             }
         }
         for (call, most) in [(dense, 450), (rows, 450), (product, 400)] {
-            self.draw(call, (3, most), at_least(2), |random| {
+            self.draw(call, (2, most), at_least(2), |random| {
                 let (sheet, sort) = (small(random), random.below(SORTS + 4));
                 let fields = any_weighed(random, &sheet, B::MODE, sort);
                 let vector = if call == product { any_amplitudes::<B>(random, &sheet) } else { vec![] };
@@ -144,17 +150,31 @@ impl Cases {
     }
 
     pub fn su2_loops(&mut self) {
+        let paths = [&[0, 1, 2][..], &[1], &[0, 2], &[1, 1], &[]];
+        self.even_loops(Call::Su2WilsonLoop, paths, [1, 2, 4, 2], led_somewhere);
+    }
+
+    /// Every path that is drawn names an edge more than once.
+    pub fn su2_passes(&mut self) {
+        // an edge and back, all edges, all of them twice, one three times, nowhere
+        let paths = [&[0, 0][..], &[0, 1, 2], &[0, 1, 2, 0, 1, 2], &[1, 1, 1], &[]];
+        self.even_loops(Call::Su2WilsonPasses, paths, [1, 2, 3, 1], |fields| led_somewhere(fields) && comes_again(fields));
+    }
+
+    /// One of the two calls along these paths on the triangle, with amplitudes of every sort, and so many times drawn on five vertices, on the
+    /// tetrahedron, on a small complex and on a wide one.
+    fn even_loops(&mut self, call: Call, paths: [&[u8]; 5], drawn: [usize; 4], wanted: fn(&Fields) -> bool) {
         let along = |sheet: &Sheet, vector: &[f64], path: &[u8]| on(sheet).with(Field::Path, path).with(Field::Vector, vector);
-        for path in [&[0, 1, 2][..], &[1], &[0, 2], &[1, 1], &[]] {
-            self.put(Call::Su2WilsonLoop, along(&triangle(1), &[3.0, 5.0], path));
+        for path in paths {
+            self.put(call, along(&triangle(1), &[3.0, 5.0], path));
         }
         for vector in some_amplitudes(2) {
-            self.put(Call::Su2WilsonLoop, along(&triangle(1), &vector, &[0, 1, 0]));
+            self.put(call, along(&triangle(1), &vector, &[0, 1, 0]));
         }
-        self.put(Call::Su2WilsonLoop, along(&sheet(1, &[], &[], 1), &[MOST], &[]));
-        let named: [Source; 2] = [|_| two_triangles(), |_| tetrahedron()];
-        for (how_many, complex) in [(1, named[0]), (2, named[1]), (4, small), (2, wide)] {
-            self.draw(Call::Su2WilsonLoop, (how_many, 400), led_somewhere, |random| {
+        self.put(call, along(&sheet(1, &[], &[], 1), &[MOST], &[]));
+        let sources: [Source; 4] = [|_| two_triangles(), |_| tetrahedron(), small, wide];
+        for (how_many, complex) in drawn.into_iter().zip(sources) {
+            self.draw(call, (how_many, 400), wanted, |random| {
                 let sheet = complex(random);
                 let vector = any_amplitudes::<EvenSets>(random, &sheet);
                 along(&sheet, &vector, &even_product_runs::right_path(random, sheet.complex.edges.len()))
