@@ -286,10 +286,10 @@ int64_t zibrotka_su2_hamiltonian_matvec(const uint8_t *sheet, size_t sheet_len,
 
 /*
  * The expectation of a loop in the two-valued truncation, for a vector of n amplitudes, one for each mask. The path is a list of edge
- * numbers; an edge that it names several times counts once. From 0.0, each mask by rising number adds (amplitude times amplitude) times
- * 1.0, or times -1.0 where it shares an odd number of edges with the path. The sum goes to `expectation`, the masks to the front of
- * `states`. Answers 0, or minus one of 1 to 10, 12 (not n amplitudes), 13 (the path names an edge that is not there), 14 (an amplitude is
- * not from -2^32 to 2^32) or 15 (fewer than n entries in `states`).
+ * numbers; an edge that it names several times counts once (zibrotka_su2_wilson_passes counts its passes). From 0.0, each mask by rising
+ * number adds (amplitude times amplitude) times 1.0, or times -1.0 where it shares an odd number of edges with the path. The sum goes to
+ * `expectation`, the masks to the front of `states`. Answers 0, or minus one of 1 to 10, 12 (not n amplitudes), 13 (the path names an edge
+ * that is not there), 14 (an amplitude is not from -2^32 to 2^32) or 15 (fewer than n entries in `states`).
  */
 int64_t zibrotka_su2_wilson_loop(const uint8_t *sheet, size_t sheet_len,
                                  const double *vector, size_t vector_len,
@@ -300,8 +300,8 @@ int64_t zibrotka_su2_wilson_loop(const uint8_t *sheet, size_t sheet_len,
 /*
  * The same, but each edge of the path counts by its number of passes modulo two: each mask adds (amplitude times amplitude) times 1.0, or
  * times -1.0 where it has an odd number of the edges that the path names an odd number of times. So the path {0, 0}, edge 0 and back, gives
- * what the empty path gives, while zibrotka_su2_wilson_loop counts edge 0 once there. Along a path that names no edge twice both calls
- * answer the same. Answers and refuses as that call.
+ * what the empty path gives, while zibrotka_su2_wilson_loop counts edge 0 once there. A path followed by itself gives what the empty path
+ * gives. Along a path that names no edge twice both calls answer the same. Answers and refuses as that call.
  */
 int64_t zibrotka_su2_wilson_passes(const uint8_t *sheet, size_t sheet_len,
                                    const double *vector, size_t vector_len,

@@ -11,7 +11,7 @@ use u1_recorded::matrix_cases::matrices_same;
 use u1_recorded::state_cases::states_same;
 
 // A kind is a byte of the list, judged by `stands`, and goes by the number that oracle/README.md gives it; the specs use these too. Here only
-// the ends of ranges stand. With an enum all 26 names would stand here, and once more in the crates of their calls: no plainer.
+// the ends of ranges stand, and 25. With an enum all 26 names would stand here, and once more in the crates of their calls: no plainer.
 #[tactic(auto, unfolding(crate::specs::Agreement::agreed))]
 pub fn case_same(case: Case) -> bool
     ensures { result ≡ agreed (case_at case.entry.list.now case.entry.at) }

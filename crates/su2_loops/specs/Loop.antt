@@ -81,7 +81,7 @@ expectation_call c vector path counts work =
 unfoldable pub su2_loop_call : Complex → List Float → List ℕ → List ℕ → Call Float (List ℕ)
 su2_loop_call c vector path work = expectation_call c vector path (names path) work
 
--- su2_wilson_passes: by its passes modulo two
+-- su2_wilson_passes: by the path's passes modulo two
 unfoldable pub su2_passes_call : Complex → List Float → List ℕ → List ℕ → Call Float (List ℕ)
 su2_passes_call c vector path work = expectation_call c vector path (passes_oddly path) work
 

@@ -46,7 +46,7 @@ fn accept_loop(n_states: usize, n_edges: usize, vector: &[f64], path: &[u8]) -> 
     Ok(())
 }
 
-// The edges of a path that count, as a mask: each step puts its edge into it.
+// The edges of a path that count, as a mask: `put` says what a step makes of the mask and its edge.
 fn counted_mask<F: Fn(u64, u64) -> u64>(path: &[u8], put: F) -> u64
     requires low { (k : ℕ) → k < length path.now → get_or path.now k 0 < 64 }
     requires callable { F.IsAlwaysCallable put }
@@ -83,7 +83,7 @@ fn mask_sum(vector: &[f64], states: &[u64], mask: u64) -> f64
 }
 
 // All even edge sets of a record go to the beginning of the list, and the expectation of a path's loop on them is told, by the edges that count:
-// a step puts its edge into their mask. All is judged first.
+// `put` says what a step makes of their mask and its edge. All is judged first.
 fn loop_expectation<F: Fn(u64, u64) -> u64>(
     c: SimplicialComplex,
     vector: &[f64],

@@ -1,4 +1,5 @@
-//! The entries of the matrices by their definition, each a sum of its own in the scope paper's order, and the row lists. For few states only.
+//! The entries of the matrices by their definition, each a sum of its own in the scope paper's order, and the row lists. For few states only, but for
+//! the two-valued expectation.
 
 use crate::couplings::Coupling;
 use crate::reference::{self, Complex, Sheet};

@@ -1,5 +1,6 @@
 //! The cases of the fixed list with a coupling, weights or amplitudes.
 
+use super::answers::ask;
 use super::cases::{Cases, Source, at_least, basis, on, small, tetrahedron, triangle, two_triangles, wide};
 use super::layout::{Call, Field, Fields};
 use crate::amplitudes::Path;
@@ -66,10 +67,10 @@ fn not_nothing(fields: &Fields) -> bool {
     fields.list(Field::Floats).is_ok_and(|floats| floats.into_iter().any(|float: f64| float != 0.0))
 }
 
-/// Whether a path names an edge more than once.
-fn comes_again(fields: &Fields) -> bool {
-    let path = fields.bytes(Field::Path);
-    (1..path.len()).any(|at| path[..at].contains(&path[at]))
+/// Whether the two-valued loop by the set of the path's edges tells another expectation.
+fn read_otherwise(fields: &Fields) -> bool {
+    let by_set = ask(Call::Su2WilsonLoop, &fields.taken(Call::Su2WilsonLoop));
+    by_set.is_ok_and(|told| told.bytes(Field::Floats) != fields.bytes(Field::Floats))
 }
 
 /// Whether a path that has steps gives an expectation that is not 0.
@@ -151,25 +152,26 @@ impl Cases {
 
     pub fn su2_loops(&mut self) {
         let paths = [&[0, 1, 2][..], &[1], &[0, 2], &[1, 1], &[]];
-        self.even_loops(Call::Su2WilsonLoop, paths, [1, 2, 4, 2], led_somewhere);
+        self.even_loops(Call::Su2WilsonLoop, paths, &[0, 1, 0], [1, 2, 4, 2], led_somewhere);
     }
 
-    /// Every path that is drawn names an edge more than once.
+    /// Of every path that is drawn the call by the edge set tells something else.
     pub fn su2_passes(&mut self) {
         // an edge and back, all edges, all of them twice, one three times, nowhere
         let paths = [&[0, 0][..], &[0, 1, 2], &[0, 1, 2, 0, 1, 2], &[1, 1, 1], &[]];
-        self.even_loops(Call::Su2WilsonPasses, paths, [1, 2, 3, 1], |fields| led_somewhere(fields) && comes_again(fields));
+        let wanted = |fields: &Fields| led_somewhere(fields) && read_otherwise(fields);
+        self.even_loops(Call::Su2WilsonPasses, paths, &[0, 0], [1, 2, 3, 1], wanted);
     }
 
-    /// One of the two calls along these paths on the triangle, with amplitudes of every sort, and so many times drawn on five vertices, on the
-    /// tetrahedron, on a small complex and on a wide one.
-    fn even_loops(&mut self, call: Call, paths: [&[u8]; 5], drawn: [usize; 4], wanted: fn(&Fields) -> bool) {
+    /// One of the two calls: on the triangle along these paths, and along one path with amplitudes of every sort; on one vertex; and so many
+    /// times drawn on five vertices, on the tetrahedron, on a small complex and on a wide one.
+    fn even_loops(&mut self, call: Call, paths: [&[u8]; 5], with_all: &[u8], drawn: [usize; 4], wanted: fn(&Fields) -> bool) {
         let along = |sheet: &Sheet, vector: &[f64], path: &[u8]| on(sheet).with(Field::Path, path).with(Field::Vector, vector);
         for path in paths {
             self.put(call, along(&triangle(1), &[3.0, 5.0], path));
         }
         for vector in some_amplitudes(2) {
-            self.put(call, along(&triangle(1), &vector, &[0, 1, 0]));
+            self.put(call, along(&triangle(1), &vector, with_all));
         }
         self.put(call, along(&sheet(1, &[], &[], 1), &[MOST], &[]));
         let sources: [Source; 4] = [|_| two_triangles(), |_| tetrahedron(), small, wide];
