@@ -3,6 +3,8 @@
 use Rattle.std.specs.Prelude.{ℕ, Bool, ◌&&◌, List, [], ◌∷◌, ℤ, Float, replicate}
 use Rattle.std.specs.Float.{binary64}
 use Rattle.std.specs.Float.Ieee.{of_bits}
+use Rattle.mathematics.specs.Calls.{Call}
+use Rattle.complex.specs.Complex.{Complex}
 use Rattle.matrices.specs.declared.coupling.KSParams.{KSParams}
 use Rattle.exports.specs.Exports.{on_sheet, value_lent}
 use Rattle.recorded.specs.Bytes.{holds_u32s, holds_u64s, holds_floats}
@@ -49,13 +51,14 @@ su2_product_agrees sheet coupling given weights vector told masks product =
     agrees (on_sheet sheet (λ c L. su2_product_call c coupling given weights vector blank (blanks 256))) told
     (λ l. holds_u64s l.0 masks && holds_floats l.1 product)
 
--- the expectation goes to one float
-unfoldable pub su2_loop_agrees : (sheet : List ℕ) (vector : List Float) (path : List ℕ) (told : ℤ) (masks expectation : List ℕ) → Bool
-su2_loop_agrees sheet vector path told masks expectation =
-    agrees (on_sheet sheet (λ c L. value_lent (su2_loop_call c vector path blank) (of_bits binary64 0))) told
+-- of either loop: the expectation goes to one float
+abbrev either_agrees : (Complex → List Float → List ℕ → List ℕ → Call Float (List ℕ)) → (sheet : List ℕ) (vector : List Float) (path : List ℕ) (told : ℤ) (masks expectation : List ℕ) → Bool
+either_agrees call sheet vector path told masks expectation =
+    agrees (on_sheet sheet (λ c L. value_lent (call c vector path blank) (of_bits binary64 0))) told
     (λ l. holds_u64s l.0 masks && holds_floats (l.1 ∷ []) expectation)
 
+unfoldable pub su2_loop_agrees : (sheet : List ℕ) (vector : List Float) (path : List ℕ) (told : ℤ) (masks expectation : List ℕ) → Bool
+su2_loop_agrees sheet vector path told masks expectation = either_agrees su2_loop_call sheet vector path told masks expectation
+
 unfoldable pub su2_passes_agrees : (sheet : List ℕ) (vector : List Float) (path : List ℕ) (told : ℤ) (masks expectation : List ℕ) → Bool
-su2_passes_agrees sheet vector path told masks expectation =
-    agrees (on_sheet sheet (λ c L. value_lent (su2_passes_call c vector path blank) (of_bits binary64 0))) told
-    (λ l. holds_u64s l.0 masks && holds_floats (l.1 ∷ []) expectation)
+su2_passes_agrees sheet vector path told masks expectation = either_agrees su2_passes_call sheet vector path told masks expectation
