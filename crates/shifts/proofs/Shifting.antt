@@ -44,17 +44,14 @@ module _ (s : List ℤ) (e : ℕ) (d : ℤ) where
   begins_shifted v old new value h =
       h ∙ rw value (ap (λ n. set s e (raised s e d) ++ drop n old) (sym (length-set s e (raised s e d))))
 
--- ---- a shift whose configuration, edge and lists pass
-module _ (c : SimplicialComplex) (L : ℕ) (b : Basis) (of : BasisOf (complex_of c) L b) (s : List ℤ) (e states res : ℕ) (sized : length s ≡ c.n_edges) (below : e < c.n_edges)
-    (tight : Bool) (tight_is : tight ≡ ltb states (length (states_of b.walker b.lambda b.blocks) * b.walker.n_edges)) (roomy : (tight || ltb res c.n_edges) ≡ false) where
-  pub shift_long : length s ≡ length (complex_of c).edges
-  shift_long = sized ∙ sym (edges_long c)
+-- ---- a shift whose edge and lists pass
+pub shift_inside : (c : SimplicialComplex) (e : ℕ) → e < c.n_edges → leb (length (complex_of c).edges) e ≡ false
+shift_inside c e below = rw (edges_long c) (lt-leb _ _ below)
 
-  pub shift_inside : leb (length (complex_of c).edges) e ≡ false
-  shift_inside = rw (edges_long c) (lt-leb _ _ below)
-
-  pub shift_room : (short (complex_of c) L states || ltb res (length (complex_of c).edges)) ≡ false
-  shift_room = rw (short_by of states, ← tight_is, edges_long c) roomy
+pub shift_room : (c : SimplicialComplex) (L : ℕ) (b : Basis) (of : BasisOf (complex_of c) L b) (states res : ℕ) (tight : Bool)
+    → tight ≡ ltb states (length (states_of b.walker b.lambda b.blocks) * b.walker.n_edges) → (tight || ltb res c.n_edges) ≡ false
+    → (short (complex_of c) L states || ltb res (length (complex_of c).edges)) ≡ false
+shift_room c L b of states res tight tight_is roomy = rw (short_by of states, ← tight_is, edges_long c) roomy
 
 -- and whose value stays within the band
 module _ (L : ℕ) (s : List ℤ) (e : ℕ) (d : ℤ) (x : FitsSigned w32 (get_or s e (pos 0))) (y : FitsSigned w32 d) (v : ℤ) (fits : FitsSigned w32 v)

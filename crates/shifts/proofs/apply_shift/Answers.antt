@@ -46,8 +46,8 @@ pub returns-in_default : goal.returns-in_default
 unfolding shift_call
 returns-in_default c =
     let long = c.if-configuration-m.false ∙ sym (edges_long c.args.c) in
-    let inside = shift_inside c.args.c c.args.lambda _ c.in_ok-basis.ensures.basis c.args.configuration.now c.args.edge (length c.args.states.now) (length c.args.res.now) c.if-configuration-m.false c.if-m-edge.false _ c.is_too_short.ensures c.if-is_too_short-res.false in
-    let room = shift_room c.args.c c.args.lambda _ c.in_ok-basis.ensures.basis c.args.configuration.now c.args.edge (length c.args.states.now) (length c.args.res.now) c.if-configuration-m.false c.if-m-edge.false _ c.is_too_short.ensures c.if-is_too_short-res.false in
+    let inside = shift_inside c.args.c c.args.edge c.if-m-edge.false in
+    let room = shift_room c.args.c c.args.lambda _ c.in_ok-basis.ensures.basis (length c.args.states.now) (length c.args.res.now) _ c.is_too_short.ensures c.if-is_too_short-res.false in
     let x : FitsSigned w32 (get_or c.args.configuration.now c.args.edge (pos 0)) = search rules in
     let left : within c.args.lambda (raised c.args.configuration.now c.args.edge c.args.delta) ≡ false = rw (← raised_is c.args.configuration.now c.args.edge c.args.delta x c.ranges.delta) c.in_default.ensures in
     refuses _ (basis_passed c.in_ok-basis.ensures (past (rw (eq-eqb _ _ long)) (past inside (past room (here (rw left)))))) refl
@@ -69,8 +69,8 @@ pub returns-then-not-in_basis : goal.returns-then-not-in_basis
 unfolding shift_call
 returns-then-not-in_basis c =
     let long = c.if-configuration-m.false ∙ sym (edges_long c.args.c) in
-    let inside = shift_inside c.args.c c.args.lambda _ c.in_ok-basis.ensures.basis c.args.configuration.now c.args.edge (length c.args.states.now) (length c.args.res.now) c.if-configuration-m.false c.if-m-edge.false _ c.is_too_short.ensures c.if-is_too_short-res.false in
-    let room = shift_room c.args.c c.args.lambda _ c.in_ok-basis.ensures.basis c.args.configuration.now c.args.edge (length c.args.states.now) (length c.args.res.now) c.if-configuration-m.false c.if-m-edge.false _ c.is_too_short.ensures c.if-is_too_short-res.false in
+    let inside = shift_inside c.args.c c.args.edge c.if-m-edge.false in
+    let room = shift_room c.args.c c.args.lambda _ c.in_ok-basis.ensures.basis (length c.args.states.now) (length c.args.res.now) _ c.is_too_short.ensures c.if-is_too_short-res.false in
     let x : FitsSigned w32 (get_or c.args.configuration.now c.args.edge (pos 0)) = search rules in
     let fits : FitsSigned w32 c.in-Some.value = search rules in
     let row = shift_row c.args.lambda c.args.configuration.now c.args.edge c.args.delta x c.ranges.delta c.in-Some.value fits c.in-Some.ensures c.args.c.n_edges _ _ c.if-configuration-m.false c.shifted_row-shifted.ensures in
@@ -83,7 +83,7 @@ list_and_seek-requires c =
     let x : FitsSigned w32 (get_or c.args.configuration.now c.args.edge (pos 0)) = search rules in
     let fits : FitsSigned w32 c.in-Some.value = search rules in
     let row = shift_row c.args.lambda c.args.configuration.now c.args.edge c.args.delta x c.ranges.delta c.in-Some.value fits c.in-Some.ensures c.args.c.n_edges _ _ c.if-configuration-m.false c.shifted_row-shifted.ensures in
-    let room = shift_room c.args.c c.args.lambda _ c.in_ok-basis.ensures.basis c.args.configuration.now c.args.edge (length c.args.states.now) (length c.args.res.now) c.if-configuration-m.false c.if-m-edge.false _ c.is_too_short.ensures c.if-is_too_short-res.false in
+    let room = shift_room c.args.c c.args.lambda _ c.in_ok-basis.ensures.basis (length c.args.states.now) (length c.args.res.now) _ c.is_too_short.ensures c.if-is_too_short-res.false in
     rw (basis.truncated, row) (record {
       complex = complex_of c.args.c;
       basis = basis.walks;
@@ -97,8 +97,8 @@ unfolding shift_call
 returns c =
     let basis = c.in_ok-basis.ensures.basis in
     let long = c.if-configuration-m.false ∙ sym (edges_long c.args.c) in
-    let inside = shift_inside c.args.c c.args.lambda _ c.in_ok-basis.ensures.basis c.args.configuration.now c.args.edge (length c.args.states.now) (length c.args.res.now) c.if-configuration-m.false c.if-m-edge.false _ c.is_too_short.ensures c.if-is_too_short-res.false in
-    let room = shift_room c.args.c c.args.lambda _ c.in_ok-basis.ensures.basis c.args.configuration.now c.args.edge (length c.args.states.now) (length c.args.res.now) c.if-configuration-m.false c.if-m-edge.false _ c.is_too_short.ensures c.if-is_too_short-res.false in
+    let inside = shift_inside c.args.c c.args.edge c.if-m-edge.false in
+    let room = shift_room c.args.c c.args.lambda _ c.in_ok-basis.ensures.basis (length c.args.states.now) (length c.args.res.now) _ c.is_too_short.ensures c.if-is_too_short-res.false in
     let x : FitsSigned w32 (get_or c.args.configuration.now c.args.edge (pos 0)) = search rules in
     let fits : FitsSigned w32 c.in-Some.value = search rules in
     let row = shift_row c.args.lambda c.args.configuration.now c.args.edge c.args.delta x c.ranges.delta c.in-Some.value fits c.in-Some.ensures c.args.c.n_edges _ _ c.if-configuration-m.false c.shifted_row-shifted.ensures in
