@@ -28,10 +28,13 @@ struct call {
     X(fundamental_loops, SHEET | BIT(15)) \
     X(su2_fundamental_loops, SHEET | BIT(15)) \
     X(check_gauss_law, SHEET | BIT(12)) \
+    X(check_gauss_law_finding, SHEET | BIT(12)) \
     X(enumerate_gauge_invariant, BASIS | BIT(15)) \
     X(count_states, BASIS) \
     X(config_to_index, BASIS | BIT(12) | BIT(15) | BIT(17)) \
+    X(config_to_index_finding, BASIS | BIT(12) | BIT(15) | BIT(17)) \
     X(apply_shift, BASIS | BIT(12) | BIT(13) | BIT(15) | BIT(16) | BIT(17)) \
+    X(apply_shift_finding, BASIS | BIT(12) | BIT(13) | BIT(15) | BIT(16) | BIT(17)) \
     X(apply_triangle_shift, BASIS | BIT(13) | BIT(15) | BIT(16)) \
     X(su2_basis, BASIS | BIT(15)) \
     X(su2_count_states, BASIS) \

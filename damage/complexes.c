@@ -284,6 +284,23 @@ bool lawful(const struct complex *c, const int32_t *value)
     return true;
 }
 
+bool find_broken(const struct complex *c, const int32_t *value, uint64_t *vertex, int64_t *excess)
+{
+    for (unsigned v = 0; v < c->vertices; v++) {
+        int64_t ends = 0, starts = 0;
+        for (unsigned e = 0; e < c->edges; e++) {
+            starts += c->edge[2 * e] == v ? value[e] : 0;
+            ends += c->edge[2 * e + 1] == v ? value[e] : 0;
+        }
+        if (ends != starts) {
+            *vertex = v;
+            *excess = ends - starts;
+            return true;
+        }
+    }
+    return false;
+}
+
 bool even_set(const struct complex *c, uint64_t mask)
 {
     uint64_t odd = 0;

@@ -44,6 +44,9 @@ void find_tree(const struct complex *c, struct tree *t);
 uint64_t power(uint64_t base, unsigned exponent);
 /* Whether the values obey Gauss's law. */
 bool lawful(const struct complex *c, const int32_t *value);
+/* The lowest vertex at which they do not, and the values on the edges that end there less those on the edges that start there. Whether there
+   is one. */
+bool find_broken(const struct complex *c, const int32_t *value, uint64_t *vertex, int64_t *excess);
 /* Whether a set of edges has an even number of them at each vertex. */
 bool even_set(const struct complex *c, uint64_t mask);
 /* Lists all states of U(1) in their order, by trying every candidate. Answers their number, or 0 where there are more entries than fit. */

@@ -59,7 +59,7 @@ void expect(unsigned refusal, uint64_t low, uint64_t high)
     if (answer < 0 && !(told > 0 && (current->tells >> told & 1)))
         snprintf(what, sizeof what, "the answer is %lld, which this call cannot tell", (long long)answer), fail(what);
     check(refusal ? told == refusal : answer >= 0 && (uint64_t)answer >= low && (uint64_t)answer <= high, what);
-    int list = changed_list(told > 0);
+    int list = changed_list(told);
     if (list) {
         snprintf(what, sizeof what, "list %d (counted as they are made) has changed where it must not; the answer is %lld", list, (long long)answer);
         fail(what);

@@ -94,10 +94,10 @@ static void open_pages(struct region *r, size_t bytes)
     r->open = pages;
 }
 
-/* What the pattern has for a place of a region, and for how many bytes from there on, at most `bytes`. */
-static const uint8_t *pattern_at(size_t place, size_t *bytes)
+/* What the pattern has for a place of a region, and for how many bytes from there on, at most `bytes`. Each region has other bytes. */
+static const uint8_t *pattern_at(const struct region *r, size_t place, size_t *bytes)
 {
-    size_t at = (pattern_from + place) % TILE;
+    size_t at = (pattern_from + PAGE * (size_t)(r - regions) + place) % TILE;
     if (*bytes > TILE - at)
         *bytes = TILE - at;
     return pattern + at;
@@ -107,7 +107,7 @@ static void fill(const struct region *r)
 {
     for (size_t done = 0; done < r->open;) {
         size_t bytes = r->open - done;
-        const uint8_t *from = pattern_at(done, &bytes);
+        const uint8_t *from = pattern_at(r, done, &bytes);
         memcpy(r->high - r->open + done, from, bytes);
         done += bytes;
     }
@@ -118,7 +118,7 @@ static bool holds_pattern(const struct region *r, size_t from, size_t to)
 {
     while (from < to) {
         size_t bytes = to - from;
-        const uint8_t *wanted = pattern_at(from, &bytes);
+        const uint8_t *wanted = pattern_at(r, from, &bytes);
         if (memcmp(r->high - r->open + from, wanted, bytes) != 0)
             return false;
         from += bytes;
@@ -170,14 +170,14 @@ void lists_open(void)
             protect(regions[i].high - regions[i].open, regions[i].open, PROT_READ | PROT_WRITE);
 }
 
-int changed_list(bool refused)
+int changed_list(unsigned refusal)
 {
     for (size_t i = 0; i < n_lists; i++) {
         const struct list *l = &lists[i];
         if (!l->lent || l->len == 0)
             continue;
         size_t begin = (size_t)((uint8_t *)l->at - (regions[i].high - regions[i].open));
-        size_t end = begin + (refused ? 0 : l->result * l->size);
+        size_t end = begin + (refusal == 17 ? l->found : refusal ? 0 : l->result) * l->size;
         if (!holds_pattern(&regions[i], 0, begin) || !holds_pattern(&regions[i], end, regions[i].open))
             return (int)i + 1;
     }

@@ -17,6 +17,7 @@ struct list {
     bool lent;     /* the call may write */
     bool hidden;   /* the call must not even read */
     size_t result; /* how many entries a success may change */
+    size_t found;  /* how many entries the refusal 17 may change */
 };
 
 void memory_begin(void);
@@ -29,8 +30,9 @@ struct list *lend(size_t len, size_t size, size_t result);
 /* From here on to lists_open, no list that is given can be written. */
 void lists_close(void);
 void lists_open(void);
-/* The number, from 1, of the first lent list that is not as it was: all of it, or all but its result. 0: each is. */
-int changed_list(bool refused);
+/* The number, from 1, of the first lent list that is not as it was: at a refusal all of it, or at 17 all but what was found; at 0, a success, all
+   but its result. 0: each is. */
+int changed_list(unsigned refusal);
 /* Which list a bad address lies next to, from 1; 0: none of them, -1: the stack. */
 int list_beside(const void *address);
 /* Runs the function on a thread with STACK_BYTES of stack below which nothing can be touched. */

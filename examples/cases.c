@@ -1,6 +1,6 @@
 /*
- * The worked cases of docs/SCOPE.md that have no star, its first five traps, an edge and back in Z2, and ends of ranges: each line tells what
- * a call answers. A value below 0 is minus a refusal. cases.expected has what must be printed.
+ * The worked cases of docs/SCOPE.md that have no star, its first five traps, an edge and back in Z2, ends of ranges, and what is wrong with
+ * values that are no state: each line tells what a call answers. A value below 0 is minus a refusal. cases.expected has what must be printed.
  */
 #include "zibrotka.h"
 #include <math.h>
@@ -143,6 +143,27 @@ static void traps(void)
     told("the place of one that breaks the law", zibrotka_config_to_index(sheet, n, second, 5, states, ROOM));
 }
 
+/* On the triangle with L 1. Numbers that are not told are not printed: they are as they were. */
+static void findings(void)
+{
+    const int32_t unlawful[] = {3, 0, -2}, outside[] = {2, -2, 2}, zeros[] = {0, 0, 0};
+    uint8_t sheet[ZIBROTKA_SHEET_BYTES];
+    int32_t shifted[3];
+    uint64_t vertex = 0, edge = 0;
+    int64_t excess = 0;
+    size_t n = sheet_of(sheet, 3, triangle_edges, 3, one_triangle, 1, 1);
+
+    told("3 on (0,1) and -2 on (1,2), lawful", zibrotka_check_gauss_law_finding(sheet, n, unlawful, 3, &vertex, &excess));
+    printf("vertex %llu, excess %lld\n", (unsigned long long)vertex, (long long)excess);
+    told("its place", zibrotka_config_to_index_finding(sheet, n, unlawful, 3, states, ROOM, &vertex, &excess, &edge));
+    printf("vertex %llu, excess %lld\n", (unsigned long long)vertex, (long long)excess);
+    told("2, -2, 2, lawful", zibrotka_check_gauss_law_finding(sheet, n, outside, 3, &vertex, &excess));
+    told("its place", zibrotka_config_to_index_finding(sheet, n, outside, 3, states, ROOM, &vertex, &excess, &edge));
+    printf("excess %lld, edge %llu\n", (long long)excess, (unsigned long long)edge);
+    told("zeros and 1 more on (1,2)", zibrotka_apply_shift_finding(sheet, n, zeros, 3, 2, 1, states, ROOM, shifted, 3, &vertex, &excess, &edge));
+    printf("vertex %llu, excess %lld\n", (unsigned long long)vertex, (long long)excess);
+}
+
 int main(void)
 {
     states = malloc(sizeof(int32_t) * ROOM);
@@ -152,6 +173,7 @@ int main(void)
     counts();
     floats();
     traps();
+    findings();
     free(states);
     return 0;
 }

@@ -1,8 +1,9 @@
 /*
  * Gauge-invariant states on a triangle complex: the calls of libzibrotka.a.
  *
- * Every call but zibrotka_release answers one signed number: its value, or minus one of the refusals below. A call that refuses leaves every lent list and
- * number as it was; one that succeeds changes no entry of a list beyond its result. Each call judges its whole input itself.
+ * Every call but zibrotka_release answers one signed number: its value, or minus one of the refusals below. A call that refuses leaves
+ * every lent list and number as it was; only the two calls that tell why a configuration is not in the basis write numbers beside the
+ * refusal 17. One that succeeds changes no entry of a list beyond its result. Each call judges its whole input itself.
  *
  * A list is a pointer and a length. An empty one may be NULL with length 0. What a call writes to must not overlap anything else that
  * it is given; what it only reads may.
@@ -140,6 +141,15 @@ int64_t zibrotka_su2_fundamental_loops(const uint8_t *sheet, size_t sheet_len,
 int64_t zibrotka_check_gauss_law(const uint8_t *sheet, size_t sheet_len, const int32_t *configuration, size_t configuration_len);
 
 /*
+ * The same, and where the answer is 0, `vertex` gets the lowest vertex at which the law does not hold, and `excess` what comes in there less
+ * what goes out, which is not 0 and may be negative: the values on the edges that end there, less those on the edges that start there. Where
+ * the answer is 1, both stay as they were.
+ */
+int64_t zibrotka_check_gauss_law_finding(const uint8_t *sheet, size_t sheet_len,
+                                         const int32_t *configuration, size_t configuration_len,
+                                         uint64_t *vertex, int64_t *excess);
+
+/*
  * Lists every configuration with values from -L to L that obeys Gauss's law. Of two, the one with the smaller value on the
  * highest-numbered free edge where they differ comes first. States times E values go to the front of `states`, state after state, each
  * one's values by edge number. Answers the number of states, which is at least 1, or minus one of 1 to 9, 10 (2L+1 to the number of free
@@ -162,6 +172,17 @@ int64_t zibrotka_config_to_index(const uint8_t *sheet, size_t sheet_len,
                                  int32_t *states, size_t states_len);
 
 /*
+ * The same, and where the answer is minus 17, three numbers tell why. If the configuration breaks the law, `vertex` gets the lowest vertex
+ * at which it does, and `excess` the excess there, as from zibrotka_check_gauss_law_finding, which is not 0; `edge` stays as it was. If it
+ * obeys the law, `excess` gets 0 and `edge` the lowest edge whose value is not from -L to L; `vertex` stays as it was. With any other
+ * answer all three stay as they were.
+ */
+int64_t zibrotka_config_to_index_finding(const uint8_t *sheet, size_t sheet_len,
+                                         const int32_t *configuration, size_t configuration_len,
+                                         int32_t *states, size_t states_len,
+                                         uint64_t *vertex, int64_t *excess, uint64_t *edge);
+
+/*
  * The place of the configuration that has `delta` more on edge number `edge`. Any 32-bit delta is added in a true sum; the configuration
  * that it starts from need not be in the list. The whole list goes to the front of `states`, the E values of the shifted configuration to
  * the front of `result`. Answers the place, or minus one of 1 to 10, 12 (not as many values as edges), 13 (no edge has the number), 15
@@ -173,6 +194,17 @@ int64_t zibrotka_apply_shift(const uint8_t *sheet, size_t sheet_len,
                              uint64_t edge, int32_t delta,
                              int32_t *states, size_t states_len,
                              int32_t *result, size_t result_len);
+
+/*
+ * The same, on edge number `shifted`, and where the answer is minus 17, `vertex`, `excess` and `edge` tell of the shifted configuration what
+ * zibrotka_config_to_index_finding tells. The edge told is never `shifted`, since 16 is judged first.
+ */
+int64_t zibrotka_apply_shift_finding(const uint8_t *sheet, size_t sheet_len,
+                                     const int32_t *configuration, size_t configuration_len,
+                                     uint64_t shifted, int32_t delta,
+                                     int32_t *states, size_t states_len,
+                                     int32_t *result, size_t result_len,
+                                     uint64_t *vertex, int64_t *excess, uint64_t *edge);
 
 /*
  * The place of the state that triangle number `triangle` makes of the state at place `state`: 1 more on its edges (a,b) and (b,c), 1 less

@@ -222,6 +222,55 @@ static int laws(void)
     return 0;
 }
 
+static int law_findings(void)
+{
+    const int32_t lawful[] = {INT32_MAX, -INT32_MAX, INT32_MAX, 0}, one_off[] = {1, -1, 2}, below[] = {3, 0, -2}, above[] = {-3, 0, 0};
+    const int32_t wrapping[] = {INT32_MIN, INT32_MIN, INT32_MIN, INT32_MIN};
+    /* vertex 0 and an edge to each of the 63 others */
+    uint8_t star_sheet[11 + 126] = {'G', 'L', 'S', 1, 0, 64, 63, 0, 0, 1, 0};
+    int32_t on_star[63];
+    uint64_t vertex = 91;
+    int64_t excess = -92;
+
+    CHECK(zibrotka_check_gauss_law_finding(NULL, 0, one_off, 3, &vertex, &excess) == -ZIBROTKA_SHEET_SHORT);
+    CHECK(zibrotka_check_gauss_law_finding(apart_sheet, 11, one_off, 3, &vertex, &excess) == -ZIBROTKA_UNREACHED);
+    CHECK(zibrotka_check_gauss_law_finding(triangle_sheet, 20, one_off, 2, &vertex, &excess) == -ZIBROTKA_LENGTH);
+    CHECK(zibrotka_check_gauss_law_finding(triangle_sheet, 20, wrapping, 4, &vertex, &excess) == -ZIBROTKA_LENGTH);
+    CHECK(zibrotka_check_gauss_law_finding(triangle_sheet, 20, NULL, 0, &vertex, &excess) == -ZIBROTKA_LENGTH);
+    CHECK(zibrotka_check_gauss_law_finding(triangle_sheet, 20, lawful, 3, &vertex, &excess) == 1);
+    CHECK(zibrotka_check_gauss_law_finding(point_sheet, 11, NULL, 0, &vertex, &excess) == 1);
+    CHECK(vertex == 91 && excess == -92);
+
+    CHECK(zibrotka_check_gauss_law_finding(triangle_sheet, 20, one_off, 3, &vertex, &excess) == 0);
+    CHECK(vertex == 1 && excess == -1);
+    CHECK(zibrotka_check_gauss_law_finding(triangle_sheet, 20, below, 3, &vertex, &excess) == 0);
+    CHECK(vertex == 0 && excess == -3);
+    CHECK(zibrotka_check_gauss_law_finding(triangle_sheet, 20, above, 3, &vertex, &excess) == 0);
+    CHECK(vertex == 0 && excess == 3);
+    CHECK(zibrotka_check_gauss_law_finding(kite_sheet, 19, above, 3, &vertex, &excess) == -ZIBROTKA_LENGTH);
+    CHECK(zibrotka_check_gauss_law_finding(kite_sheet, 19, lawful, 4, &vertex, &excess) == 0);
+    CHECK(vertex == 0 && excess == INT32_MAX);
+    CHECK(zibrotka_check_gauss_law_finding(square_sheet, 19, wrapping, 4, &vertex, &excess) == 0);
+    CHECK(vertex == 0 && excess == INT64_C(4294967296));
+
+    for (uint8_t i = 0; i < 63; i++) {
+        star_sheet[12 + 2 * i] = (uint8_t)(i + 1);
+        on_star[i] = INT32_MIN;
+    }
+    CHECK(zibrotka_check_gauss_law_finding(star_sheet, sizeof star_sheet, on_star, 63, &vertex, &excess) == 0);
+    CHECK(vertex == 0 && excess == INT64_C(135291469824));
+    for (size_t i = 0; i < 63; i++)
+        on_star[i] = INT32_MAX;
+    CHECK(zibrotka_check_gauss_law_finding(star_sheet, sizeof star_sheet, on_star, 63, &vertex, &excess) == 0);
+    CHECK(vertex == 0 && excess == -INT64_C(135291469761));
+    for (size_t i = 0; i < 61; i++)
+        on_star[i] = 0;
+    on_star[61] = 5, on_star[62] = -5;
+    CHECK(zibrotka_check_gauss_law_finding(star_sheet, sizeof star_sheet, on_star, 63, &vertex, &excess) == 0);
+    CHECK(vertex == 62 && excess == 5);
+    return 0;
+}
+
 /* no entry of a list was written to */
 static int as_it_was(const int32_t *list, size_t len)
 {
@@ -281,6 +330,39 @@ static int places(void)
     return 0;
 }
 
+static int place_findings(void)
+{
+    const int32_t zero[] = {0, 0, 0, 0}, unlawful[] = {0, 0, 1}, outside[] = {2, -2, 2}, both[] = {3, 0, -2}, on_loop[] = {0, -2, 2, 2};
+    int32_t states[16];
+    uint64_t vertex = 91, edge = 93;
+    int64_t excess = -92;
+
+    memset(states, 0xEE, sizeof states);
+    CHECK(zibrotka_config_to_index_finding(NULL, 0, both, 3, states, 16, &vertex, &excess, &edge) == -ZIBROTKA_SHEET_SHORT);
+    CHECK(zibrotka_config_to_index_finding(triangle_sheet, 20, zero, 4, states, 8, &vertex, &excess, &edge) == -ZIBROTKA_LENGTH);
+    CHECK(zibrotka_config_to_index_finding(triangle_sheet, 20, NULL, 0, NULL, 0, &vertex, &excess, &edge) == -ZIBROTKA_LENGTH);
+    CHECK(zibrotka_config_to_index_finding(triangle_sheet, 20, unlawful, 3, states, 8, &vertex, &excess, &edge) == -ZIBROTKA_ROOM);
+    CHECK(zibrotka_config_to_index_finding(triangle_sheet, 20, outside, 3, states, 8, &vertex, &excess, &edge) == -ZIBROTKA_ROOM);
+    CHECK(vertex == 91 && excess == -92 && edge == 93);
+
+    CHECK(zibrotka_config_to_index_finding(triangle_sheet, 20, unlawful, 3, states, 16, &vertex, &excess, &edge) == -ZIBROTKA_NOT_LISTED);
+    CHECK(vertex == 1 && excess == -1 && edge == 93);
+    CHECK(zibrotka_config_to_index_finding(triangle_sheet, 20, outside, 3, states, 16, &vertex, &excess, &edge) == -ZIBROTKA_NOT_LISTED);
+    CHECK(vertex == 1 && excess == 0 && edge == 0);
+    CHECK(zibrotka_config_to_index_finding(kite_sheet, 19, on_loop, 4, states, 16, &vertex, &excess, &edge) == -ZIBROTKA_NOT_LISTED);
+    CHECK(vertex == 1 && excess == 0 && edge == 1);
+    /* the law is told first */
+    CHECK(zibrotka_config_to_index_finding(triangle_sheet, 20, both, 3, states, 16, &vertex, &excess, &edge) == -ZIBROTKA_NOT_LISTED);
+    CHECK(vertex == 0 && excess == -3 && edge == 1);
+    CHECK(as_it_was(states, 16));
+
+    CHECK(zibrotka_config_to_index_finding(triangle_sheet, 20, zero, 3, states, 16, &vertex, &excess, &edge) == 1);
+    CHECK(begins_with_the_basis(states, 16));
+    CHECK(zibrotka_config_to_index_finding(point_sheet, 11, NULL, 0, NULL, 0, &vertex, &excess, &edge) == 0);
+    CHECK(vertex == 0 && excess == -3 && edge == 1);
+    return 0;
+}
+
 static int shifts(void)
 {
     const int32_t zero[] = {0, 0, 0, 0}, below[] = {INT32_MIN, 0, 0}, above[] = {INT32_MAX, 1, -1};
@@ -304,6 +386,41 @@ static int shifts(void)
     CHECK(memcmp(result, zero, 12) == 0 && as_it_was(result + 3, 5));
     CHECK(zibrotka_apply_shift(triangle_sheet, 20, above, 3, 0, INT32_MIN, states, 9, result, 3) == 0);
     CHECK(memcmp(result, on_triangle, 12) == 0);
+    return 0;
+}
+
+static int shift_findings(void)
+{
+    const int32_t zero[] = {0, 0, 0, 0}, above[] = {INT32_MAX, 1, -1}, beside[] = {7, -2, 2, 2}, far[] = {1, INT32_MIN, INT32_MIN};
+    int32_t states[16], result[8];
+    uint64_t vertex = 91, edge = 93;
+    int64_t excess = -92;
+
+    memset(states, 0xEE, sizeof states);
+    memset(result, 0xEE, sizeof result);
+    CHECK(zibrotka_apply_shift_finding(triangle_sheet, 19, zero, 3, 0, 1, states, 16, result, 8, &vertex, &excess, &edge) == -ZIBROTKA_SHEET_LENGTH);
+    CHECK(zibrotka_apply_shift_finding(triangle_sheet, 20, zero, 4, 0, 1, states, 16, result, 8, &vertex, &excess, &edge) == -ZIBROTKA_LENGTH);
+    CHECK(zibrotka_apply_shift_finding(triangle_sheet, 20, zero, 3, 3, 1, states, 16, result, 8, &vertex, &excess, &edge) == -ZIBROTKA_NUMBER);
+    CHECK(zibrotka_apply_shift_finding(triangle_sheet, 20, zero, 3, 0, 1, states, 8, result, 8, &vertex, &excess, &edge) == -ZIBROTKA_ROOM);
+    CHECK(zibrotka_apply_shift_finding(triangle_sheet, 20, zero, 3, 0, 1, states, 16, result, 2, &vertex, &excess, &edge) == -ZIBROTKA_ROOM);
+    CHECK(zibrotka_apply_shift_finding(triangle_sheet, 20, zero, 3, 0, 2, states, 16, result, 8, &vertex, &excess, &edge) == -ZIBROTKA_BAND);
+    CHECK(vertex == 91 && excess == -92 && edge == 93);
+
+    CHECK(zibrotka_apply_shift_finding(triangle_sheet, 20, zero, 3, 0, 1, states, 16, result, 8, &vertex, &excess, &edge) == -ZIBROTKA_NOT_LISTED);
+    CHECK(vertex == 0 && excess == -1 && edge == 93);
+    CHECK(zibrotka_apply_shift_finding(triangle_sheet, 20, far, 3, 0, -1, states, 16, result, 8, &vertex, &excess, &edge) == -ZIBROTKA_NOT_LISTED);
+    CHECK(vertex == 0 && excess == INT64_C(2147483648) && edge == 93);
+    /* the loop is outside the band, and the shift makes the values lawful */
+    CHECK(zibrotka_apply_shift_finding(kite_sheet, 19, beside, 4, 0, -7, states, 16, result, 8, &vertex, &excess, &edge) == -ZIBROTKA_NOT_LISTED);
+    CHECK(vertex == 0 && excess == 0 && edge == 1);
+    CHECK(zibrotka_apply_shift_finding(kite_sheet, 19, beside, 4, 0, -6, states, 16, result, 8, &vertex, &excess, &edge) == -ZIBROTKA_NOT_LISTED);
+    CHECK(vertex == 2 && excess == -1 && edge == 1);
+    CHECK(as_it_was(states, 16) && as_it_was(result, 8));
+
+    CHECK(zibrotka_apply_shift_finding(triangle_sheet, 20, above, 3, 0, INT32_MIN, states, 9, result, 3, &vertex, &excess, &edge) == 0);
+    CHECK(begins_with_the_basis(states, 16));
+    CHECK(memcmp(result, on_triangle, 12) == 0 && as_it_was(result + 3, 5));
+    CHECK(vertex == 2 && excess == -1 && edge == 1);
     return 0;
 }
 
@@ -779,8 +896,9 @@ static int texts(void)
 
 int main(void)
 {
-    if (making() || reading() || triangle_edges() || pentachora() || trees() || loops() || laws() || listings() || places() || shifts() ||
-        triangle_shifts() || masks() || couplings() || dense() || su2_dense() || rows() || su2_rows() || su2_products() ||
+    if (making() || reading() || triangle_edges() || pentachora() || trees() || loops() || laws() || law_findings() || listings() || places() ||
+        place_findings() || shifts() || shift_findings() || triangle_shifts() || masks() || couplings() || dense() || su2_dense() ||
+        rows() || su2_rows() || su2_products() ||
         su2_expectations(zibrotka_su2_wilson_loop, -16) || su2_expectations(zibrotka_su2_wilson_passes, 34) || counts() ||
         products() || amplitudes() || texts())
         return 1;

@@ -1,2 +1,3 @@
 mod Statuses
 mod Writing
+mod Ends

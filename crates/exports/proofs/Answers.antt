@@ -1,14 +1,15 @@
 -- What is told where the value of a call goes to what is lent, or a part of it does.
 use Prim.Native.Nat.{ℕ, zero, suc}
 use mathlib.Core.Path.{◌≡◌, refl, sym, ap, ◌∙◌}
+use Rattle.std.proofs.Common.{Option}
 use borrow.Author.Tests.{ne_eqb}
 use Rattle.mathematics.specs.Refusals.{Outcome, value, refused, first, outcome, written}
 use Rattle.mathematics.specs.Calls.{Call, Answered, NoneLent, none_lent}
 use Rattle.mathematics.proofs.Refusals.{refused_kept}
 use Rattle.mathematics.proofs.Calls.{refuses, ends, both, written_both}
-use Rattle.exports.specs.Exports.{stored, value_lent, second_lent, zero_of, value_or}
+use Rattle.exports.specs.Exports.{stored, value_lent, second_lent, found_lent, none_found, found_in, found_or, none_of, zero_of, value_or}
 use Rattle.answers.proofs.Outcomes.{refused_number, refused_some, value_none}
-use Rattle.exports.proofs.Signs.{zero_outcome}
+use Rattle.exports.proofs.Signs.{none_outcome, zero_outcome}
 
 -- ---- the value goes to what is lent
 module _ {A B : Type 0} (call : Call A NoneLent) (store : A → B → B) (old : B) where
@@ -36,6 +37,23 @@ lent_answers {A} {B} {call} h old is =
     record {
       answer = ap zero_of h.answer ∙ zero_outcome n call.value;
       lists = both h.lists (is ∙ ap (λ o. value_or o old) h.answer ∙ value_written n call.value old) ∙ sym (written_both n call.after call.before call.value old);
+      known = h.known;
+    }
+
+-- ---- what was found goes to what is lent
+found_written : {A B : Type 0} (n : ℕ) (o : Option A) (store : A → B → B) (old : B) → found_or store (outcome n o) old ≡ written n (found_in store o old) old
+unfolding found_or outcome written
+found_written zero o store old = refl
+found_written (suc n) o store old = refl
+
+pub found_answers : {A B : Type 0} {call : Call (Option A) NoneLent} {a : Outcome (Option A)} → Answered call a none_lent → (store : A → B → B) (old : B) {new : B} → new ≡ found_or store a old
+    → Answered (found_lent call store old) (none_of a) new
+unfolding found_lent none_found
+found_answers {A} {B} {call} h store old is =
+    let n = first call.tests in
+    record {
+      answer = ap none_of h.answer ∙ none_outcome n call.value;
+      lists = is ∙ ap (λ o. found_or store o old) h.answer ∙ found_written n call.value store old;
       known = h.known;
     }
 

@@ -2,3 +2,4 @@ pub mod Signs
 pub mod OnSheets
 pub mod Answers
 pub mod Given
+pub mod Findings

@@ -1,17 +1,19 @@
 -- The signed number of an answer.
 use Prim.Native.Nat.{ℕ, zero, suc, ◌<◌, ◌^◌}
 use mathlib.Core.Path.{◌≡◌, refl, ap, ◌∙◌}
-use mathlib.Core.Bool.{Bool, true, false, cond}
+use mathlib.Core.Bool.{cond}
+use Rattle.std.proofs.Common.{Option}
+use Rattle.std.specs.Option.{is_none}
 use native.Mathlib.Omega.{arith}
 use lib.IntN.{ℤ, pos}
 use lib.Signed.{mag}
 use mir.Syntax.{w64}
-use mir.Val.{to_z, of_z, bool_byte}
+use mir.Val.{to_z, of_z}
 use Rattle.mathematics.proofs.Signed.{back64}
 use mir.Facts.{to_z_pos}
 use Rattle.mathematics.specs.Refusals.{Outcome, outcome}
 use Rattle.mathematics.specs.Calls.{Call, Answered}
-use Rattle.exports.specs.Exports.{signed, yes_of, zero_of, Exported}
+use Rattle.exports.specs.Exports.{signed, none_of, zero_of, Exported}
 
 pub plain : (n : ℕ) → n < 2 ^ 31 → to_z w64 n ≡ pos n
 plain n h = to_z_pos w64 (omega arith)
@@ -23,20 +25,12 @@ exports h is = record { answer = is ∙ ap signed h.answer; lists = h.lists; kno
 pub told : {B : Type 0} {call : Call ℕ B} {a : Outcome ℕ} {l : B} {r : ℤ} → Answered call a l → mag r < 2 ^ 63 → r ≡ signed a → Exported call (to_z w64 (of_z w64 r)) l
 told {r = r} h fits is = exports h (back64 r fits ∙ is)
 
-pub yes_outcome : (n : ℕ) (b : Bool) → yes_of (outcome n b) ≡ outcome n (cond b 1 0)
-unfolding yes_of outcome
-yes_outcome zero b = refl
-yes_outcome (suc n) b = refl
+pub none_outcome : {A : Type 0} (n : ℕ) (o : Option A) → none_of (outcome n o) ≡ outcome n (cond (is_none o) 1 0)
+unfolding none_of outcome
+none_outcome zero o = refl
+none_outcome (suc n) o = refl
 
 pub zero_outcome : {A : Type 0} (n : ℕ) (a : A) → zero_of (outcome n a) ≡ outcome n 0
 unfolding zero_of outcome
 zero_outcome zero a = refl
 zero_outcome (suc n) a = refl
-
-pub yes_small : (b : Bool) → cond b 1 0 < 2 ^ 31
-yes_small true = omega arith
-yes_small false = omega arith
-
-pub yes_number : (b : Bool) → bool_byte b ≡ cond b 1 0
-yes_number true = refl
-yes_number false = refl

@@ -1,5 +1,5 @@
 -- What the exported functions answer: one signed number, the value or minus the refusal.
-use Rattle.std.specs.Prelude.{ℕ, List, [], ◌∷◌, ◌++◌, Bool, cond, ◌≡◌, ℤ, pos, neg_ℤ, Float}
+use Rattle.std.specs.Prelude.{ℕ, List, [], ◌∷◌, ◌++◌, cond, Option, Some, None, is_none, ◌≡◌, ℤ, pos, neg_ℤ, Float}
 use Rattle.mathematics.specs.Refusals.{Outcome, value, refused, first, outcome, written}
 use Rattle.mathematics.specs.Calls.{Call, NoneLent}
 use Rattle.matrices.specs.declared.coupling.KSParams.{KSParams}
@@ -12,7 +12,7 @@ signed (value n) = pos n
 signed (refused n) = neg_ℤ (pos n)
 
 -- A number and the lists at the end are those of a call: the value or minus the refusal, and what the call leaves. Each exported function
--- answers so, of a call that the crates below name, as it is or changed by what follows.
+-- answers so, of a call that the crates below name, as it is or changed by what follows; two tell a finding besides (`FindingExported`).
 pub record Exported {B : Type 0} (call : Call ℕ B) (r : ℤ) (l : B) : Type 0 where
   pub answer : r ≡ signed (outcome (first call.tests) call.value)
   pub lists : l ≡ written (first call.tests) call.after call.before
@@ -37,9 +37,20 @@ on_sheet b call =
       known = (call (complex_in b) (lambda_in b)).known;
     }
 
--- yes is 1, no is 0
-unfoldable pub as_number : {B : Type 0} → Call Bool B → Call ℕ B
-as_number call = record { tests = call.tests; value = cond call.value 1 0; before = call.before; after = call.after; known = call.known }
+-- what was found goes to what is lent, in a given way; where nothing was found that stays as it is
+abbrev pub found_in : {A B : Type 0} → (A → B → B) → Option A → B → B
+found_in store None old = old
+found_in store (Some a) old = store a old
+
+-- A call that looks for something: 1 is told where it finds nothing, and 0 where it finds something.
+unfoldable pub none_found : {A B : Type 0} → Call (Option A) B → Call ℕ B
+none_found call =
+    record { tests = call.tests; value = cond (is_none call.value) 1 0; before = call.before; after = call.after; known = call.known }
+
+-- The same, and what it finds goes to what is lent, in a given way.
+unfoldable pub found_lent : {A B : Type 0} → Call (Option A) NoneLent → (A → B → B) → B → Call ℕ B
+found_lent call store old =
+    record { tests = call.tests; value = (none_found call).value; before = old; after = found_in store call.value old; known = call.known }
 
 -- The value of a call goes to what is lent for it, in a given way, and 0 is told.
 unfoldable pub stored : {A B : Type 0} → Call A NoneLent → (A → B → B) → B → Call ℕ B
@@ -74,10 +85,15 @@ abbrev pub three_floats : KSParams → List Float → List Float
 three_floats p old = p.g_squared ∷ p.electric ∷ p.magnetic ∷ []
 
 -- ---- as the code keeps it
--- yes is 1, no is 0
-unfoldable pub yes_of : Outcome Bool → Outcome ℕ
-yes_of (value b) = value (cond b 1 0)
-yes_of (refused n) = refused n
+-- 1 where nothing was found, 0 where something was
+unfoldable pub none_of : {A : Type 0} → Outcome (Option A) → Outcome ℕ
+none_of (value o) = value (cond (is_none o) 1 0)
+none_of (refused n) = refused n
+
+-- what was found, or what stood in its place
+unfoldable pub found_or : {A B : Type 0} → (A → B → B) → Outcome (Option A) → B → B
+found_or store (value o) old = found_in store o old
+found_or store (refused n) old = old
 
 -- 0 for any value
 unfoldable pub zero_of : {A : Type 0} → Outcome A → Outcome ℕ

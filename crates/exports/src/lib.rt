@@ -1,13 +1,16 @@
-// What the exported functions of every mode have in common: a sheet is opened, and an answer becomes one signed number.
+// What the exported functions of every mode have in common: a sheet is opened, an answer becomes one signed number, and what was found goes to
+// numbers that are lent for it.
 #![tactic(auto)]
 
 ghost use Rattle.std.specs.Prelude.{◌≡◌, ◌<◌, ◌^◌, pos, neg_ℤ, Float, IfOk};
 ghost use Rattle.mathematics.specs.Calls.{Answered, none_lent};
-ghost use Rattle.answers.specs.Refusal.{refusal_number, answer_of};
+ghost use Rattle.answers.specs.Refusal.{refusal_number, answer_of, place_answer};
 ghost use Rattle.matrices.specs.declared.coupling.KSParams.{KSParams};
 ghost use Rattle.matrices.specs.Coupling.{coupling_call};
-ghost use Rattle.exports.specs.Exports.{signed, zero_of, value_or, stored, three_floats, Exported};
+ghost use Rattle.exports.specs.Exports.{signed, zero_of, value_or, none_of, found_or, stored, three_floats, Exported};
+ghost use Rattle.exports.specs.Findings.{law_numbers, finding_numbers, FindingStored};
 
+use answers::finding::{Finding, Unlawful, Unplaced};
 use answers::refusal::Refusal;
 use matrices::coupling::KSParams;
 
@@ -36,6 +39,79 @@ pub fn signed_refusal(refusal: Refusal) -> i64
     ensures { result ≡ neg_ℤ (pos (refusal_number refusal)) }
 {
     -i64::from(refusal.number())
+}
+
+// 1 where the law holds, 0 where a vertex breaks it.
+#[tactic(auto, unfolding(crate::specs::Exports::signed, crate::specs::Exports::none_of))]
+pub fn signed_unlawful(answer: Result<Option<Unlawful>, Refusal>) -> i64
+    ensures { result ≡ signed (none_of (answer_of answer)) }
+{
+    match answer {
+        Ok(None) => 1,
+        Ok(Some(_)) => 0,
+        Err(refusal) => signed_refusal(refusal),
+    }
+}
+
+// The same, and the vertex and its excess go to the numbers that are lent for them.
+#[tactic(auto, unfolding(crate::specs::Exports::found_or))]
+pub fn store_unlawful(
+    answer: Result<Option<Unlawful>, Refusal>,
+    vertex: &mut u64,
+    excess: &mut i64,
+) -> i64
+    ensures { (result ≡ signed (none_of (answer_of answer))) × ((vertex.new, excess.new) ≡ found_or law_numbers (answer_of answer) (vertex.old, excess.old)) }
+{
+    if let Ok(Some(unlawful)) = answer {
+        *vertex = unlawful.vertex as u64;
+        *excess = unlawful.excess;
+    }
+    signed_unlawful(answer)
+}
+
+// A finding goes to the three numbers that are lent for it.
+fn store_finding(finding: Finding, vertex: &mut u64, excess: &mut i64, edge: &mut u64)
+    ensures { (vertex.new, excess.new, edge.new) ≡ finding_numbers finding (vertex.old, excess.old, edge.old) }
+{
+    match finding {
+        Finding::BreaksLaw(unlawful) => {
+            *vertex = unlawful.vertex as u64;
+            *excess = unlawful.excess;
+        }
+        Finding::OutsideBand(outside) => {
+            *excess = 0;
+            *edge = outside as u64;
+        }
+    }
+}
+
+// One signed number for a place, or for the refusal of a call that looks for one.
+#[tactic(auto, unfolding(crate::specs::Exports::signed))]
+pub fn signed_place(answer: Result<usize, Unplaced>) -> i64
+    requires { IfOk answer (λ n. n < 2 ^ 31) }
+    ensures { result ≡ signed (place_answer answer) }
+{
+    match answer {
+        Ok(place) => value(place),
+        Err(unplaced) => -i64::from(unplaced.number()),
+    }
+}
+
+// The same, and the finding that a refusal carries goes to the numbers that are lent for it.
+pub fn store_place(
+    answer: Result<usize, Unplaced>,
+    vertex: &mut u64,
+    excess: &mut i64,
+    edge: &mut u64,
+) -> i64
+    requires { IfOk answer (λ n. n < 2 ^ 31) }
+    ensures number { result ≡ signed (place_answer answer) }
+    ensures stored { FindingStored answer (vertex.old, excess.old, edge.old) (vertex.new, excess.new, edge.new) }
+{
+    if let Err(Unplaced::NotInBasis(finding)) = answer {
+        store_finding(finding, vertex, excess, edge);
+    }
+    signed_place(answer)
 }
 
 // The expectation of an answer goes to the float that is lent for it: 0.

@@ -1,42 +1,45 @@
-// The place of a configuration in the basis.
+// The place of a configuration in the basis, or why it has none.
 ghost use Rattle.std.specs.Prelude.{◌≡◌, ℕ, ◌≤◌, length};
-ghost use Rattle.mathematics.specs.Tests.{every_entry};
 ghost use Rattle.complex.specs.Complex.{Complex, complex_of};
 ghost use Rattle.complex.specs.Judge.{refusal};
-ghost use Rattle.hilbert.specs.Basis.{in_basis};
-ghost use Rattle.gauss_law.specs.Gauss.{within};
+ghost use Rattle.hilbert.specs.Basis.{lowest_outside, why_unlisted, Unlisted};
 ghost use Rattle.hilbert.specs.Search.{Sought, FoundIn};
 ghost use Rattle.hilbert.specs.Index.{index_call};
 ghost use Rattle.enumeration.specs.Basis.{BasisOf};
 ghost use Rattle.mathematics.specs.Calls.{Answered};
-ghost use Rattle.answers.specs.Refusal.{answer_of};
+ghost use Rattle.answers.specs.Refusal.{place_answer, FindingTold};
 
 use crate::search::find_place;
+use answers::finding::{Finding, Unplaced};
 use answers::refusal::Refusal;
 use complex::SimplicialComplex;
 use enumeration::basis::Basis;
 use law_check::find_unlawful;
 use walker::blocks::within;
 
-// Whether every value is within -lambda to lambda. A loop: the chain with `all` was tried, and its proof did not close, since it tells of its
-// answer by cases over the values and not by an equation.
-fn in_band(configuration: &[i32], lambda: usize) -> bool
+// The lowest edge whose value is not within -lambda to lambda.
+fn find_outside(configuration: &[i32], lambda: usize) -> Option<usize>
     requires { lambda ≤ 1000 }
-    ensures { result ≡ every_entry (within lambda) configuration.now }
+    ensures { result ≡ lowest_outside lambda configuration.now }
 {
-    let mut so_far = true;
-    for value in configuration {
-        so_far &= within(*value, lambda);
+    for (edge, value) in configuration.iter().enumerate() {
+        if !within(*value, lambda) {
+            return Some(edge);
+        }
     }
-    so_far
+    None
 }
 
-// Whether a configuration of an accepted record is in its basis: by the lowest unlawful vertex, and by the band.
-pub fn in_basis(c: SimplicialComplex, lambda: usize, configuration: &[i32]) -> bool
+// Why a configuration of an accepted record is not in its basis, where it is not: the law is judged first, then the band.
+pub fn why_unlisted(c: SimplicialComplex, lambda: usize, configuration: &[i32]) -> Option<Finding>
     requires { (refusal (complex_of c) ≡ 0) × (lambda ≤ 1000) × (length configuration.now ≡ c.n_edges) }
-    ensures { result ≡ in_basis (complex_of c) lambda configuration.now }
+    ensures { result ≡ why_unlisted (complex_of c) lambda configuration.now }
 {
-    in_band(configuration, lambda) & find_unlawful(c, configuration).is_none()
+    if let Some(unlawful) = find_unlawful(c, configuration) {
+        return Some(Finding::BreaksLaw(unlawful));
+    }
+    let edge = find_outside(configuration, lambda)?;
+    Some(Finding::OutsideBand(edge))
 }
 
 // The basis goes to the beginning of a list, and a configuration that is in it is found there.
@@ -60,18 +63,19 @@ pub fn config_to_index(
     lambda: usize,
     configuration: &[i32],
     states: &mut [i32],
-) -> Result<usize, Refusal>
-    ensures { Answered (index_call (complex_of c) lambda configuration.now states.old) (answer_of result) states.new }
+) -> Result<usize, Unplaced>
+    ensures answered { Answered (index_call (complex_of c) lambda configuration.now states.old) (place_answer result) states.new }
+    ensures finding { FindingTold result (Unlisted (complex_of c) lambda configuration.now) }
 {
     let basis = Basis::prepare(c, lambda)?;
     if configuration.len() != c.n_edges {
-        return Err(Refusal::WrongListLength);
+        return Err(Unplaced::Refused(Refusal::WrongListLength));
     }
     if basis.is_too_short(states.len()) {
-        return Err(Refusal::NoRoom);
+        return Err(Unplaced::Refused(Refusal::NoRoom));
     }
-    if !in_basis(c, lambda, configuration) {
-        return Err(Refusal::NotInBasis);
+    if let Some(finding) = why_unlisted(c, lambda, configuration) {
+        return Err(Unplaced::NotInBasis(finding));
     }
     Ok(list_and_seek(&basis, configuration, states))
 }

@@ -1,42 +1,44 @@
 -- The check of Gauss's law: the lowest vertex that breaks it, the answer, and the steps of the code.
-use Prim.{Unit}
-use Rattle.std.specs.Prelude.{ℕ, ◌^◌, ◌<◌, ◌≤◌, List, [], ◌∷◌, ◌++◌, Bool, not, Option, Some, None, ◌≡◌, ◌≢◌, ℤ, pos, ◌+ℤ◌, ◌-ℤ◌, nat_abs, get_or, length, set}
+use Rattle.std.specs.Prelude.{ℕ, ◌^◌, ◌<◌, ◌≤◌, List, [], ◌∷◌, ◌++◌, Bool, Option, Some, ◌≡◌, ◌≢◌, ℤ, pos, ◌+ℤ◌, ◌-ℤ◌, nat_abs, get_or, length, set, is_none}
+use Rattle.std.specs.Option.{option_map}
 use Rattle.mathematics.specs.Integers.{equal}
-use Rattle.mathematics.specs.Counting.{below, keep}
+use Rattle.mathematics.specs.Tests.{lowest_failing}
 use Rattle.mathematics.specs.Calls.{Call, NoneLent, none_lent}
 use Rattle.complex.specs.Complex.{Simplex, Complex, start, end}
 use Rattle.complex.specs.Judge.{complex_tests, length_test}
-use Rattle.law_check.specs.declared.Finding.{Finding}
+use Rattle.answers.specs.declared.finding.Unlawful.{Unlawful}
 use Rattle.gauss_law.specs.Gauss.{gauss, lawful}
 
--- the first of some vertices, with its sum
-unfoldable pub first_found : (ℕ → ℤ) → List ℕ → Option Finding
-first_found sum [] = None
-first_found sum (v ∷ vs) = Some (record { vertex = v; sum = sum v })
-
--- the lowest vertex below n whose sum is not its charge
-unfoldable pub lowest_broken : (ℕ → ℤ) → (ℕ → ℤ) → ℕ → Option Finding
-lowest_broken sum q n = first_found sum (keep (λ v. not (equal (sum v) (q v))) (below n))
+-- the lowest vertex below n whose sum is not its charge, with the sum minus the charge
+unfoldable pub lowest_broken : (ℕ → ℤ) → (ℕ → ℤ) → ℕ → Option Unlawful
+lowest_broken sum q n =
+    option_map (λ v. record { vertex = v; excess = sum v -ℤ q v }) (lowest_failing (λ v. equal (sum v) (q v)) n)
 
 -- the lowest vertex at which the law does not hold
-unfoldable pub finding : Complex → (ℕ → ℤ) → List ℤ → Option Finding
-finding c q s = lowest_broken (gauss c.edges s) q c.vertices
+unfoldable pub unlawful : Complex → (ℕ → ℤ) → List ℤ → Option Unlawful
+unlawful c q s = lowest_broken (gauss c.edges s) q c.vertices
 
--- what a finding says: the law holds at all lower vertices
-pub record Found (sum q : ℕ → ℤ) (n : ℕ) (f : Finding) : Type 0 where
-  pub below : f.vertex < n
-  pub told : f.sum ≡ sum f.vertex
-  pub wrong : f.sum ≢ q f.vertex
-  pub lower : (v : ℕ) → v < f.vertex → sum v ≡ q v
+-- what is said of a vertex that breaks the law: what its sum has more than its charge, and that the law holds at all lower vertices
+pub record Breaks (c : Complex) (q : ℕ → ℤ) (s : List ℤ) (f : Unlawful) : Type 0 where
+  pub below : f.vertex < c.vertices
+  pub told : f.excess ≡ gauss c.edges s f.vertex -ℤ q f.vertex
+  pub wrong : f.excess ≢ pos 0
+  pub lower : (v : ℕ) → v < f.vertex → gauss c.edges s v ≡ q v
+
+-- what the check is worth: nothing is found exactly where the law holds, and what is found is the lowest
+pub record LawKnown (c : Complex) (q : ℕ → ℤ) (s : List ℤ) : Type 0 where
+  pub lawful : is_none (unlawful c q s) ≡ lawful c q s
+  pub lowest : (f : Unlawful) → unlawful c q s ≡ Some f → Breaks c q s f
 
 -- 4, 7 to 9, then 12 for a configuration of n values
 abbrev pub law_tests : Complex → ℕ → List (ℕ × Bool)
 law_tests c n =
     complex_tests c ++ (length_test c n ∷ [])
 
--- check_gauss_law: whether the law holds is told. It writes no list.
-unfoldable pub law_call : Complex → List ℤ → Call Bool NoneLent
-law_call c s = record { tests = law_tests c (length s); value = lawful c c.charges s; before = none_lent; after = none_lent; known = Unit {0} }
+-- check_gauss_law: the lowest vertex that breaks the law is told, or that there is none. It writes no list.
+unfoldable pub law_call : Complex → List ℤ → Call (Option Unlawful) NoneLent
+law_call c s =
+    record { tests = law_tests c (length s); value = unlawful c c.charges s; before = none_lent; after = none_lent; known = LawKnown c c.charges s }
 
 -- ---- the steps of the code
 -- the sums with one value more, on edge e, whose ends differ

@@ -7,9 +7,10 @@ ghost use Rattle.complex.specs.Search.{Ends};
 ghost use Rattle.complex.specs.Judge.{refusal};
 ghost use Rattle.mathematics.specs.Calls.{Answered, none_lent};
 ghost use Rattle.answers.specs.Refusal.{answer_of};
-ghost use Rattle.law_check.specs.Law.{sums_with, EdgeAddable, Summed, lowest_broken, finding, law_call};
+ghost use Rattle.law_check.specs.Law.{sums_with, EdgeAddable, Summed, lowest_broken, unlawful, law_call};
 
 use acceptance::accept;
+use answers::finding::Unlawful;
 use answers::refusal::Refusal;
 use complex::SimplicialComplex;
 use numbers::sizes::MOST_VERTICES;
@@ -36,41 +37,40 @@ fn gauss_sums(c: &SimplicialComplex, configuration: &[i32]) -> [i64; MOST_VERTIC
     sums
 }
 
-// A vertex whose Gauss sum is not its charge, and that sum.
-#[derive(Clone, Copy)]
-pub struct Finding {
-    pub vertex: usize,
-    pub sum: i64,
-}
-
 // The first sum that is not zero.
-fn first_unlawful(sums: &[i64]) -> Option<Finding>
+fn first_unlawful(sums: &[i64]) -> Option<Unlawful>
     ensures { result ≡ lowest_broken (λ v. get_or sums.now v (pos 0)) uncharged (length sums.now) }
 {
     for (vertex, sum) in sums.iter().enumerate() {
         if *sum != 0 {
-            return Some(Finding { vertex, sum: *sum });
+            return Some(Unlawful {
+                vertex,
+                excess: *sum,
+            });
         }
     }
     None
 }
 
 // The lowest vertex of an accepted record at which a configuration breaks the law.
-pub fn find_unlawful(c: SimplicialComplex, configuration: &[i32]) -> Option<Finding>
+pub fn find_unlawful(c: SimplicialComplex, configuration: &[i32]) -> Option<Unlawful>
     requires { (refusal (complex_of c) ≡ 0) × (length configuration.now ≡ c.n_edges) }
-    ensures { result ≡ finding (complex_of c) (complex_of c).charges configuration.now }
+    ensures { result ≡ unlawful (complex_of c) (complex_of c).charges configuration.now }
 {
     let sums = gauss_sums(&c, configuration);
     first_unlawful(&sums[..c.n_vertices])
 }
 
-// Whether a configuration obeys Gauss's law on a record, which is judged first.
-pub fn check_gauss_law(c: SimplicialComplex, configuration: &[i32]) -> Result<bool, Refusal>
+// The lowest vertex of a record at which a configuration breaks Gauss's law, or none. The record is judged first.
+pub fn check_gauss_law(
+    c: SimplicialComplex,
+    configuration: &[i32],
+) -> Result<Option<Unlawful>, Refusal>
     ensures { Answered (law_call (complex_of c) configuration.now) (answer_of result) none_lent }
 {
     accept(c)?;
     if configuration.len() != c.n_edges {
         return Err(Refusal::WrongListLength);
     }
-    Ok(find_unlawful(c, configuration).is_none())
+    Ok(find_unlawful(c, configuration))
 }

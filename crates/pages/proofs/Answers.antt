@@ -2,26 +2,23 @@
 use Prim.Native.Nat.{ℕ, ◌+◌, ◌-◌, ◌*◌, ◌^◌, ◌≤◌, ◌<◌}
 use mathlib.Core.List.{List, [], ◌∷◌, ◌++◌}
 use mathlib.Core.Bool.{true, false}
-use mathlib.Core.Path.{◌≡◌, refl, sym, ◌∙◌}
+use mathlib.Core.Path.{◌≡◌, sym, ◌∙◌}
 use native.Mathlib.Omega.{arith}
 use lib.Dec.{ltb}
 use lib.ListN.{length}
 use borrow.Author.Tests.{ltb-false}
-use Rattle.mathematics.specs.Tests.{every_entry}
 use Rattle.mathematics.specs.Refusals.{first, written, value, refused}
 use Rattle.mathematics.specs.Calls.{Answered, none_lent}
-use Rattle.answers.proofs.Outcomes.{refused_number, refused_some, value_none}
-use Rattle.mathematics.proofs.Refusals.{numbered, first_stops, first_goes_on, refused_kept}
+use Rattle.mathematics.proofs.Refusals.{refused_kept}
 use Rattle.complex.specs.declared.SimplicialComplex.{SimplicialComplex}
 use Rattle.complex.specs.Complex.{Complex, complex_of}
-use Rattle.complex.specs.Judge.{shape_tests, refusal}
+use Rattle.complex.specs.Judge.{refusal}
 use Rattle.complex.proofs.Simplices.{simplices_length}
 use Rattle.complex.proofs.Accepting.{accepted}
 use Rattle.gauss_law.proofs.Spanned.{edges_long}
 use Rattle.sheet.specs.declared.Sheet.{Sheet}
-use Rattle.sheet.specs.Sheet.{sheet_in, header_tests, reading_refusal, reading_call}
-use Rattle.sheet.proofs.Sheets.{header_of, shape_decides}
-use Rattle.sheet.proofs.RoundTrips.{header_none}
+use Rattle.sheet.specs.Sheet.{sheet_in, reading_refusal, reading_call}
+use Rattle.sheet.proofs.Reading.{stops, read_is, read_goes_on, refused_none, refused_stops}
 use Rattle.walker.specs.declared.tables.Walker.{Walker}
 use Rattle.walker.specs.Tables.{Walks, states_of, Fit}
 use Rattle.enumeration.proofs.Limits.{power_less}
@@ -73,16 +70,6 @@ module _ (c : SimplicialComplex) (L : ℕ) (w : Walker) (walks : Walks (complex_
 
 -- ---- the sheet
 module _ (b : List ℕ) where
-  in_range : reading_refusal b ≡ 0 → (refusal (complex_of (sheet_in b).complex) ≡ 0) × ((sheet_in b).lambda ≤ 1000)
-  unfolding sheet_in
-  in_range h = let header = header_none b h in (sym (shape_decides b header) ∙ h, (header_of b header).truncation)
-
-  read_number : reading_refusal b ≡ 0 → first (limit_test (complex_of (sheet_in b).complex) (sheet_in b).lambda ∷ []) ≡ basis_refusal b
-  unfolding basis_refusal reading_refusal header_tests numbered every_entry
-  read_number h =
-      let c = complex_of (sheet_in b).complex in
-      sym (first_goes_on (header_tests b ++ shape_tests c) (limit_test c (sheet_in b).lambda ∷ []) refl h)
-
   -- the text is that of its refusal
   read_told : (n : ℕ) → n ≡ basis_refusal b → told n (complex_of (sheet_in b).complex) (sheet_in b).lambda ≡ basis_text b
   unfolding basis_text
@@ -92,39 +79,27 @@ module _ (b : List ℕ) where
   unfolding told
   told_refused n some c L = refused_kept n (printed c L) (refused_line n) some
 
-  refusal_number : (n : ℕ) → reading_refusal b ≡ n → (n ≡ 0 → ⊥) → n ≡ basis_refusal b
-  unfolding basis_refusal reading_refusal
-  refusal_number n e some =
-      let c = complex_of (sheet_in b).complex in
-      sym (first_stops (header_tests b ++ shape_tests c) (limit_test c (sheet_in b).lambda ∷ []) (λ z. some (sym e ∙ z)) ∙ e)
+  stopped_told : (n : ℕ) → (n ≡ 0 → ⊥) → n ≡ basis_refusal b → refused_line n ≡ basis_text b
+  stopped_told n some e = told_refused n some (complex_of (sheet_in b).complex) (sheet_in b).lambda ∙ read_told n e
 
   pub refusal_told : (n : ℕ) → reading_refusal b ≡ n → (n ≡ 0 → ⊥) → refused_line n ≡ basis_text b
-  refusal_told n e some =
-      told_refused n some (complex_of (sheet_in b).complex) (sheet_in b).lambda ∙ read_told n (refusal_number n e some)
+  unfolding basis_refusal
+  refusal_told n e some = stopped_told n some (sym (stops b n e some _))
 
   -- it was read
   module _ (s : Sheet) (h : Answered (reading_call b) (value s) none_lent) where
-    read_is : (reading_refusal b ≡ 0) × (s ≡ sheet_in b)
-    unfolding reading_call reading_refusal
-    read_is = value_none s _ _ h.answer
-
-    pub accepted_ready : (refusal (complex_of s.complex) ≡ 0) × (s.lambda ≤ 1000)
-    accepted_ready = rw (read_is.1) (in_range read_is.0)
-
     pub accepted_number : first (limit_test (complex_of s.complex) s.lambda ∷ []) ≡ basis_refusal b
-    accepted_number = rw (read_is.1) (read_number read_is.0)
+    unfolding basis_refusal
+    accepted_number = rw (read_is b s h) (sym (read_goes_on b s h _))
 
     pub accepted_told : told (first (limit_test (complex_of s.complex) s.lambda ∷ [])) (complex_of s.complex) s.lambda ≡ basis_text b
-    accepted_told = rw (read_is.1) (read_told _ (read_number read_is.0))
+    accepted_told = let number = accepted_number in rw (read_is b s h) (read_told _ (rw (read_is b s h) at number))
 
   -- or refused
   module _ (k : ℕ) (h : Answered (reading_call b) (refused k) none_lent) where
-    refusal_is : (reading_refusal b ≡ k) × (k ≡ 0 → ⊥)
-    unfolding reading_call reading_refusal
-    refusal_is = (sym (refused_number k _ _ h.answer), refused_some k _ _ h.answer)
-
     pub refused_kind : k ≡ basis_refusal b
-    refused_kind = refusal_number k refusal_is.0 refusal_is.1
+    unfolding basis_refusal
+    refused_kind = sym (refused_stops b k h _)
 
     pub refused_told : refused_line k ≡ basis_text b
-    refused_told = refusal_told k refusal_is.0 refusal_is.1
+    refused_told = stopped_told k (refused_none b k h) refused_kind

@@ -5,26 +5,16 @@ use mathlib.Core.Path.{◌≡◌, refl, sym, ap, ◌∙◌}
 use native.Mathlib.Omega.{arith}
 use native.Mathlib.Numerals.{add-one}
 use lib.IntN.{ℤ, pos}
-use lib.ListN.{length, take, drop, length-append}
-use lib.Seq.{length-take-le, take_at}
-use Rattle.mathematics.specs.Writing.{put}
+use lib.ListN.{length, take, length-append}
 use Rattle.lines.specs.Put.{Put}
 use Rattle.lines.specs.Lines.{ascii, decimal, values_text, state_line, state_lines}
-use Rattle.lines.proofs.Puts.{ends_inside}
+use Rattle.lines.proofs.Puts.{ends_inside, put_take}
 use Rattle.lines.proofs.Lengths.{state_line_long}
 use Rattle.cycles.specs.Cycles.{row}
 use Rattle.cycles.proofs.Adding.{added_length}
 use Rattle.cursor.specs.declared.Cursor.{Cursor}
 use Rattle.cursor.specs.Cursor.{state_here, Standing}
 use Rattle.pages.specs.Pages.{Part}
-
--- what stands before the place behind a text that was written
-pub put_take : (text before after : List ℕ) (at next : ℕ) → at + length text ≤ length before → Put text before at after next → take next after ≡ take at before ++ text
-unfolding put
-put_take text before after at next room written =
-    let head = take at before ++ text in
-    let long : length head ≡ at + length text = omega (arith, length-append (take at before) text, length-take-le at before (omega arith)) in
-    rw (written.list, written.place) (take_at head (drop (at + length text) before) (at + length text) long)
 
 -- a text at the front of a list
 pub put_part : (text after_text before after : List ℕ) (next : ℕ) → 0 + length text ≤ length before → 0 < length text → Put text before 0 after next → Part (text ++ after_text) after next after_text

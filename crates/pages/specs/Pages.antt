@@ -2,8 +2,7 @@
 use Rattle.std.specs.Prelude.{ℕ, ◌+◌, ◌<◌, ◌≤◌, List, [], ◌++◌, Bool, true, false, Option, Some, None, IfSome, ◌≡◌, ℤ, ltb, length, take, drop}
 use Rattle.cursor.specs.declared.Cursor.{Cursor}
 use Rattle.cursor.specs.Cursor.{states_from, Standing}
-use Rattle.answers.specs.Refusal.{refusal_number}
-use Rattle.answers.specs.declared.refusal.Refusal.{Refusal}
+use Rattle.answers.specs.Refusal.{number_of}
 use Rattle.lines.specs.Lines.{state_lines}
 use Rattle.pages.specs.declared.states.Lines.{Lines}
 use Rattle.pages.specs.declared.Page.{Page}
@@ -30,11 +29,6 @@ rest_of (Some p) = to_come p
 abbrev pub follows : Option Page → Bool
 follows None = false
 follows (Some p) = true
-
--- the number of a refusal, 0 for none
-abbrev pub number_of : Option Refusal → ℕ
-number_of None = 0
-number_of (Some r) = refusal_number r
 
 -- a page after which another comes
 pub record PageReady (p : Page) : Type 0 where

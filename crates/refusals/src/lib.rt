@@ -5,13 +5,16 @@ ghost use Rattle.mathematics.specs.Calls.{Answered};
 ghost use Rattle.answers.specs.Refusal.{answer_of};
 ghost use Rattle.refusals.specs.Sentences.{text_call};
 
-use answers::refusal::Refusal;
+use answers::refusal::{Refusal, sentence};
 
 // The sentence with a number goes to the front of a list.
 pub fn refusal_text(number: usize, text: &mut [u8]) -> Result<usize, Refusal>
     ensures { Answered (text_call number text.old) (answer_of result) text.new }
 {
-    let sentence = Refusal::try_from(number)?.sentence().as_bytes();
+    let sentence = sentence(number).as_bytes();
+    if sentence.is_empty() {
+        return Err(Refusal::OutOfRange);
+    }
     let room = text.len();
     if room < sentence.len() {
         return Err(Refusal::NoRoom);

@@ -1,14 +1,15 @@
 -- The value and the rows of a shift, and what is judged of it.
-use Rattle.std.proofs.Common.{◌≡◌, ℕ, ◌<◌, ◌≤◌, List, ◌++◌, ℤ, ◌+ℤ◌, pos, false, sym, ap, ◌∙◌, arith, length, take, drop, set, get_or, leb, ltb, Bool, true, not, ◌||◌, ◌*◌, w32, to_z, of_z, FitsSigned}
+use Rattle.std.proofs.Common.{◌≡◌, refl, Some, ℕ, ◌<◌, ◌≤◌, List, ◌++◌, ℤ, ◌+ℤ◌, pos, false, sym, ap, ◌∙◌, arith, length, take, drop, set, get_or, leb, ltb, Bool, true, not, ◌||◌, ◌*◌, w32, to_z, of_z, FitsSigned}
 use native.Mathlib.Decide.{dec_lt}
 use lib.IntN.{nat_abs}
 use lib.ListN.{length-set}
 use lib.Seq.{take_at}
-use borrow.Author.Tests.{lt-leb}
+use borrow.Author.Tests.{lt-leb, leb-true}
 use Rattle.mathematics.specs.Writing.{front}
 use Rattle.mathematics.proofs.Signed.{back32, size_fits}
 use Rattle.complex.specs.declared.SimplicialComplex.{SimplicialComplex}
-use Rattle.complex.specs.Complex.{complex_of}
+use Rattle.complex.specs.Complex.{Complex, complex_of}
+use Rattle.complex.specs.Judge.{Accepted}
 use Rattle.walker.specs.Tables.{states_of}
 use Rattle.enumeration.specs.declared.basis.Basis.{Basis}
 use Rattle.enumeration.specs.Basis.{BasisOf}
@@ -17,6 +18,12 @@ use Rattle.hilbert.proofs.Prepared.{short_by}
 use Rattle.gauss_law.proofs.Spanned.{edges_long}
 use Rattle.gauss_law.specs.Gauss.{within}
 use Rattle.gauss_law.specs.Shifts.{raised, shifted}
+use Rattle.gauss_law.proofs.Shifts.{shifted_length, shifted_at}
+use Rattle.answers.specs.declared.finding.Finding.{Finding}
+use Rattle.answers.specs.declared.finding.Finding.TheVariants.{BreaksLaw, OutsideBand}
+use Rattle.hilbert.specs.Basis.{why_unlisted, Says, Unlisted}
+use Rattle.hilbert.proofs.Unlisted.{unlisted_known}
+use Rattle.shifts.specs.Shift.{ShiftUnlisted}
 
 -- a sum that no value of the machine holds is not in the band
 pub far_from_band : (L : ℕ) (z : ℤ) → L ≤ 1000 → (FitsSigned w32 z → ⊥) → within L z ≡ false
@@ -67,3 +74,26 @@ module _ (L : ℕ) (s : List ℤ) (e : ℕ) (d : ℤ) (x : FitsSigned w32 (get_o
 
   pub shift_row : (m : ℕ) (rest row : List ℤ) → length s ≡ m → row ≡ set s e (to_z w32 (of_z w32 v)) ++ rest → take m row ≡ shifted s e d
   shift_row m rest row sized written = row_is s e d m _ rest row sized shift_value written
+
+-- ---- a shift whose value stays within the band, and that is not listed
+pub shift_unlisted : (c : Complex) → Accepted c → (L : ℕ) (s : List ℤ) (e : ℕ) (d : ℤ) → length s ≡ length c.edges → e < length s → not (within L (raised s e d)) ≡ false
+    → (f : Finding) → why_unlisted c L (shifted s e d) ≡ Some f → ShiftUnlisted c L s e d f
+unfolding within
+shift_unlisted c accepted L s e d long inside band f why = record { shifted = known; other = other f known.says }
+  where
+    known : Unlisted c L (shifted s e d) f
+    known = unlisted_known c accepted L (shifted s e d) (shifted_length s e d ∙ long) f why
+
+    small : leb (nat_abs (raised s e d)) L ≡ true
+    small = go (leb (nat_abs (raised s e d)) L) band
+      where
+        go : (b : Bool) → not b ≡ false → b ≡ true
+        go true h = refl
+        go false h = absurd (cc)
+
+    other : (f : Finding) → Says c L (shifted s e d) f → (k : ℕ) → f ≡ OutsideBand k → k ≡ e → ⊥
+    other (BreaksLaw u) says k is same = absurd (cc)
+    other (OutsideBand j) says k is same =
+        let at : j ≡ e = cc in
+        let out : L < nat_abs (raised s e d) = rw (at, shifted_at s e d inside) at says.outside in
+        omega (arith, leb-true (nat_abs (raised s e d)) L small)

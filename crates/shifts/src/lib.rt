@@ -5,13 +5,14 @@ ghost use Rattle.std.specs.Prelude.{◌≡◌, ◌++◌, ◌<◌, ◌≤◌, tru
 ghost use Rattle.mathematics.specs.Calls.{Answered};
 ghost use Rattle.complex.specs.Complex.{complex_of};
 ghost use Rattle.gauss_law.specs.Gauss.{within};
-ghost use Rattle.answers.specs.Refusal.{answer_of};
-ghost use Rattle.shifts.specs.Shift.{shift_call};
+ghost use Rattle.answers.specs.Refusal.{place_answer, FindingTold};
+ghost use Rattle.shifts.specs.Shift.{shift_call, ShiftUnlisted};
 
+use answers::finding::Unplaced;
 use answers::refusal::Refusal;
 use complex::SimplicialComplex;
 use enumeration::basis::Basis;
-use hilbert::index::{in_basis, list_and_seek};
+use hilbert::index::{list_and_seek, why_unlisted};
 use numbers::sizes::MOST_EDGES;
 use walker::blocks::within;
 
@@ -55,26 +56,27 @@ pub fn apply_shift(
     delta: i32,
     states: &mut [i32],
     res: &mut [i32],
-) -> Result<usize, Refusal>
-    ensures { Answered (shift_call (complex_of c) lambda configuration.now edge delta states.old res.old) (answer_of result) (states.new, res.new) }
+) -> Result<usize, Unplaced>
+    ensures answered { Answered (shift_call (complex_of c) lambda configuration.now edge delta states.old res.old) (place_answer result) (states.new, res.new) }
+    ensures finding { FindingTold result (ShiftUnlisted (complex_of c) lambda configuration.now edge delta) }
 {
     let basis = Basis::prepare(c, lambda)?;
     let m = c.n_edges;
     if configuration.len() != m {
-        return Err(Refusal::WrongListLength);
+        return Err(Unplaced::Refused(Refusal::WrongListLength));
     }
     if m <= edge {
-        return Err(Refusal::OutOfRange);
+        return Err(Unplaced::Refused(Refusal::OutOfRange));
     }
     if basis.is_too_short(states.len()) | (res.len() < m) {
-        return Err(Refusal::NoRoom);
+        return Err(Unplaced::Refused(Refusal::NoRoom));
     }
     let Some(value) = sum_within(configuration[edge], delta, lambda) else {
-        return Err(Refusal::OutOfBand);
+        return Err(Unplaced::Refused(Refusal::OutOfBand));
     };
     let shifted = shifted_row(configuration, edge, value);
-    if !in_basis(c, lambda, &shifted[..m]) {
-        return Err(Refusal::NotInBasis);
+    if let Some(finding) = why_unlisted(c, lambda, &shifted[..m]) {
+        return Err(Unplaced::NotInBasis(finding));
     }
     write_shifted(configuration, edge, value, res);
     Ok(list_and_seek(&basis, &shifted[..m], states))

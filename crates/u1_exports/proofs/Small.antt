@@ -12,23 +12,24 @@ use Rattle.entries.specs.Entries.{entries_call}
 use Rattle.hamiltonian.specs.Dense.{u1_dense_call}
 use Rattle.lanczos.specs.Matvec.{u1_product_call}
 use Rattle.csr.specs.Csr.{csr_call}
-use Rattle.answers.specs.Refusal.{answer_of}
+use Rattle.answers.specs.Refusal.{answer_of, place_answer}
+use Rattle.answers.specs.declared.finding.Unplaced.{Unplaced}
 use Rattle.answers.specs.declared.refusal.Refusal.{Refusal}
 use Rattle.hilbert.specs.Index.{index_call}
 use Rattle.enumeration.specs.Enumeration.{enumerated_call, counted_call}
 use Rattle.shifts.specs.Shift.{shift_call}
 use Rattle.electric.specs.Electric.{electric_call}
-use Rattle.exports.proofs.OnSheets.{small_result, few_small, complex_accepted}
+use Rattle.exports.proofs.OnSheets.{small_result, small_place, few_small, complex_accepted}
 use Rattle.u1_exports.proofs.Places.{place_small}
 use Rattle.u1_exports.proofs.Entries.{entries_small, rows_small}
 
-pub index_small : (c : Complex) (L : ℕ) (s old : List ℤ) (l : List ℤ) (r : Result ℕ Refusal) → Answered (index_call c L s old) (answer_of r) l → IfOk r (λ n. n < 2 ^ 31)
+pub index_small : (c : Complex) (L : ℕ) (s old : List ℤ) (l : List ℤ) (r : Result ℕ Unplaced) → Answered (index_call c L s old) (place_answer r) l → IfOk r (λ n. n < 2 ^ 31)
 unfolding index_call
-index_small c L s old l r h = small_result r h place_small
+index_small c L s old l r h = small_place r h place_small
 
-pub shift_small : (c : Complex) (L : ℕ) (s : List ℤ) (e : ℕ) (d : ℤ) (old old' : List ℤ) (l : List ℤ × List ℤ) (r : Result ℕ Refusal) → Answered (shift_call c L s e d old old') (answer_of r) l → IfOk r (λ n. n < 2 ^ 31)
+pub shift_small : (c : Complex) (L : ℕ) (s : List ℤ) (e : ℕ) (d : ℤ) (old old' : List ℤ) (l : List ℤ × List ℤ) (r : Result ℕ Unplaced) → Answered (shift_call c L s e d old old') (place_answer r) l → IfOk r (λ n. n < 2 ^ 31)
 unfolding shift_call
-shift_small c L s e d old old' l r h = small_result r h place_small
+shift_small c L s e d old old' l r h = small_place r h place_small
 
 pub electric_small : (c : Complex) (L : ℕ) (a : List Float) (old : List ℤ) (old' : List Float) (l : List ℤ × List Float) (r : Result ℕ Refusal) → Answered (electric_call c L a old old') (answer_of r) l → IfOk r (λ n. n < 2 ^ 31)
 unfolding electric_call

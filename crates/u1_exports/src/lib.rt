@@ -5,11 +5,11 @@
 
 ghost use Rattle.std.specs.Prelude.{◌≡◌};
 ghost use Rattle.mathematics.specs.Calls.{none_lent};
-ghost use Rattle.answers.specs.Refusal.{answer_of};
 ghost use Rattle.law_check.specs.Law.{law_call};
 ghost use Rattle.enumeration.specs.Enumeration.{enumerated_call, counted_call};
+ghost use Rattle.hilbert.specs.Basis.{Unlisted};
 ghost use Rattle.hilbert.specs.Index.{index_call};
-ghost use Rattle.shifts.specs.Shift.{shift_call};
+ghost use Rattle.shifts.specs.Shift.{shift_call, ShiftUnlisted};
 ghost use Rattle.matrices.specs.Coupling.{coupling_call, u1_params};
 ghost use Rattle.plaquettes.specs.Triangle.{triangle_call};
 ghost use Rattle.hamiltonian.specs.Dense.{u1_dense_call};
@@ -18,15 +18,18 @@ ghost use Rattle.entries.specs.Entries.{entries_call};
 ghost use Rattle.lanczos.specs.Matvec.{u1_product_call};
 ghost use Rattle.electric.specs.Electric.{electric_call};
 ghost use Rattle.wilson.specs.Wilson.{wilson_call};
-ghost use Rattle.exports.specs.Exports.{yes_of, on_sheet, as_number, stored, value_lent, three_floats, Exported};
+ghost use Rattle.exports.specs.Exports.{complex_in, lambda_in, on_sheet, none_found, found_lent, stored, value_lent, three_floats, Exported};
+ghost use Rattle.exports.specs.Findings.{law_numbers, FindingExported};
 
-use answers::refusal::Refusal;
 use csr::build::build_csr;
 use electric::electric_field_sq;
 use entries::count_entries;
 use enumeration::count::count_states;
 use enumeration::enumerate_gauge_invariant;
-use exports::{coupling, signed_refusal, signed_result, store_expectation, store_params};
+use exports::{
+    coupling, signed_place, signed_refusal, signed_result, signed_unlawful, store_expectation,
+    store_params, store_place, store_unlawful,
+};
 use hamiltonian::dense::build_hamiltonian;
 use hilbert::index::config_to_index;
 use lanczos::matvec::hamiltonian_matvec;
@@ -37,20 +40,27 @@ use sheet::read_sheet;
 use shifts::apply_shift;
 use wilson::{Path, wilson_loop};
 
-// Yes is 1, no is 0.
-#[tactic(auto, using(exports::proofs::Signs::yes_number), unfolding(exports::specs::Exports::yes_of))]
-fn as_number(answer: Result<bool, Refusal>) -> Result<usize, Refusal>
-    ensures { answer_of result ≡ yes_of (answer_of answer) }
-{
-    answer.map(usize::from)
-}
-
 // Whether a configuration obeys Gauss's law on a sheet's complex: 1 or 0.
 pub fn export_check_gauss_law(sheet: &[u8], configuration: &[i32]) -> i64
-    ensures { Exported (on_sheet sheet.now (λ c L. as_number (law_call c configuration.now))) result none_lent }
+    ensures { Exported (on_sheet sheet.now (λ c L. none_found (law_call c configuration.now))) result none_lent }
 {
     match read_sheet(sheet) {
-        Ok(s) => signed_result(as_number(check_gauss_law(s.complex, configuration))),
+        Ok(s) => signed_unlawful(check_gauss_law(s.complex, configuration)),
+        Err(refusal) => signed_refusal(refusal),
+    }
+}
+
+// The same, and the lowest vertex that breaks the law, with its excess.
+pub fn export_check_gauss_law_finding(
+    sheet: &[u8],
+    configuration: &[i32],
+    vertex: &mut u64,
+    excess: &mut i64,
+) -> i64
+    ensures { Exported (on_sheet sheet.now (λ c L. found_lent (law_call c configuration.now) law_numbers (vertex.old, excess.old))) result (vertex.new, excess.new) }
+{
+    match read_sheet(sheet) {
+        Ok(s) => store_unlawful(check_gauss_law(s.complex, configuration), vertex, excess),
         Err(refusal) => signed_refusal(refusal),
     }
 }
@@ -70,7 +80,27 @@ pub fn export_config_to_index(sheet: &[u8], configuration: &[i32], states: &mut 
     ensures { Exported (on_sheet sheet.now (λ c L. index_call c L configuration.now states.old)) result states.new }
 {
     match read_sheet(sheet) {
-        Ok(s) => signed_result(config_to_index(s.complex, s.lambda, configuration, states)),
+        Ok(s) => signed_place(config_to_index(s.complex, s.lambda, configuration, states)),
+        Err(refusal) => signed_refusal(refusal),
+    }
+}
+
+// The same, and why the configuration is not in the basis, where it is not.
+pub fn export_config_to_index_finding(
+    sheet: &[u8],
+    configuration: &[i32],
+    states: &mut [i32],
+    vertex: &mut u64,
+    excess: &mut i64,
+    edge: &mut u64,
+) -> i64
+    ensures { FindingExported (on_sheet sheet.now (λ c L. index_call c L configuration.now states.old)) (Unlisted (complex_in sheet.now) (lambda_in sheet.now) configuration.now) (vertex.old, excess.old, edge.old) result states.new (vertex.new, excess.new, edge.new) }
+{
+    match read_sheet(sheet) {
+        Ok(s) => {
+            let answer = config_to_index(s.complex, s.lambda, configuration, states);
+            store_place(answer, vertex, excess, edge)
+        }
         Err(refusal) => signed_refusal(refusal),
     }
 }
@@ -88,7 +118,7 @@ pub fn export_apply_shift(
     ensures { Exported (on_sheet sheet.now (λ c L. shift_call c L configuration.now edge delta states.old res.old)) result (states.new, res.new) }
 {
     match read_sheet(sheet) {
-        Ok(s) => signed_result(apply_shift(
+        Ok(s) => signed_place(apply_shift(
             s.complex,
             s.lambda,
             configuration,
@@ -97,6 +127,38 @@ pub fn export_apply_shift(
             states,
             res,
         )),
+        Err(refusal) => signed_refusal(refusal),
+    }
+}
+
+// The same, and why the shifted configuration is not in the basis, where it is not: `shifted` is the edge that is shifted, `edge` one that is found.
+#[tactic(auto, using(crate::proofs::Small::shift_small))]
+pub fn export_apply_shift_finding(
+    sheet: &[u8],
+    configuration: &[i32],
+    shifted: u64,
+    delta: i32,
+    states: &mut [i32],
+    res: &mut [i32],
+    vertex: &mut u64,
+    excess: &mut i64,
+    edge: &mut u64,
+) -> i64
+    ensures { FindingExported (on_sheet sheet.now (λ c L. shift_call c L configuration.now shifted delta states.old res.old)) (ShiftUnlisted (complex_in sheet.now) (lambda_in sheet.now) configuration.now shifted delta) (vertex.old, excess.old, edge.old) result (states.new, res.new) (vertex.new, excess.new, edge.new) }
+{
+    match read_sheet(sheet) {
+        Ok(s) => {
+            let answer = apply_shift(
+                s.complex,
+                s.lambda,
+                configuration,
+                shifted as usize,
+                delta,
+                states,
+                res,
+            );
+            store_place(answer, vertex, excess, edge)
+        }
         Err(refusal) => signed_refusal(refusal),
     }
 }

@@ -1,6 +1,6 @@
 -- The law and the states of a sheet, held against what was recorded.
 use Rattle.std.specs.Prelude.{ℕ, List, Bool, ℤ}
-use Rattle.exports.specs.Exports.{on_sheet, as_number}
+use Rattle.exports.specs.Exports.{on_sheet, none_found}
 use Rattle.law_check.specs.Law.{law_call}
 use Rattle.enumeration.specs.Enumeration.{enumerated_call, counted_call}
 use Rattle.recorded.specs.Bytes.{holds_i32s}
@@ -9,7 +9,7 @@ use Rattle.u1_recorded.specs.Room.{states_room}
 
 -- check_gauss_law
 unfoldable pub law_agrees : List ℕ → List ℤ → ℤ → Bool
-law_agrees sheet s told = tells (on_sheet sheet (λ c L. as_number (law_call c s))) told
+law_agrees sheet s told = tells (on_sheet sheet (λ c L. none_found (law_call c s))) told
 
 -- enumerate_gauge_invariant
 unfoldable pub enumerated_agrees : List ℕ → ℤ → List ℕ → Bool

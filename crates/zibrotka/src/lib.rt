@@ -13,8 +13,9 @@ ghost use Rattle.loops.specs.Loops.{loops_call, su2_loops_call};
 ghost use Rattle.law_check.specs.Law.{law_call};
 ghost use Rattle.refusals.specs.Sentences.{text_call};
 ghost use Rattle.enumeration.specs.Enumeration.{enumerated_call, counted_call};
+ghost use Rattle.hilbert.specs.Basis.{Unlisted};
 ghost use Rattle.hilbert.specs.Index.{index_call};
-ghost use Rattle.shifts.specs.Shift.{shift_call};
+ghost use Rattle.shifts.specs.Shift.{shift_call, ShiftUnlisted};
 ghost use Rattle.matrices.specs.Coupling.{coupling_call, u1_params, su2_params};
 ghost use Rattle.plaquettes.specs.Triangle.{triangle_call};
 ghost use Rattle.hamiltonian.specs.Dense.{u1_dense_call};
@@ -30,7 +31,8 @@ ghost use Rattle.entries.specs.Entries.{entries_call};
 ghost use Rattle.lanczos.specs.Matvec.{u1_product_call};
 ghost use Rattle.electric.specs.Electric.{electric_call};
 ghost use Rattle.wilson.specs.Wilson.{wilson_call};
-ghost use Rattle.exports.specs.Exports.{on_sheet, as_number, stored, zero_told, value_lent, second_lent, in_place, three_floats, Exported};
+ghost use Rattle.exports.specs.Exports.{complex_in, lambda_in, on_sheet, none_found, found_lent, stored, zero_told, value_lent, second_lent, in_place, three_floats, Exported};
+ghost use Rattle.exports.specs.Findings.{law_numbers, FindingExported};
 ghost use Rattle.complex_exports.specs.Parts.{sheet_parts};
 
 use complex_exports::{
@@ -45,10 +47,11 @@ use su2_exports::{
     export_su2_wilson_loop, export_su2_wilson_passes,
 };
 use u1_exports::{
-    export_apply_shift, export_apply_triangle_shift, export_build_csr, export_build_hamiltonian,
-    export_check_gauss_law, export_config_to_index, export_count_entries, export_count_states,
-    export_electric_field_sq, export_enumerate_gauge_invariant, export_hamiltonian_matvec,
-    export_u1_params, export_wilson_loop,
+    export_apply_shift, export_apply_shift_finding, export_apply_triangle_shift, export_build_csr,
+    export_build_hamiltonian, export_check_gauss_law, export_check_gauss_law_finding,
+    export_config_to_index, export_config_to_index_finding, export_count_entries,
+    export_count_states, export_electric_field_sq, export_enumerate_gauge_invariant,
+    export_hamiltonian_matvec, export_u1_params, export_wilson_loop,
 };
 
 // The sheet of flat pairs and triples: the number of its bytes.
@@ -151,9 +154,22 @@ pub extern "C" fn zibrotka_su2_fundamental_loops(
 // Whether a configuration obeys Gauss's law on a sheet's complex: 1 or 0.
 #[unsafe(no_mangle)]
 pub extern "C" fn zibrotka_check_gauss_law(sheet: &[u8], configuration: &[i32]) -> i64
-    ensures { Exported (on_sheet sheet.now (λ c L. as_number (law_call c configuration.now))) result none_lent }
+    ensures { Exported (on_sheet sheet.now (λ c L. none_found (law_call c configuration.now))) result none_lent }
 {
     export_check_gauss_law(sheet, configuration)
+}
+
+// The same, and the lowest vertex that breaks the law, with its excess.
+#[unsafe(no_mangle)]
+pub extern "C" fn zibrotka_check_gauss_law_finding(
+    sheet: &[u8],
+    configuration: &[i32],
+    vertex: &mut u64,
+    excess: &mut i64,
+) -> i64
+    ensures { Exported (on_sheet sheet.now (λ c L. found_lent (law_call c configuration.now) law_numbers (vertex.old, excess.old))) result (vertex.new, excess.new) }
+{
+    export_check_gauss_law_finding(sheet, configuration, vertex, excess)
 }
 
 // All states of a sheet: their number.
@@ -176,6 +192,21 @@ pub extern "C" fn zibrotka_config_to_index(
     export_config_to_index(sheet, configuration, states)
 }
 
+// The same, and why the configuration is not in the basis, where it is not.
+#[unsafe(no_mangle)]
+pub extern "C" fn zibrotka_config_to_index_finding(
+    sheet: &[u8],
+    configuration: &[i32],
+    states: &mut [i32],
+    vertex: &mut u64,
+    excess: &mut i64,
+    edge: &mut u64,
+) -> i64
+    ensures { FindingExported (on_sheet sheet.now (λ c L. index_call c L configuration.now states.old)) (Unlisted (complex_in sheet.now) (lambda_in sheet.now) configuration.now) (vertex.old, excess.old, edge.old) result states.new (vertex.new, excess.new, edge.new) }
+{
+    export_config_to_index_finding(sheet, configuration, states, vertex, excess, edge)
+}
+
 // The place of a configuration with a delta added on one edge.
 #[unsafe(no_mangle)]
 pub extern "C" fn zibrotka_apply_shift(
@@ -189,6 +220,34 @@ pub extern "C" fn zibrotka_apply_shift(
     ensures { Exported (on_sheet sheet.now (λ c L. shift_call c L configuration.now edge delta states.old res.old)) result (states.new, res.new) }
 {
     export_apply_shift(sheet, configuration, edge, delta, states, res)
+}
+
+// The same, and why the shifted configuration is not in the basis, where it is not: `shifted` is the edge that is shifted, `edge` one that is found.
+#[unsafe(no_mangle)]
+pub extern "C" fn zibrotka_apply_shift_finding(
+    sheet: &[u8],
+    configuration: &[i32],
+    shifted: u64,
+    delta: i32,
+    states: &mut [i32],
+    res: &mut [i32],
+    vertex: &mut u64,
+    excess: &mut i64,
+    edge: &mut u64,
+) -> i64
+    ensures { FindingExported (on_sheet sheet.now (λ c L. shift_call c L configuration.now shifted delta states.old res.old)) (ShiftUnlisted (complex_in sheet.now) (lambda_in sheet.now) configuration.now shifted delta) (vertex.old, excess.old, edge.old) result (states.new, res.new) (vertex.new, excess.new, edge.new) }
+{
+    export_apply_shift_finding(
+        sheet,
+        configuration,
+        shifted,
+        delta,
+        states,
+        res,
+        vertex,
+        excess,
+        edge,
+    )
 }
 
 // The place of the state that a triangle's shift makes of a sheet's state at a place.

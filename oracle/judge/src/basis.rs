@@ -85,15 +85,15 @@ impl<B: Listed> Given<B> {
         Ok(self.basis()?.map_or(NO_BASIS, |basis| basis.flat().len()))
     }
 
-    /// A call with a work list alone, which is so much longer than the basis, or shorter.
+    /// A call with a work list alone, which is so much longer than the basis, or shorter. What it answered and left is right, and handed back.
     pub fn compare(
         &self,
         kind: Kind,
         spare: i64,
         expected: impl Fn(&B, usize) -> Result<Result<usize, u8>, String>,
-        call: impl Fn(&[u8], &mut [B::Entry]) -> i64,
+        call: impl FnOnce(&[u8], &mut [B::Entry]) -> i64,
         tally: &mut Tally,
-    ) -> Result<(), String> {
+    ) -> Result<(i64, Lent<B::Entry>), String> {
         let room = lent::length(self.need()?, spare);
         let expected = match self.basis()? {
             Ok(basis) => expected(basis, room)?,
@@ -102,7 +102,8 @@ impl<B: Listed> Given<B> {
         tally.count(kind, expected.err().unwrap_or(0));
         let mut states = Lent::new("states", room);
         let answer = call(&self.bytes, states.list());
-        self.told(answer, expected, &states)
+        self.told(answer, expected, &states)?;
+        Ok((answer, states))
     }
 
     /// The answer is the expected one and the work list begins with the basis, or it is the refusal and the list is as it was.

@@ -1,5 +1,6 @@
 //! One comparison: how it is run and counted, and how an input that shows a difference is made small.
 
+use crate::findings::{Faults, Sort, Teller};
 use std::collections::BTreeMap;
 use std::sync::Mutex;
 use std::sync::atomic::{AtomicU64, Ordering};
@@ -21,10 +22,17 @@ pub enum Kind {
     NotLawful,
     LawfulBeyond,
     NotLawfulBeyond,
+    NothingFound,
+    VertexFound,
+    NothingFoundBeyond,
+    VertexFoundBeyond,
     Listings,
     Places,
+    PlacesOrFindings,
     EdgeShifts,
     EdgeShiftsBeyond,
+    ShiftsOrFindings,
+    ShiftsOrFindingsBeyond,
     TriangleShifts,
     Masks,
     U1Params,
@@ -62,10 +70,17 @@ impl Kind {
             Kind::NotLawful => "other configurations",
             Kind::LawfulBeyond => "lawful ones beyond the Rust",
             Kind::NotLawfulBeyond => "other ones beyond the Rust",
+            Kind::NothingFound => "laws with nothing found",
+            Kind::VertexFound => "laws with a vertex found",
+            Kind::NothingFoundBeyond => "laws with nothing found beyond the Rust",
+            Kind::VertexFoundBeyond => "laws with a vertex found beyond the Rust",
             Kind::Listings => "lists of states",
             Kind::Places => "places",
+            Kind::PlacesOrFindings => "places or findings",
             Kind::EdgeShifts => "edges' shifts",
             Kind::EdgeShiftsBeyond => "edges' shifts beyond the Rust",
+            Kind::ShiftsOrFindings => "edges' shifts or findings",
+            Kind::ShiftsOrFindingsBeyond => "edges' shifts or findings beyond the Rust",
             Kind::TriangleShifts => "triangles' shifts",
             Kind::Masks => "lists of masks",
             Kind::U1Params => "couplings",
@@ -95,13 +110,15 @@ impl Kind {
             Kind::TriangleEdges => &[1, 2, 3, 4, 5, 6, 7, 8, 9, 13],
             Kind::SheetMade => &[4, 5, 6, 7, 8, 9, 15],
             Kind::SheetRead => &[1, 2, 3, 4, 5, 6, 7, 8, 9],
-            Kind::ReadBack | Kind::WrittenAgain | Kind::Lawful | Kind::LawfulBeyond | Kind::NotLawfulBeyond => &[],
+            Kind::ReadBack | Kind::WrittenAgain => &[],
+            Kind::Lawful | Kind::LawfulBeyond | Kind::NotLawfulBeyond => &[],
+            Kind::NothingFound | Kind::NothingFoundBeyond | Kind::VertexFoundBeyond => &[],
             Kind::Trees | Kind::Loops | Kind::Su2Loops => &[1, 2, 3, 4, 5, 6, 7, 8, 9, 15],
-            Kind::NotLawful => &[1, 2, 3, 4, 5, 6, 7, 8, 9, 12],
+            Kind::NotLawful | Kind::VertexFound => &[1, 2, 3, 4, 5, 6, 7, 8, 9, 12],
             Kind::Listings | Kind::Masks => &[1, 2, 3, 4, 5, 6, 7, 8, 9, 10, 15],
-            Kind::Places => &[1, 2, 3, 4, 5, 6, 7, 8, 9, 10, 12, 15, 17],
-            Kind::EdgeShifts => &[1, 2, 3, 4, 5, 6, 7, 8, 9, 10, 12, 13, 15, 16, 17],
-            Kind::EdgeShiftsBeyond => &[16],
+            Kind::Places | Kind::PlacesOrFindings => &[1, 2, 3, 4, 5, 6, 7, 8, 9, 10, 12, 15, 17],
+            Kind::EdgeShifts | Kind::ShiftsOrFindings => &[1, 2, 3, 4, 5, 6, 7, 8, 9, 10, 12, 13, 15, 16, 17],
+            Kind::EdgeShiftsBeyond | Kind::ShiftsOrFindingsBeyond => &[16],
             Kind::TriangleShifts => &[1, 2, 3, 4, 5, 6, 7, 8, 9, 10, 13, 15, 16],
             Kind::U1Params | Kind::Su2Params => &[14],
             Kind::Dense | Kind::Su2Dense | Kind::Rows | Kind::Su2Rows | Kind::Su2Products | Kind::Applied | Kind::Squares => {
@@ -117,10 +134,10 @@ impl Kind {
 
     /// Whether some input is accepted: a sum beyond 32 bits never is.
     fn accepts(self) -> bool {
-        self != Kind::EdgeShiftsBeyond
+        !matches!(self, Kind::EdgeShiftsBeyond | Kind::ShiftsOrFindingsBeyond)
     }
 
-    const ALL: [Kind; 36] = [
+    const ALL: [Kind; 43] = [
         Kind::FromPentachora,
         Kind::TriangleEdges,
         Kind::SheetMade,
@@ -134,10 +151,17 @@ impl Kind {
         Kind::NotLawful,
         Kind::LawfulBeyond,
         Kind::NotLawfulBeyond,
+        Kind::NothingFound,
+        Kind::VertexFound,
+        Kind::NothingFoundBeyond,
+        Kind::VertexFoundBeyond,
         Kind::Listings,
         Kind::Places,
+        Kind::PlacesOrFindings,
         Kind::EdgeShifts,
         Kind::EdgeShiftsBeyond,
+        Kind::ShiftsOrFindings,
+        Kind::ShiftsOrFindingsBeyond,
         Kind::TriangleShifts,
         Kind::Masks,
         Kind::U1Params,
@@ -164,11 +188,23 @@ impl Kind {
 #[derive(Default)]
 pub struct Tally {
     counts: BTreeMap<(Kind, u8), u64>,
+    /// how often a call told a finding of a sort
+    found: BTreeMap<(Teller, Sort), u64>,
 }
 
 impl Tally {
     pub fn count(&mut self, kind: Kind, expected: u8) {
         *self.counts.entry((kind, expected)).or_default() += 1;
+    }
+
+    pub fn found(&mut self, teller: Teller, faults: &Faults) {
+        for sort in faults.sorts() {
+            *self.found.entry((teller, sort)).or_default() += 1;
+        }
+    }
+
+    fn times(&self, teller: Teller, sort: Sort) -> u64 {
+        self.found.get(&(teller, sort)).copied().unwrap_or(0)
     }
 
     fn of(&self, kind: Kind) -> u64 {
@@ -182,9 +218,16 @@ impl Tally {
             let refused = if refused.is_empty() { String::new() } else { format!(", refused {}", refused.join(", ")) };
             println!("{}: accepted {}{refused}", kind.name(), met(0));
         }
+        for teller in Teller::ALL {
+            let numbers = teller.numbers().into_iter();
+            let told = numbers.clone().filter(|&sort| self.times(teller, sort) > 0).count();
+            let sorts: Vec<String> =
+                teller.sorts().into_iter().map(|sort| format!("{}: {}", sort.name(), self.times(teller, sort))).collect();
+            println!("{} told {told} of {} vertices and edges, {}", teller.name(), numbers.len(), sorts.join(", "));
+        }
     }
 
-    /// The kinds with an answer that no input asked for: then the run itself is too thin.
+    /// The kinds with an answer that no input asked for, and the findings that no call told: then the run itself is too thin.
     pub fn missed(&self) -> Vec<String> {
         let mut missed = vec![];
         for kind in Kind::ALL {
@@ -194,6 +237,11 @@ impl Tally {
                     missed.push(format!("{} {expected}", kind.name()));
                 }
             }
+        }
+        for teller in Teller::ALL {
+            let sorts = [teller.numbers(), teller.sorts()].concat().into_iter();
+            let never = sorts.filter(|&sort| self.times(teller, sort) == 0);
+            missed.extend(never.map(|sort| format!("{} {}", teller.name(), sort.name())));
         }
         missed
     }

@@ -4,14 +4,14 @@ use crate::random::Random;
 use crate::reference::{self, Complex};
 
 /// A tree that hangs from vertex 0: of each other vertex the edge towards 0.
-struct Hanging<'a> {
+pub struct Hanging<'a> {
     complex: &'a Complex,
     up: Vec<Option<usize>>,
-    free: Vec<usize>,
+    pub free: Vec<usize>,
 }
 
 impl Hanging<'_> {
-    fn of(complex: &Complex) -> Hanging<'_> {
+    pub fn of(complex: &Complex) -> Hanging<'_> {
         let (tree, free) = reference::tree(complex);
         let mut up = vec![None; complex.vertices as usize];
         let mut there = vec![0];
@@ -25,7 +25,7 @@ impl Hanging<'_> {
     }
 
     /// Lets so much run through the tree from one vertex to another.
-    fn run(&self, from: u8, to: u8, much: i64, values: &mut [i64]) {
+    pub fn run(&self, from: u8, to: u8, much: i64, values: &mut [i64]) {
         for (end, much) in [(from, much), (to, -much)] {
             let mut here = end;
             while let Some(number) = self.up[usize::from(here)] {
@@ -34,6 +34,13 @@ impl Hanging<'_> {
                 here = if here == a { b } else { a };
             }
         }
+    }
+
+    /// Lets so much run over a free edge and back through the tree.
+    pub fn round(&self, number: usize, much: i64, values: &mut [i64]) {
+        values[number] += much;
+        let [a, b] = self.complex.edges[number];
+        self.run(b, a, much, values);
     }
 
     /// A few cycles on top of nothing, each through one free edge; one that would leave the range is left out.
@@ -47,9 +54,7 @@ impl Hanging<'_> {
             let reach = if random.one_in(2) { most } else { 3.min(most) };
             let much = within(random, reach);
             let mut more = values.clone();
-            more[number] += much;
-            let [a, b] = self.complex.edges[number];
-            self.run(b, a, much, &mut more);
+            self.round(number, much, &mut more);
             if more.iter().all(|value| value.abs() <= most) {
                 values = more;
             }

@@ -1,6 +1,8 @@
-//! `spanning_tree` and `check_gauss_law`: the Rust judges what it can, the reference the refusals and the values beyond the Rust's range.
+//! `spanning_tree`, `check_gauss_law` and `check_gauss_law_finding`: the Rust judges what it can, the reference the refusals, the findings
+//! and the values beyond the Rust's range.
 
 use crate::case::{Case, Kind, Tally};
+use crate::findings::{Faults, Numbers, Teller, told_the_same};
 use crate::lent::{Lent, Room};
 use crate::pentachora::same_answer;
 use crate::reference::{self, MOST_EDGES};
@@ -67,7 +69,7 @@ impl Case for SpanningTree {
     }
 }
 
-/// `check_gauss_law` of any bytes and values.
+/// `check_gauss_law` of any bytes and values, without a finding and with one.
 #[derive(Clone)]
 pub struct GaussLaw {
     pub sheet: Vec<u8>,
@@ -75,8 +77,8 @@ pub struct GaussLaw {
 }
 
 impl GaussLaw {
-    /// Whether the Rust could be asked, and what is expected.
-    pub fn expected(&self) -> Result<(bool, Result<bool, u8>), String> {
+    /// Whether the Rust could be asked, and what is wrong with the configuration; where nothing is it is lawful.
+    pub fn expected(&self) -> Result<(bool, Result<Faults, u8>), String> {
         let complex = match reference::read_sheet(&self.sheet) {
             Ok(sheet) => sheet.complex,
             Err(number) => return Ok((true, Err(number))),
@@ -84,26 +86,33 @@ impl GaussLaw {
         if self.configuration.len() != complex.edges.len() {
             return Ok((true, Err(12)));
         }
-        let lawful = reference::lawful(&complex, &self.configuration);
-        match rust::check_gauss_law(&complex, &self.configuration) {
-            Some(by_rust) if by_rust != lawful => Err("the judge's own sums and the Rust's differ".into()),
-            by_rust => Ok((by_rust.is_some(), Ok(lawful))),
-        }
+        let (in_range, faults) = Faults::of_law(&complex, &self.configuration)?;
+        Ok((in_range, Ok(faults)))
     }
 }
 
 impl Case for GaussLaw {
     fn compare(&self, tally: &mut Tally) -> Result<(), String> {
         let (in_range, expected) = self.expected()?;
-        let kind = match (in_range, expected) {
-            (true, Ok(true)) => Kind::Lawful,
-            (true, _) => Kind::NotLawful,
-            (false, Ok(true)) => Kind::LawfulBeyond,
-            (false, _) => Kind::NotLawfulBeyond,
+        let lawful = expected.as_ref().map_or_else(|&number| Err(number), |faults| Ok(faults.none()));
+        let (kind, with_finding) = match (in_range, lawful) {
+            (true, Ok(true)) => (Kind::Lawful, Kind::NothingFound),
+            (true, _) => (Kind::NotLawful, Kind::VertexFound),
+            (false, Ok(true)) => (Kind::LawfulBeyond, Kind::NothingFoundBeyond),
+            (false, _) => (Kind::NotLawfulBeyond, Kind::VertexFoundBeyond),
         };
-        tally.count(kind, expected.err().unwrap_or(0));
+        tally.count(kind, lawful.err().unwrap_or(0));
         let answer = port::check_gauss_law(&self.sheet, &self.configuration);
-        same_answer(answer, expected.map_or_else(|number| -i64::from(number), i64::from))
+        same_answer(answer, lawful.map_or_else(|number| -i64::from(number), i64::from))?;
+
+        tally.count(with_finding, lawful.err().unwrap_or(0));
+        let faults = expected.unwrap_or_default();
+        tally.found(Teller::Law, &faults);
+        let mut lent = Numbers::lent();
+        let Numbers { vertex, excess, .. } = &mut lent;
+        let with = port::check_gauss_law_finding(&self.sheet, &self.configuration, vertex.number(), excess.number());
+        let judged = told_the_same(answer, with).and_then(|()| lent.hold(faults.finding()));
+        judged.map_err(|what| Teller::Law.differs(&what))
     }
 
     fn simpler(&self) -> Vec<GaussLaw> {
@@ -116,6 +125,7 @@ impl Case for GaussLaw {
     }
 
     fn show(&self) -> String {
-        format!("check_gauss_law: sheet {}, configuration {:?}", hexadecimal(&self.sheet), self.configuration)
+        let sheet = hexadecimal(&self.sheet);
+        format!("check_gauss_law with and without a finding: sheet {sheet}, configuration {:?}", self.configuration)
     }
 }

@@ -48,6 +48,12 @@ impl Pattern for u64 {
     }
 }
 
+impl Pattern for i64 {
+    fn before(at: usize) -> i64 {
+        0x4BAD_0000_0000_0000 + at as i64
+    }
+}
+
 impl Pattern for f64 {
     /// Signalling ones that are no numbers: no sum or product is one.
     fn before(at: usize) -> f64 {
@@ -112,12 +118,20 @@ pub fn show_spare(spare: i64) -> String {
 
 pub struct Lent<T> {
     name: &'static str,
+    /// where in the pattern it begins
+    from: usize,
     whole: Vec<T>,
 }
 
 impl<T: Pattern> Lent<T> {
     pub fn new(name: &'static str, len: usize) -> Lent<T> {
-        Lent { name, whole: (0..len + 2 * MARGIN).map(T::before).collect() }
+        Lent { name, from: 0, whole: (0..len + 2 * MARGIN).map(T::before).collect() }
+    }
+
+    /// One of several numbers, of which no two are the same beforehand.
+    pub fn one_of_several(name: &'static str, which: usize) -> Lent<T> {
+        let from = which * (1 + 2 * MARGIN);
+        Lent { name, from, whole: (from..from + 1 + 2 * MARGIN).map(T::before).collect() }
     }
 
     pub fn list(&mut self) -> &mut [T] {
@@ -137,7 +151,7 @@ impl<T: Pattern> Lent<T> {
     pub fn holds(&self, front: &[T]) -> Result<(), String> {
         // all at once, then one by one for what differs
         let behind = MARGIN + front.len();
-        let as_before = |mut places: std::ops::Range<usize>| places.all(|at| self.whole[at].same(T::before(at)));
+        let as_before = |mut places: std::ops::Range<usize>| places.all(|at| self.whole[at].same(T::before(self.from + at)));
         let in_front = self.whole[MARGIN..behind].iter().zip(front).all(|(found, &expected)| found.same(expected));
         if in_front && as_before(0..MARGIN) && as_before(behind..self.whole.len()) {
             return Ok(());
@@ -145,7 +159,7 @@ impl<T: Pattern> Lent<T> {
         for (at, &found) in self.whole.iter().enumerate() {
             let expected = match at.checked_sub(MARGIN) {
                 Some(place) if place < front.len() => front[place],
-                _ => T::before(at),
+                _ => T::before(self.from + at),
             };
             if !found.same(expected) {
                 let place = at as i64 - MARGIN as i64;
@@ -164,5 +178,11 @@ impl<T: Pattern> Lent<T> {
 
     pub fn unchanged(&self) -> Result<(), String> {
         self.holds(&[])
+    }
+
+    /// Another call left the same in a list of the same length.
+    pub fn same_as(&self, other: &Lent<T>) -> Result<(), String> {
+        let same = self.whole.len() == other.whole.len() && self.whole.iter().zip(&other.whole).all(|(&one, &two)| one.same(two));
+        if same { Ok(()) } else { Err(format!("`{}` is not as the call without a finding leaves it", self.name)) }
     }
 }

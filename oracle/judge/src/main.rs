@@ -13,6 +13,8 @@ mod dense_runs;
 mod entries;
 mod even_product_runs;
 mod even_products;
+mod finding_runs;
+mod findings;
 mod floats;
 mod inputs;
 mod law;
@@ -42,7 +44,7 @@ use case::Tally;
 use std::process::ExitCode;
 
 const USAGE: &str = "\
-judge quick               every short input, then random ones of a fixed seed: one to two minutes
+judge quick               every short input, then random ones of a fixed seed: two to three minutes
 judge long SEED MINUTES   random inputs of a seed for so many minutes
 judge record FILE         writes the fixed list of the Rust's answers
 judge replay FILE         holds the port against such a list";

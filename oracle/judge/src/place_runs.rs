@@ -14,11 +14,11 @@ use crate::{configurations, inputs, rust};
 
 const QUICK_ROUNDS: usize = 3_000;
 
-fn place(given: &Given, configuration: &[i32], spare: i64, tally: &mut Tally) {
+pub fn place(given: &Given, configuration: &[i32], spare: i64, tally: &mut Tally) {
     run(&Place { given: given.clone(), configuration: configuration.to_vec(), spare }, tally);
 }
 
-fn shift(given: &Given, configuration: &[i32], edge: u64, delta: i32, room: Room, tally: &mut Tally) {
+pub fn shift(given: &Given, configuration: &[i32], edge: u64, delta: i32, room: Room, tally: &mut Tally) {
     run(&EdgeShift { given: given.clone(), configuration: configuration.to_vec(), edge, delta, room }, tally);
 }
 

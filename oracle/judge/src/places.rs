@@ -1,13 +1,14 @@
-//! `config_to_index`: the Rust judges the place, the reference the refusals.
+//! `config_to_index` and `config_to_index_finding`: the Rust judges the place, the reference the refusals and the findings.
 
 use crate::basis::{Basis, Given, agree};
 use crate::case::{Case, Kind, Tally};
+use crate::findings::{Faults, Numbers, Teller, told_the_same};
 use crate::lent;
 use crate::reference;
 use crate::sheets::{hexadecimal, sheet_size};
 use crate::shrink::{configuration_size, simpler_configurations, simpler_lambdas};
 
-/// `config_to_index` of any bytes and values.
+/// `config_to_index` of any bytes and values, without a finding and with one.
 #[derive(Clone)]
 pub struct Place {
     pub given: Given,
@@ -24,12 +25,36 @@ impl Place {
         }
         Ok(expected)
     }
+
+    /// What is wrong with a configuration that is judged: with one that has a place nothing.
+    fn faults(&self, basis: &Basis) -> Result<Faults, String> {
+        Faults::of_place(&basis.sheet, &self.configuration, basis.space.config_to_index(&self.configuration).is_some())
+    }
 }
 
 impl Case for Place {
     fn compare(&self, tally: &mut Tally) -> Result<(), String> {
+        let expected = |basis: &Basis, room: usize| self.expected(basis, room);
         let call = |sheet: &[u8], states: &mut [i32]| port::config_to_index(sheet, &self.configuration, states);
-        self.given.compare(Kind::Places, self.spare, |basis, room| self.expected(basis, room), call, tally)
+        let (answer, states) = self.given.compare(Kind::Places, self.spare, expected, call, tally)?;
+
+        let mut lent = Numbers::lent();
+        let Numbers { vertex, excess, edge } = &mut lent;
+        let call = |sheet: &[u8], states: &mut [i32]| {
+            port::config_to_index_finding(sheet, &self.configuration, states, vertex.number(), excess.number(), edge.number())
+        };
+        let with = self.given.compare(Kind::PlacesOrFindings, self.spare, expected, call, tally);
+        let faults = match self.given.basis()? {
+            Ok(basis) if answer == -17 || answer >= 0 => self.faults(basis)?,
+            _ => Faults::default(),
+        };
+        tally.found(Teller::Place, &faults);
+        let judged = with.and_then(|(answer_with, states_with)| {
+            told_the_same(answer, answer_with)?;
+            states_with.same_as(&states)?;
+            lent.hold(faults.finding())
+        });
+        judged.map_err(|what| Teller::Place.differs(&what))
     }
 
     fn simpler(&self) -> Vec<Place> {
@@ -47,6 +72,7 @@ impl Case for Place {
 
     fn show(&self) -> String {
         let lent = lent::show_spare(self.spare);
-        format!("config_to_index: sheet {}, configuration {:?}, {lent}", hexadecimal(&self.given.bytes), self.configuration)
+        let sheet = hexadecimal(&self.given.bytes);
+        format!("config_to_index with and without a finding: sheet {sheet}, configuration {:?}, {lent}", self.configuration)
     }
 }

@@ -5,6 +5,7 @@ use crate::case::{Tally, run};
 use crate::coupling_runs;
 use crate::dense_runs;
 use crate::even_product_runs;
+use crate::finding_runs;
 use crate::inputs;
 use crate::law_runs;
 use crate::lent::Room;
@@ -26,7 +27,7 @@ type Part = (&'static str, fn(&mut Tally));
 pub fn quick() -> Tally {
     let mut tally = Tally::default();
     println!("quick run, seed {QUICK_SEED}");
-    let parts: [Part; 36] = [
+    let parts: [Part; 41] = [
         ("cases that were written down", written_down),
         ("every short list of pentachora", short_pentachora),
         ("every sheet of a few small numbers", small_sheets),
@@ -46,6 +47,11 @@ pub fn quick() -> Tally {
         ("long lists", place_runs::long_lists),
         ("every triangle of every state of small graphs", place_runs::small_graphs),
         ("random places and shifts", place_runs::random_rounds),
+        ("every vertex that can be the lowest", finding_runs::every_vertex),
+        ("every edge that can be the lowest", finding_runs::every_edge),
+        ("sums beyond 32 bits", finding_runs::far_sums),
+        ("findings on every graph on up to five vertices", finding_runs::small_graphs),
+        ("random findings", finding_runs::random_rounds),
         ("masks that were written down", mask_runs::written_down),
         ("masks of every graph on up to five vertices", mask_runs::small_graphs),
         ("masks of every number of free edges", mask_runs::limits),
@@ -87,6 +93,7 @@ pub fn long(seed: u64, minutes: f64) -> Tally {
             random_round(&mut random, &mut tally);
             law_runs::random_round(&mut random, if round == 0 { reference::MOST_CANDIDATES } else { 3_000 }, &mut tally);
             place_runs::random_round(&mut random, if round == 0 { 100_000 } else { 1_000 }, &mut tally);
+            finding_runs::random_round(&mut random, if round == 0 { 100_000 } else { 1_000 }, &mut tally);
             mask_runs::random_round(&mut random, if round == 0 { mask_runs::MOST_FREE } else { 11 }, &mut tally);
             coupling_runs::random_round(&mut random, &mut tally);
             dense_runs::random_round(&mut random, if round == 0 { 2_000 } else { 250 }, &mut tally);

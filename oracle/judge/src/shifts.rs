@@ -1,13 +1,15 @@
-//! `apply_shift` and `apply_triangle_shift`: the Rust judges what is reached, the reference the refusals and the sums that would wrap.
+//! `apply_shift`, `apply_shift_finding` and `apply_triangle_shift`: the Rust judges what is reached, the reference the refusals, the
+//! findings and the sums that would wrap.
 
 use crate::basis::{Basis, Given, agree};
 use crate::case::{Case, Kind, Tally};
+use crate::findings::{Faults, Numbers, Teller, told_the_same};
 use crate::lent::{self, Lent, Room};
 use crate::reference::{self, MOST_EDGES};
 use crate::sheets::{hexadecimal, sheet_size, simpler_sheets};
 use crate::shrink::{configuration_size, simpler_configurations, simpler_lambdas};
 
-/// `apply_shift` of any bytes, values and numbers.
+/// `apply_shift` of any bytes, values and numbers, without a finding and with one.
 #[derive(Clone)]
 pub struct EdgeShift {
     pub given: Given,
@@ -33,6 +35,50 @@ impl EdgeShift {
         }
         Ok((Kind::EdgeShifts, expected))
     }
+
+    /// What is wrong with the shifted configuration, where its sum is within the band: with one that has a place nothing.
+    fn faults(&self, basis: &Basis) -> Result<Faults, String> {
+        let mut shifted = self.configuration.clone();
+        shifted[self.edge as usize] += self.delta;
+        let faults = Faults::of_place(&basis.sheet, &shifted, basis.space.config_to_index(&shifted).is_some())?;
+        if faults.outside(self.edge) { Err("the judge finds the shifted edge outside the band".into()) } else { Ok(faults) }
+    }
+
+    /// One of the two calls: with numbers that are lent the one that tells a finding.
+    fn call(&self, rooms: (usize, usize), numbers: Option<&mut Numbers>) -> Left {
+        let (mut states, mut result) = (Lent::new("states", rooms.0), Lent::new("result", rooms.1));
+        let (sheet, configuration, shifted, delta) = (&self.given.bytes, &self.configuration, self.edge, self.delta);
+        let answer = match numbers {
+            None => port::apply_shift(sheet, configuration, shifted, delta, states.list(), result.list()),
+            Some(Numbers { vertex, excess, edge }) => port::apply_shift_finding(
+                sheet,
+                configuration,
+                shifted,
+                delta,
+                states.list(),
+                result.list(),
+                vertex.number(),
+                excess.number(),
+                edge.number(),
+            ),
+        };
+        Left { answer, states, result }
+    }
+}
+
+/// What one of the two calls answered and left.
+struct Left {
+    answer: i64,
+    states: Lent<i32>,
+    result: Lent<i32>,
+}
+
+impl Left {
+    fn same_as(&self, without: &Left) -> Result<(), String> {
+        told_the_same(without.answer, self.answer)?;
+        self.states.same_as(&without.states)?;
+        self.result.same_as(&without.result)
+    }
 }
 
 impl Case for EdgeShift {
@@ -43,14 +89,27 @@ impl Case for EdgeShift {
             Ok(basis) => self.expected(basis, rooms)?,
             Err(number) => (Kind::EdgeShifts, Err(number)),
         };
-        tally.count(kind, expected.as_ref().err().copied().unwrap_or(0));
-        let mut states = Lent::<i32>::new("states", rooms.0);
-        let mut result = Lent::<i32>::new("result", rooms.1);
-        let (sheet, configuration) = (&self.given.bytes, &self.configuration);
-        let answer = port::apply_shift(sheet, configuration, self.edge, self.delta, states.list(), result.list());
+        let refusal = expected.as_ref().err().copied().unwrap_or(0);
         let (shifted, place) = expected.map_or_else(|number| (vec![], Err(number)), |(shifted, place)| (shifted, Ok(place)));
-        self.given.told(answer, place, &states)?;
-        result.holds(&shifted)
+        let right = |left: &Left| {
+            self.given.told(left.answer, place, &left.states)?;
+            left.result.holds(&shifted)
+        };
+        tally.count(kind, refusal);
+        let without = self.call(rooms, None);
+        right(&without)?;
+
+        let kind = if kind == Kind::EdgeShifts { Kind::ShiftsOrFindings } else { Kind::ShiftsOrFindingsBeyond };
+        tally.count(kind, refusal);
+        let faults = match self.given.basis()? {
+            Ok(basis) if matches!(refusal, 0 | 17) => self.faults(basis)?,
+            _ => Faults::default(),
+        };
+        tally.found(Teller::Shift, &faults);
+        let mut numbers = Numbers::lent();
+        let with = self.call(rooms, Some(&mut numbers));
+        let judged = right(&with).and_then(|()| with.same_as(&without)).and_then(|()| numbers.hold(faults.finding()));
+        judged.map_err(|what| Teller::Shift.differs(&what))
     }
 
     fn simpler(&self) -> Vec<EdgeShift> {
@@ -107,7 +166,8 @@ impl Case for EdgeShift {
     fn show(&self) -> String {
         let EdgeShift { given, configuration, edge, delta, room } = self;
         let sheet = hexadecimal(&given.bytes);
-        format!("apply_shift: sheet {sheet}, configuration {configuration:?}, edge {edge}, delta {delta}, room {room:?}")
+        let numbers = format!("edge {edge}, delta {delta}, room {room:?}");
+        format!("apply_shift with and without a finding: sheet {sheet}, configuration {configuration:?}, {numbers}")
     }
 }
 
@@ -134,7 +194,8 @@ impl TriangleShift {
 impl Case for TriangleShift {
     fn compare(&self, tally: &mut Tally) -> Result<(), String> {
         let call = |sheet: &[u8], states: &mut [i32]| port::apply_triangle_shift(sheet, self.triangle, self.state, states);
-        self.given.compare(Kind::TriangleShifts, self.spare, |basis, room| self.expected(basis, room), call, tally)
+        self.given.compare(Kind::TriangleShifts, self.spare, |basis, room| self.expected(basis, room), call, tally)?;
+        Ok(())
     }
 
     fn simpler(&self) -> Vec<TriangleShift> {

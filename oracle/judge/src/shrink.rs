@@ -1,5 +1,6 @@
 //! Smaller inputs to try in the place of one, where several calls take the same: an L, and a configuration or weights on a sheet.
 
+use crate::configurations::Hanging;
 use crate::floats;
 use crate::reference::{self, HEADER, Sheet};
 use crate::sheets::simpler_sheets;
@@ -22,10 +23,11 @@ pub fn simpler_lambdas(bytes: &[u8]) -> Vec<Vec<u8>> {
 /// A sheet and a value for each of its edges.
 type Both = (Vec<u8>, Vec<i32>);
 
-/// No value but zero; edges go with their values; then simpler sheets, fewer values and smaller ones.
+/// No value but zero; edges go with their values; then less on a loop, simpler sheets, fewer values and smaller ones.
 pub fn simpler_configurations(bytes: &[u8], configuration: &[i32]) -> Vec<Both> {
     let mut simpler = vec![(bytes.to_vec(), vec![0; configuration.len()])];
     simpler.extend(fewer_edges(bytes, configuration));
+    simpler.extend(less_on_loops(bytes, configuration).into_iter().map(|values| (bytes.to_vec(), values)));
     simpler.extend(simpler_sheets(bytes).into_iter().map(|sheet| (sheet, configuration.to_vec())));
     if let Some((_, shorter)) = configuration.split_last() {
         simpler.push((bytes.to_vec(), shorter.to_vec()));
@@ -44,6 +46,29 @@ pub fn simpler_configurations(bytes: &[u8], configuration: &[i32]) -> Vec<Both> 
 fn fewer_edges(bytes: &[u8], configuration: &[i32]) -> Vec<Both> {
     let values = |left: &Left| left.edges.iter().filter_map(|&number| configuration.get(number).copied()).collect();
     left_of(bytes).into_iter().map(|left| (reference::encode(&left.sheet), values(&left))).collect()
+}
+
+/// Lawful values stay lawful: all are halved or signs alone, or on the loop of a free edge there is less.
+fn less_on_loops(bytes: &[u8], configuration: &[i32]) -> Vec<Vec<i32>> {
+    let mut less: Vec<Vec<i32>> = vec![];
+    less.push(configuration.iter().map(|value| value.signum()).collect());
+    less.push(configuration.iter().map(|value| value / 2).collect());
+    let Some(complex) = reference::read_sheet(bytes).ok().map(|sheet| sheet.complex) else {
+        return less;
+    };
+    if complex.edges.len() != configuration.len() {
+        return less;
+    }
+    let hanging = Hanging::of(&complex);
+    for &free in &hanging.free {
+        let value = i64::from(configuration[free]);
+        for much in [value, value - value / 2, value.signum()] {
+            let mut values: Vec<i64> = configuration.iter().copied().map(i64::from).collect();
+            hanging.round(free, -much, &mut values);
+            less.extend(values.into_iter().map(|value| i32::try_from(value).ok()).collect::<Option<Vec<i32>>>());
+        }
+    }
+    less
 }
 
 pub fn configuration_size(configuration: &[i32]) -> Vec<u128> {

@@ -73,6 +73,14 @@ mod raw {
             configuration: *const i32,
             configuration_len: usize,
         ) -> i64;
+        pub fn zibrotka_check_gauss_law_finding(
+            sheet: *const u8,
+            sheet_len: usize,
+            configuration: *const i32,
+            configuration_len: usize,
+            vertex: *mut u64,
+            excess: *mut i64,
+        ) -> i64;
         pub fn zibrotka_enumerate_gauge_invariant(sheet: *const u8, sheet_len: usize, states: *mut i32, states_len: usize) -> i64;
         pub fn zibrotka_config_to_index(
             sheet: *const u8,
@@ -81,6 +89,17 @@ mod raw {
             configuration_len: usize,
             states: *mut i32,
             states_len: usize,
+        ) -> i64;
+        pub fn zibrotka_config_to_index_finding(
+            sheet: *const u8,
+            sheet_len: usize,
+            configuration: *const i32,
+            configuration_len: usize,
+            states: *mut i32,
+            states_len: usize,
+            vertex: *mut u64,
+            excess: *mut i64,
+            edge: *mut u64,
         ) -> i64;
         pub fn zibrotka_apply_shift(
             sheet: *const u8,
@@ -93,6 +112,21 @@ mod raw {
             states_len: usize,
             result: *mut i32,
             result_len: usize,
+        ) -> i64;
+        pub fn zibrotka_apply_shift_finding(
+            sheet: *const u8,
+            sheet_len: usize,
+            configuration: *const i32,
+            configuration_len: usize,
+            shifted: u64,
+            delta: i32,
+            states: *mut i32,
+            states_len: usize,
+            result: *mut i32,
+            result_len: usize,
+            vertex: *mut u64,
+            excess: *mut i64,
+            edge: *mut u64,
         ) -> i64;
         pub fn zibrotka_apply_triangle_shift(
             sheet: *const u8,
@@ -372,6 +406,20 @@ pub fn check_gauss_law(sheet: &[u8], configuration: &[i32]) -> i64 {
     unsafe { raw::zibrotka_check_gauss_law(sheet.as_ptr(), sheet.len(), configuration.as_ptr(), configuration.len()) }
 }
 
+/// The same, and where it answers 0 the lowest vertex that breaks the law and its excess.
+pub fn check_gauss_law_finding(sheet: &[u8], configuration: &[i32], vertex: &mut u64, excess: &mut i64) -> i64 {
+    unsafe {
+        raw::zibrotka_check_gauss_law_finding(
+            sheet.as_ptr(),
+            sheet.len(),
+            configuration.as_ptr(),
+            configuration.len(),
+            vertex,
+            excess,
+        )
+    }
+}
+
 /// Every state, state after state; answers the number of states.
 pub fn enumerate_gauge_invariant(sheet: &[u8], states: &mut [i32]) -> i64 {
     unsafe { raw::zibrotka_enumerate_gauge_invariant(sheet.as_ptr(), sheet.len(), states.as_mut_ptr(), states.len()) }
@@ -391,6 +439,30 @@ pub fn config_to_index(sheet: &[u8], configuration: &[i32], states: &mut [i32]) 
     }
 }
 
+/// The same, and beside minus 17 what the configuration breaks: the law at a vertex, by some excess, or the band on an edge.
+pub fn config_to_index_finding(
+    sheet: &[u8],
+    configuration: &[i32],
+    states: &mut [i32],
+    vertex: &mut u64,
+    excess: &mut i64,
+    edge: &mut u64,
+) -> i64 {
+    unsafe {
+        raw::zibrotka_config_to_index_finding(
+            sheet.as_ptr(),
+            sheet.len(),
+            configuration.as_ptr(),
+            configuration.len(),
+            states.as_mut_ptr(),
+            states.len(),
+            vertex,
+            excess,
+            edge,
+        )
+    }
+}
+
 /// The place of a configuration with so much added on one edge, which goes to `result`; the work list gets the basis.
 pub fn apply_shift(sheet: &[u8], configuration: &[i32], edge: u64, delta: i32, states: &mut [i32], result: &mut [i32]) -> i64 {
     unsafe {
@@ -405,6 +477,38 @@ pub fn apply_shift(sheet: &[u8], configuration: &[i32], edge: u64, delta: i32, s
             states.len(),
             result.as_mut_ptr(),
             result.len(),
+        )
+    }
+}
+
+/// The same, and beside minus 17 what the shifted configuration breaks.
+#[allow(clippy::too_many_arguments)]
+pub fn apply_shift_finding(
+    sheet: &[u8],
+    configuration: &[i32],
+    shifted: u64,
+    delta: i32,
+    states: &mut [i32],
+    result: &mut [i32],
+    vertex: &mut u64,
+    excess: &mut i64,
+    edge: &mut u64,
+) -> i64 {
+    unsafe {
+        raw::zibrotka_apply_shift_finding(
+            sheet.as_ptr(),
+            sheet.len(),
+            configuration.as_ptr(),
+            configuration.len(),
+            shifted,
+            delta,
+            states.as_mut_ptr(),
+            states.len(),
+            result.as_mut_ptr(),
+            result.len(),
+            vertex,
+            excess,
+            edge,
         )
     }
 }

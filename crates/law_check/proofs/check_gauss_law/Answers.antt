@@ -1,5 +1,4 @@
-use Rattle.std.proofs.Common.{refl, sym, ap, ◌∙◌}
-use Rattle.std.specs.Option.{is_none}
+use Rattle.std.proofs.Common.{refl, sym, ◌∙◌}
 use borrow.Author.Tests.{eq-eqb, ne_eqb}
 use Rattle.mathematics.proofs.Calls.{none, here, past, refuses, ends}
 use Rattle.answers.proofs.Numbers.{number_positive}
@@ -7,7 +6,7 @@ use Rattle.answers.proofs.Passing.{answer_passed}
 use Rattle.complex.proofs.Refusing.{record_refuses, past_record}
 use Rattle.law_check.specs.Law.{law_call}
 use Rattle.gauss_law.proofs.Spanned.{edges_long}
-use Rattle.law_check.proofs.Findings.{none_told, finding_lawful}
+use Rattle.law_check.proofs.Findings.{law_known}
 use Rattle.law_check.proofs.check_gauss_law.Goals as goal
 
 pub returns-in_err-accept : goal.returns-in_err-accept
@@ -25,4 +24,4 @@ pub returns : goal.returns
 unfolding law_call
 returns c =
     ends _ (past_record _ (sym c.in_ok-accept.ensures) (past (rw (eq-eqb _ _ (c.if-configuration-c.false ∙ sym (edges_long c.args.c)))) none))
-    (none_told _ _ c.is_none.ensures ∙ ap is_none c.find_unlawful.ensures ∙ finding_lawful _ _ _) refl tt
+    c.find_unlawful.ensures refl (law_known _ _ _)

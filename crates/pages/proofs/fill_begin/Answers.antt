@@ -1,11 +1,12 @@
 use Rattle.std.proofs.Common.{◌∙◌, arith}
-use Rattle.pages.proofs.Answers.{accepted_ready, accepted_number, accepted_told, refused_kind, refused_told}
+use Rattle.sheet.proofs.Reading.{read_ready}
+use Rattle.pages.proofs.Answers.{accepted_number, accepted_told, refused_kind, refused_told}
 use Rattle.pages.proofs.Whole.{placed}
 use Rattle.pages.proofs.fill_begin.Goals as goal
 
 pub fill_first-requires : goal.fill_first-requires
 fill_first-requires c =
-    let ready = accepted_ready _ _ c.in-Ok.ensures in
+    let ready = read_ready _ _ c.in-Ok.ensures in
     (c.requires, ready.0, ready.1)
 
 pub returns-in-Ok : goal.returns-in-Ok

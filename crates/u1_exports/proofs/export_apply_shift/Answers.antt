@@ -6,7 +6,7 @@ use Rattle.u1_exports.proofs.export_apply_shift.Goals as goal
 
 pub returns-in-Ok : goal.returns-in-Ok
 returns-in-Ok c =
-    read_and_called _ _ c.signed_result.type_inv c.in-Ok.ensures (rw (back32 c.args.delta c.ranges.delta.sfits) at c.apply_shift.ensures) c.signed_result.ensures
+    read_and_called _ _ c.signed_place.type_inv c.in-Ok.ensures (rw (back32 c.args.delta c.ranges.delta.sfits) at c.apply_shift.ensures.answered) c.signed_place.ensures
 
 pub returns-in-Err : goal.returns-in-Err
 unfolding shift_call

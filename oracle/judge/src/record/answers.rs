@@ -178,7 +178,7 @@ fn rows<B: Csr<Entry: Number>>(taken: &Fields) -> Result<Fields, String> {
 fn law(taken: &Fields) -> Result<Fields, String> {
     let case = GaussLaw { sheet: sheet(taken), configuration: taken.list(Field::Configuration)? };
     match case.expected()? {
-        (true, lawful) => Ok(answered(taken, i64::from(lawful.map_err(refused)?))),
+        (true, faults) => Ok(answered(taken, i64::from(faults.map_err(refused)?.none()))),
         (false, _) => Err("a value is too large for the Rust".into()),
     }
 }
