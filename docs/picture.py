@@ -1,7 +1,7 @@
 #!/usr/bin/env python3
-"""Draws docs/crates.svg from crates.txt, and docs/call.svg. Needs no package.
+"""Draws docs/crates.svg from crates.txt, docs/call.svg and docs/callers.svg. Needs no package.
 
-    docs/picture.py           writes both pictures
+    docs/picture.py           writes the pictures
     docs/picture.py --check   tells whether they are what this script makes
 """
 import math, os, sys
@@ -264,9 +264,43 @@ def call_picture():
     return svg(left + w + 70 + 150 + 40, top + gap * (len(STEPS) - 1) + h + 30, "What flows through a call", parts)
 
 
+# ---- what stands on the exported calls: who calls, through what, in which form the library comes
+CALLERS = [
+    ("C", "include/zibrotka.h", "libzibrotka.a, libzibrotka.so"),
+    ("Rust", "bindings/rust", "libzibrotka.a"),
+    ("Python", "bindings/python", "libzibrotka.so"),
+    ("the page", "web", "zibrotka.wasm"),
+]
+
+
+def callers_picture():
+    green, blue, grey = KINDS["exports"], KINDS["u1"], KINDS["shared"]
+    left, w, h, gap, top = 40, 190, 46, 40, 76
+    ys = [top, top + 120, top + 240]
+    wide = len(CALLERS) * w + (len(CALLERS) - 1) * gap
+    parts = [text(left, 36, "What stands on the exported calls", 20, "start", weight="bold")]
+    parts.append(text(left, 58, "Above the line nothing is proved; it hands over what it is given, judges types, lengths and overlaps, and is tested.", 13, "start"))
+    for k, (who, through, form) in enumerate(CALLERS):
+        x = left + k * (w + gap)
+        middle = x + w / 2
+        parts += [box(x, ys[0], w, h, grey[0], grey[1]), text(middle, ys[0] + 20, who, 15, weight="bold"), text(middle, ys[0] + 37, through, 12)]
+        parts += [box(x, ys[1], w, h, blue[0], blue[1]), text(middle, ys[1] + 28, form, 12)]
+        for y in ys[:2]:
+            parts += [f'<path d="M{middle:.0f} {y + h} V{y + 112}" stroke="#333333" stroke-width="1.6" fill="none"/>', arrow_head(middle, y + 120, "#333333")]
+    line = (ys[1] + h + ys[2]) / 2 - 6
+    parts.append(f'<path d="M{left - 20} {line:.0f} H{left + wide + 20}" stroke="#a32a2a" stroke-width="1.4" stroke-dasharray="6 5" fill="none"/>')
+    parts += [box(left, ys[2], wide, h + 10, green[0], green[1]), text(left + wide / 2, ys[2] + 23, "crates/zibrotka: the exported calls", 15, weight="bold")]
+    parts.append(text(left + wide / 2, ys[2] + 43, "proved; compiled once, to one LLVM module", 13))
+    return svg(left * 2 + wide, ys[2] + h + 40, "What stands on the exported calls", parts)
+
+
+PICTURES = {"crates.svg": crates_picture, "call.svg": call_picture, "callers.svg": callers_picture}
+
+
 def main():
     wrong = 0
-    for name, picture in (("crates.svg", crates_picture()), ("call.svg", call_picture())):
+    for name, draw in PICTURES.items():
+        picture = draw()
         path = os.path.join(docs, name)
         if sys.argv[1:] != ["--check"]:
             with open(path, "w", encoding="utf-8") as f:

@@ -1,12 +1,12 @@
 /*
- * Gauge-invariant states on a triangle complex: the calls of libzibrotka.a.
+ * Gauge-invariant states on a triangle complex: the calls of libzibrotka.a and libzibrotka.so.
  *
  * Every call but zibrotka_release answers one signed number: its value, or minus one of the refusals below. A call that refuses leaves
  * every lent list and number as it was; only the two calls that tell why a configuration is not in the basis write numbers beside the
  * refusal 17. One that succeeds changes no entry of a list beyond its result. Each call judges its whole input itself.
  *
  * A list is a pointer and a length. An empty one may be NULL with length 0. What a call writes to must not overlap anything else that
- * it is given; what it only reads may.
+ * it is given; what it only reads may. No other thread may change any of it while the call runs.
  *
  * A complex has vertices 0 to V-1, numbered edges (a, b) with a < b, and numbered triangles (a, b, c) with a < b < c. V is 1 to 64,
  * the number of edges E 0 to 63, of triangles T 0 to 256, the truncation L 0 to 1000. Its sheet has 11 + 2E + 3T bytes:
@@ -269,9 +269,10 @@ int64_t zibrotka_build_su2_hamiltonian(const uint8_t *sheet, size_t sheet_len,
  * The matrix of zibrotka_build_hamiltonian as row lists, over the same n states. A row holds `electric` times the sum of squares of its
  * state on the diagonal, where that is not 0. For each triangle that shifts its state to another, or another to it, it holds in that other
  * state's column (`magnetic` times 0.5) times the triangle's weight, also where that is 0. Columns rise. n + 1 starts go to the front of
- * `starts`: where each row begins, and where the last one ends. The columns and values of all rows, one after the other, go to the fronts of `columns` and `values`, the states to that of `states`. The
- * coupling and the weights come as there. Answers the number of entries, which zibrotka_count_entries tells too, or minus one of 1 to 10,
- * 12, 14 or 15 (fewer than n times E entries in `states`, than n + 1 in `starts`, or than the entries in `columns` or in `values`).
+ * `starts`: where each row begins, and where the last one ends. The columns and values of all rows, one after the other, go to the fronts
+ * of `columns` and `values`, the states to that of `states`. The coupling and the weights come as there. Answers the number of entries,
+ * which zibrotka_count_entries tells too, or minus one of 1 to 10, 12, 14 or 15 (fewer than n times E entries in `states`, than n + 1 in
+ * `starts`, or than the entries in `columns` or in `values`).
  */
 int64_t zibrotka_build_csr(const uint8_t *sheet, size_t sheet_len,
                            double g_squared, double electric, double magnetic,

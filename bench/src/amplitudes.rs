@@ -6,6 +6,7 @@ use crate::table::{Line, timed};
 use phyz_quantum::lanczos::hamiltonian_matvec;
 use phyz_quantum::observables::{electric_field_sq, fundamental_loops, wilson_loop};
 use std::hint::black_box;
+use zibrotka::calls;
 
 /// The basis and floats.
 type Lists = (Vec<i32>, Vec<f64>);
@@ -17,11 +18,11 @@ pub fn table() -> String {
 fn product(sheet: &Sheet) -> Line {
     let states = sheet.u1_states();
     let (list, vector) = amplitudes(states);
-    let coupling = coupling(port::u1_params);
+    let coupling = coupling(calls::u1_params);
     let times = compared(
         &[&list],
         |(states, result): &mut Lists| {
-            port::hamiltonian_matvec(black_box(&sheet.bytes), coupling, true, &sheet.weights, &list, states, result)
+            calls::hamiltonian_matvec(black_box(&sheet.bytes), coupling, true, &sheet.weights, &list, states, result)
         },
         || sheet.u1(|space| hamiltonian_matvec(black_box(&vector), space, &sheet.record, G_SQUARED, Some(&sheet.weights))),
         |(space, product)| (space.dim() as i64, (space.basis.concat(), product.iter().copied().collect())),
@@ -47,7 +48,7 @@ fn along(sheet: &Sheet) -> Line {
     let times = compared(
         &[&list],
         |(states, result): &mut Lists| {
-            port::wilson_loop(black_box(&sheet.bytes), &list, &edges, &directions, states, &mut result[0])
+            calls::wilson_loop(black_box(&sheet.bytes), &list, &edges, &directions, states, &mut result[0])
         },
         || sheet.u1(|space| wilson_loop(space, black_box(&vector), &path)),
         |(space, expectation)| (0, (space.basis.concat(), vec![expectation])),
@@ -60,7 +61,7 @@ fn squares(sheet: &Sheet) -> Line {
     let (list, vector) = amplitudes(states);
     let times = compared(
         &[&list],
-        |(states, result): &mut Lists| port::electric_field_sq(black_box(&sheet.bytes), &list, states, result),
+        |(states, result): &mut Lists| calls::electric_field_sq(black_box(&sheet.bytes), &list, states, result),
         || sheet.u1(|space| electric_field_sq(space, black_box(&vector))),
         |(space, squares)| (squares.len() as i64, (space.basis.concat(), squares)),
     );

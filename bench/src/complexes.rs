@@ -5,6 +5,7 @@ use crate::sheets::{Sheet, complete};
 use crate::table::{Line, timed};
 use phyz_regge::SimplicialComplex;
 use std::hint::black_box;
+use zibrotka::calls;
 
 /// Flat edges and flat triangles.
 type Faces = (Vec<u8>, Vec<u8>);
@@ -19,7 +20,7 @@ fn made(vertices: usize, fives: &[[usize; 5]]) -> Line {
         &[&flat],
         |(edges, triangles): &mut Faces| {
             let (mut n_triangles, room) = (0, triangles.len() as u64);
-            let answer = port::from_pentachorons(vertices as u64, black_box(&flat), edges, triangles, &mut n_triangles);
+            let answer = calls::from_pentachorons(vertices as u64, black_box(&flat), edges, triangles, &mut n_triangles);
             assert_eq!(3 * n_triangles, room);
             answer
         },
@@ -68,7 +69,7 @@ fn edges(record: SimplicialComplex) -> [Line; 2] {
     let sheet = Sheet::of(format!("V {}, E {e}, T {t}", record.n_vertices), record);
     let port = |indices: &mut Vec<u64>| {
         let indices = indices.as_mut_slice().try_into().expect("three");
-        port::tri_edge_indices(black_box(&sheet.bytes), t as u64 - 1, indices)
+        calls::tri_edge_indices(black_box(&sheet.bytes), t as u64 - 1, indices)
     };
     let told = |edges: [usize; 3]| (0, edges.map(|edge| edge as u64).to_vec());
     let found = compared(&[&sheet.bytes], port, || black_box(&sheet.record).tri_edge_indices(t - 1), told);

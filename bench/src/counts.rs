@@ -5,6 +5,7 @@ use crate::rows::{su2_by_rust, u1_by_rust};
 use crate::sheets::{Sheet, complete, long};
 use crate::table::{Line, timed};
 use std::hint::black_box;
+use zibrotka::calls;
 
 pub fn table() -> String {
     let su2_sheets = [complete(7, 0), complete(8, 4)];
@@ -14,13 +15,13 @@ pub fn table() -> String {
 fn u1(sheet: &Sheet) -> [Line; 2] {
     let states = compared(
         &[],
-        |()| port::count_states(black_box(&sheet.bytes)),
+        |()| calls::count_states(black_box(&sheet.bytes)),
         || sheet.u1(|_| ()),
         |(space, ())| (space.dim() as i64, ()),
     );
     let entries = compared(
         &[],
-        |()| port::count_entries(black_box(&sheet.bytes)),
+        |()| calls::count_entries(black_box(&sheet.bytes)),
         || u1_by_rust(sheet),
         |(_, matrix)| (matrix.nnz() as i64, ()),
     );
@@ -34,13 +35,13 @@ fn u1(sheet: &Sheet) -> [Line; 2] {
 fn su2(sheet: &Sheet) -> [Line; 2] {
     let states = compared(
         &[],
-        |()| port::su2_count_states(black_box(&sheet.bytes)),
+        |()| calls::su2_count_states(black_box(&sheet.bytes)),
         || sheet.su2(|_| ()),
         |(space, ())| (space.dim() as i64, ()),
     );
     let entries = compared(
         &[],
-        |()| port::su2_count_entries(black_box(&sheet.bytes)),
+        |()| calls::su2_count_entries(black_box(&sheet.bytes)),
         || su2_by_rust(sheet),
         |(_, matrix)| (matrix.nnz() as i64, ()),
     );

@@ -7,6 +7,7 @@ use phyz_math::DMat;
 use phyz_quantum::hamiltonian::{KSParams, build_hamiltonian};
 use phyz_quantum::su2_quantum::build_su2_hamiltonian;
 use std::hint::black_box;
+use zibrotka::calls;
 
 pub fn table() -> String {
     let [one, two, three, four] = [complete(4, 0).with(5), complete(5, 0).with(1), complete(5, 0), complete(6, 0)];
@@ -14,12 +15,12 @@ pub fn table() -> String {
 }
 
 fn u1(sheet: &Sheet) -> Line {
-    let coupling = coupling(port::u1_params);
+    let coupling = coupling(calls::u1_params);
     let params = KSParams { g_squared: G_SQUARED, metric_weights: Some(sheet.weights.clone()) };
     let times = compared(
         &[],
         |(states, result): &mut (Vec<i32>, Vec<f64>)| {
-            port::build_hamiltonian(black_box(&sheet.bytes), coupling, true, &sheet.weights, states, result)
+            calls::build_hamiltonian(black_box(&sheet.bytes), coupling, true, &sheet.weights, states, result)
         },
         || sheet.u1(|space| build_hamiltonian(space, &sheet.record, black_box(&params))),
         |(space, matrix)| told(space.basis.concat(), matrix),
@@ -28,11 +29,11 @@ fn u1(sheet: &Sheet) -> Line {
 }
 
 fn su2(sheet: &Sheet) -> Line {
-    let coupling = coupling(port::su2_params);
+    let coupling = coupling(calls::su2_params);
     let times = compared(
         &[],
         |(states, result): &mut (Vec<u64>, Vec<f64>)| {
-            port::build_su2_hamiltonian(black_box(&sheet.bytes), coupling, true, &sheet.weights, states, result)
+            calls::build_su2_hamiltonian(black_box(&sheet.bytes), coupling, true, &sheet.weights, states, result)
         },
         || sheet.su2(|space| build_su2_hamiltonian(space, &sheet.record, G_SQUARED, Some(black_box(&sheet.weights)))),
         |(space, matrix)| told(space.basis, matrix),

@@ -9,6 +9,7 @@ use crate::su2_amplitudes::first_triangle;
 use crate::table::{digits, grouped, markdown};
 use phyz_quantum::csr::CsrMatrix;
 use std::hint::black_box;
+use zibrotka::calls;
 
 /// A dense matrix over more states is not made.
 const DENSE: usize = 5000;
@@ -62,42 +63,42 @@ fn each(many: usize, mut call: impl FnMut() -> i64) -> String {
 
 fn u1_line(sheet: &Sheet) -> Vec<String> {
     let (n, entries, e) = (sheet.u1_states(), sheet.u1_entries(), sheet.record.n_edges());
-    let (bytes, weights, coupling) = (black_box(&sheet.bytes), &sheet.weights, coupling(port::u1_params));
+    let (bytes, weights, coupling) = (black_box(&sheet.bytes), &sheet.weights, coupling(calls::u1_params));
     let (middle, (vector, _), (edges, directions)) = (Middle::of(sheet), amplitudes(n), steps(&longest(sheet)));
     let (mut states, mut shifted, mut sum, mut result) = (vec![0; n * e], vec![0; e], 0.0, vec![0.0; n]);
     let mut lists = empty(n * e, n, entries);
     let cells = [
-        each(n, || port::enumerate_gauge_invariant(bytes, &mut states)),
-        each(n, || port::count_states(bytes)),
+        each(n, || calls::enumerate_gauge_invariant(bytes, &mut states)),
+        each(n, || calls::count_states(bytes)),
         each(n, || middle.place(bytes, &mut states)),
         each(n, || middle.shift(bytes, &mut states, &mut shifted)),
         each(n, || middle.triangle_shift(bytes, &mut states)),
-        each(n, || port::electric_field_sq(bytes, &vector, &mut states, &mut result)),
-        each(n, || port::wilson_loop(bytes, &vector, &edges, &directions, &mut states, &mut sum)),
-        each(entries, || port::hamiltonian_matvec(bytes, coupling, true, weights, &vector, &mut states, &mut result)),
-        each(entries, || port::count_entries(bytes)),
+        each(n, || calls::electric_field_sq(bytes, &vector, &mut states, &mut result)),
+        each(n, || calls::wilson_loop(bytes, &vector, &edges, &directions, &mut states, &mut sum)),
+        each(entries, || calls::hamiltonian_matvec(bytes, coupling, true, weights, &vector, &mut states, &mut result)),
+        each(entries, || calls::count_entries(bytes)),
         each(entries, || u1_by_port(sheet, &mut lists)),
         multiplied(&matrix(lists), &vector),
-        dense(n, |result| port::build_hamiltonian(bytes, coupling, true, weights, &mut states, result)),
+        dense(n, |result| calls::build_hamiltonian(bytes, coupling, true, weights, &mut states, result)),
     ];
     [sheet.name.clone(), grouped(n), grouped(entries)].into_iter().chain(cells).collect()
 }
 
 fn su2_line(sheet: &Sheet) -> Vec<String> {
     let (n, entries) = (sheet.su2_states(), sheet.su2_entries());
-    let (bytes, weights, coupling) = (black_box(&sheet.bytes), &sheet.weights, coupling(port::su2_params));
+    let (bytes, weights, coupling) = (black_box(&sheet.bytes), &sheet.weights, coupling(calls::su2_params));
     let ((vector, _), (_, path)) = (amplitudes(n), first_triangle(sheet));
     let (mut states, mut sum, mut result) = (vec![0; n], 0.0, vec![0.0; n]);
     let mut lists = empty(n, n, entries);
     let cells = [
-        each(n, || port::su2_basis(bytes, &mut states)),
-        each(n, || port::su2_wilson_loop(bytes, &vector, &path, &mut states, &mut sum)),
-        each(entries, || port::su2_hamiltonian_matvec(bytes, coupling, true, weights, &vector, &mut states, &mut result)),
+        each(n, || calls::su2_basis(bytes, &mut states)),
+        each(n, || calls::su2_wilson_loop(bytes, &vector, &path, &mut states, &mut sum)),
+        each(entries, || calls::su2_hamiltonian_matvec(bytes, coupling, true, weights, &vector, &mut states, &mut result)),
         each(entries, || su2_by_port(sheet, &mut lists)),
         multiplied(&matrix(lists), &vector),
-        dense(n, |result| port::build_su2_hamiltonian(bytes, coupling, true, weights, &mut states, result)),
-        each(1, || port::su2_count_states(bytes)),
-        each(1, || port::su2_count_entries(bytes)),
+        dense(n, |result| calls::build_su2_hamiltonian(bytes, coupling, true, weights, &mut states, result)),
+        each(1, || calls::su2_count_states(bytes)),
+        each(1, || calls::su2_count_entries(bytes)),
     ];
     [sheet.name.clone(), grouped(n), grouped(entries)].into_iter().chain(cells).collect()
 }
@@ -105,7 +106,7 @@ fn su2_line(sheet: &Sheet) -> Vec<String> {
 fn multiplied(matrix: &CsrMatrix, vector: &[f64]) -> String {
     let CsrMatrix { row_ptr, col_indices, values, .. } = matrix;
     let mut result = vec![0.0; matrix.nrows];
-    each(matrix.nnz(), || port::matvec(row_ptr, col_indices, values, black_box(vector), &mut result))
+    each(matrix.nnz(), || calls::matvec(row_ptr, col_indices, values, black_box(vector), &mut result))
 }
 
 fn dense(n: usize, mut build: impl FnMut(&mut [f64]) -> i64) -> String {

@@ -6,6 +6,7 @@ use crate::table::{Line, timed};
 use phyz_quantum::hamiltonian::open_triangle_shift;
 use phyz_quantum::hilbert::U1HilbertSpace;
 use std::hint::black_box;
+use zibrotka::calls;
 
 const EDGE: usize = 0;
 const DELTA: i32 = 1;
@@ -33,15 +34,15 @@ impl Middle {
     }
 
     pub fn place(&self, sheet: &[u8], states: &mut [i32]) -> i64 {
-        port::config_to_index(sheet, &self.configuration, states)
+        calls::config_to_index(sheet, &self.configuration, states)
     }
 
     pub fn shift(&self, sheet: &[u8], states: &mut [i32], result: &mut [i32]) -> i64 {
-        port::apply_shift(sheet, &self.beside, EDGE as u64, DELTA, states, result)
+        calls::apply_shift(sheet, &self.beside, EDGE as u64, DELTA, states, result)
     }
 
     pub fn triangle_shift(&self, sheet: &[u8], states: &mut [i32]) -> i64 {
-        port::apply_triangle_shift(sheet, TRIANGLE as u64, self.inside as u64, states)
+        calls::apply_triangle_shift(sheet, TRIANGLE as u64, self.inside as u64, states)
     }
 }
 

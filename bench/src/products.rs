@@ -6,6 +6,7 @@ use crate::sheets::{Sheet, amplitudes, complete, number};
 use crate::table::{Line, timed};
 use phyz_quantum::csr::CsrMatrix;
 use std::hint::black_box;
+use zibrotka::calls;
 
 pub fn table() -> String {
     let u1 = [complete(4, 0).with(5), complete(5, 0).with(2), complete(4, 0).with(50)];
@@ -34,7 +35,7 @@ fn multiplied(sheet: &Sheet, matrix: CsrMatrix) -> Line {
     let CsrMatrix { row_ptr, col_indices, values, .. } = &matrix;
     let times = compared(
         &[row_ptr, col_indices, values, &vector],
-        |result: &mut Vec<f64>| port::matvec(row_ptr, col_indices, values, black_box(&vector), result),
+        |result: &mut Vec<f64>| calls::matvec(row_ptr, col_indices, values, black_box(&vector), result),
         || matrix.matvec(black_box(&vector)),
         |product| (0, product),
     );

@@ -7,6 +7,7 @@ use phyz_quantum::csr::{CsrMatrix, build_csr, build_csr_su2};
 use phyz_quantum::hilbert::U1HilbertSpace;
 use phyz_quantum::su2_quantum::Su2HilbertSpace;
 use std::hint::black_box;
+use zibrotka::calls;
 
 /// States and starts, columns and values.
 pub type RowLists<T> = ((Vec<T>, Vec<u32>), (Vec<u32>, Vec<f64>));
@@ -16,11 +17,20 @@ pub fn table() -> String {
 }
 
 pub fn u1_by_port(sheet: &Sheet, ((states, starts), (columns, values)): &mut RowLists<i32>) -> i64 {
-    port::build_csr(black_box(&sheet.bytes), coupling(port::u1_params), true, &sheet.weights, states, starts, columns, values)
+    calls::build_csr(black_box(&sheet.bytes), coupling(calls::u1_params), true, &sheet.weights, states, starts, columns, values)
 }
 
 pub fn su2_by_port(sheet: &Sheet, ((states, starts), (columns, values)): &mut RowLists<u64>) -> i64 {
-    port::build_csr_su2(black_box(&sheet.bytes), coupling(port::su2_params), true, &sheet.weights, states, starts, columns, values)
+    calls::build_csr_su2(
+        black_box(&sheet.bytes),
+        coupling(calls::su2_params),
+        true,
+        &sheet.weights,
+        states,
+        starts,
+        columns,
+        values,
+    )
 }
 
 pub fn u1_by_rust(sheet: &Sheet) -> (U1HilbertSpace, CsrMatrix) {

@@ -5,6 +5,7 @@ use phyz_quantum::hilbert::U1HilbertSpace;
 use phyz_quantum::su2_quantum::Su2HilbertSpace;
 use phyz_regge::SimplicialComplex;
 use std::hint::black_box;
+use zibrotka::calls;
 
 pub const G_SQUARED: f64 = 3.0;
 
@@ -30,19 +31,19 @@ impl Sheet {
     }
 
     pub fn u1_states(&self) -> usize {
-        number(port::count_states(&self.bytes))
+        number(calls::count_states(&self.bytes))
     }
 
     pub fn u1_entries(&self) -> usize {
-        number(port::count_entries(&self.bytes))
+        number(calls::count_entries(&self.bytes))
     }
 
     pub fn su2_states(&self) -> usize {
-        number(port::su2_count_states(&self.bytes))
+        number(calls::su2_count_states(&self.bytes))
     }
 
     pub fn su2_entries(&self) -> usize {
-        number(port::su2_count_entries(&self.bytes))
+        number(calls::su2_count_entries(&self.bytes))
     }
 
     /// The Rust's basis with its map, and what is made with it.
@@ -108,7 +109,7 @@ fn bytes(record: &SimplicialComplex, lambda: u32) -> Vec<u8> {
     let edges: Vec<u8> = record.edges.iter().flatten().map(|&vertex| vertex as u8).collect();
     let triangles: Vec<u8> = record.triangles.iter().flatten().map(|&vertex| vertex as u8).collect();
     let mut sheet = vec![0; 11 + edges.len() + triangles.len()];
-    let written = port::make_sheet(record.n_vertices as u64, &edges, &triangles, lambda.into(), &mut sheet);
+    let written = calls::make_sheet(record.n_vertices as u64, &edges, &triangles, lambda.into(), &mut sheet);
     assert_eq!(written, sheet.len() as i64);
     sheet
 }

@@ -5,6 +5,7 @@ use crate::sheets::{Sheet, complete, large};
 use crate::table::{Line, timed};
 use phyz_quantum::gauss_law::enumerate_gauge_invariant;
 use std::hint::black_box;
+use zibrotka::calls;
 
 pub fn u1() -> String {
     let sheets = large().into_iter().chain([complete(4, 0).with(1), complete(3, 0).with(1)]);
@@ -14,7 +15,7 @@ pub fn u1() -> String {
 fn listed(sheet: &Sheet) -> Line {
     let times = compared(
         &[],
-        |states: &mut Vec<i32>| port::enumerate_gauge_invariant(black_box(&sheet.bytes), states),
+        |states: &mut Vec<i32>| calls::enumerate_gauge_invariant(black_box(&sheet.bytes), states),
         || enumerate_gauge_invariant(black_box(&sheet.record), sheet.lambda),
         |states| (states.len() as i64, states.concat()),
     );
@@ -28,7 +29,7 @@ pub fn su2() -> String {
 fn masks(sheet: &Sheet) -> Line {
     let times = compared(
         &[],
-        |states: &mut Vec<u64>| port::su2_basis(black_box(&sheet.bytes), states),
+        |states: &mut Vec<u64>| calls::su2_basis(black_box(&sheet.bytes), states),
         || sheet.su2(|_| ()),
         |(space, ())| (space.dim() as i64, space.basis),
     );

@@ -5,6 +5,7 @@ use crate::sheets::{G_SQUARED, Sheet, amplitudes, complete, coupling};
 use crate::table::{Line, timed};
 use phyz_quantum::su2_quantum::{su2_hamiltonian_matvec, su2_wilson_loop};
 use std::hint::black_box;
+use zibrotka::calls;
 
 /// The basis and floats.
 type Lists = (Vec<u64>, Vec<f64>);
@@ -17,11 +18,11 @@ pub fn table() -> String {
 fn product(sheet: &Sheet) -> Line {
     let states = sheet.su2_states();
     let (list, vector) = amplitudes(states);
-    let coupling = coupling(port::su2_params);
+    let coupling = coupling(calls::su2_params);
     let times = compared(
         &[&list],
         |(states, result): &mut Lists| {
-            port::su2_hamiltonian_matvec(black_box(&sheet.bytes), coupling, true, &sheet.weights, &list, states, result)
+            calls::su2_hamiltonian_matvec(black_box(&sheet.bytes), coupling, true, &sheet.weights, &list, states, result)
         },
         || sheet.su2(|space| su2_hamiltonian_matvec(black_box(&vector), space, &sheet.record, G_SQUARED, Some(&sheet.weights))),
         |(space, product)| (space.dim() as i64, (space.basis, product.iter().copied().collect())),
@@ -41,7 +42,7 @@ fn along(sheet: &Sheet) -> Line {
     let (edges, path) = first_triangle(sheet);
     let times = compared(
         &[&list],
-        |(states, result): &mut Lists| port::su2_wilson_loop(black_box(&sheet.bytes), &list, &path, states, &mut result[0]),
+        |(states, result): &mut Lists| calls::su2_wilson_loop(black_box(&sheet.bytes), &list, &path, states, &mut result[0]),
         || sheet.su2(|space| su2_wilson_loop(space, black_box(&vector), &edges)),
         |(space, expectation)| (0, (space.basis, vec![expectation])),
     );

@@ -8,6 +8,7 @@ use phyz_quantum::gauss_law::{check_gauss_law, spanning_tree};
 use phyz_quantum::observables::fundamental_loops;
 use phyz_quantum::su2_quantum::su2_fundamental_loops;
 use std::hint::black_box;
+use zibrotka::calls;
 
 pub fn table() -> String {
     let sheets = [complete(3, 0), complete(5, 0), complete(11, 0), chain(32, 15), chain(58, 6), chain(64, 0)];
@@ -18,7 +19,7 @@ fn tree(sheet: &Sheet) -> Line {
     let numbers = |edges: Vec<usize>| edges.into_iter().map(|edge| edge as u32).collect();
     let times = compared(
         &[&sheet.bytes],
-        |(tree, free): &mut (Vec<u32>, Vec<u32>)| port::spanning_tree(black_box(&sheet.bytes), tree, free),
+        |(tree, free): &mut (Vec<u32>, Vec<u32>)| calls::spanning_tree(black_box(&sheet.bytes), tree, free),
         || spanning_tree(black_box(&sheet.record)),
         |(tree, free)| (free.len() as i64, (numbers(tree), numbers(free))),
     );
@@ -29,7 +30,7 @@ fn loops(sheet: &Sheet) -> Line {
     let times = compared(
         &[&sheet.bytes],
         |(starts, (edges, directions)): &mut (Vec<u32>, (Vec<u8>, Vec<i8>))| {
-            port::fundamental_loops(black_box(&sheet.bytes), starts, edges, directions)
+            calls::fundamental_loops(black_box(&sheet.bytes), starts, edges, directions)
         },
         || fundamental_loops(black_box(&sheet.record)),
         |loops| (loops.len() as i64, (starts(&loops), steps(&loops.concat()))),
@@ -40,7 +41,7 @@ fn loops(sheet: &Sheet) -> Line {
 fn su2_loops(sheet: &Sheet) -> Line {
     let times = compared(
         &[&sheet.bytes],
-        |(starts, edges): &mut (Vec<u32>, Vec<u8>)| port::su2_fundamental_loops(black_box(&sheet.bytes), starts, edges),
+        |(starts, edges): &mut (Vec<u32>, Vec<u8>)| calls::su2_fundamental_loops(black_box(&sheet.bytes), starts, edges),
         || su2_fundamental_loops(black_box(&sheet.record)),
         |loops| (loops.len() as i64, (starts(&loops), loops.iter().flatten().map(|&edge| edge as u8).collect())),
     );
@@ -64,7 +65,7 @@ fn law(sheet: &Sheet) -> Line {
     }
     let times = compared(
         &[&sheet.bytes, &configuration],
-        |()| port::check_gauss_law(black_box(&sheet.bytes), &configuration),
+        |()| calls::check_gauss_law(black_box(&sheet.bytes), &configuration),
         || check_gauss_law(black_box(&sheet.record), &configuration),
         |lawful| (lawful.into(), ()),
     );

@@ -11,6 +11,7 @@ use crate::sheets::{hexadecimal, sheet_size, simpler_sheets};
 use crate::shrink::{simpler_lambdas, simpler_weights};
 use crate::weights::{self, Weights};
 use crate::{entries, floats};
+use zibrotka::calls;
 
 /// Up to so many states every sum is added up by its definition as well.
 const FEW: usize = 24;
@@ -114,7 +115,7 @@ impl Case for Applied {
         let mut result = Lent::<f64>::new("result", rooms[1]);
         let Ask { coupling, weights: Weights { given, list }, .. } = &self.ask;
         let answer =
-            port::hamiltonian_matvec(&self.given.bytes, *coupling, *given, list, &self.vector, states.list(), result.list());
+            calls::hamiltonian_matvec(&self.given.bytes, *coupling, *given, list, &self.vector, states.list(), result.list());
         self.given.told(answer, expected.map(Basis::count), &states)?;
         match expected {
             Ok(basis) => result.holds(&self.product(basis)?),
@@ -205,7 +206,7 @@ impl Case for Squares {
         tally.count(Kind::Squares, expected.err().unwrap_or(0));
         let mut states = Lent::<i32>::new("states", rooms[0]);
         let mut result = Lent::<f64>::new("result", rooms[1]);
-        let answer = port::electric_field_sq(&self.given.bytes, &self.amplitudes, states.list(), result.list());
+        let answer = calls::electric_field_sq(&self.given.bytes, &self.amplitudes, states.list(), result.list());
         self.given.told(answer, expected.map(|_| n_edges), &states)?;
         match expected {
             Ok(basis) => result.holds(&self.squares(basis)?),
@@ -310,7 +311,8 @@ impl Case for Expected {
         let mut states = Lent::<i32>::new("states", work);
         let mut expectation = Lent::<f64>::new("expectation", 1);
         let Path { edges, directions } = &self.path;
-        let answer = port::wilson_loop(&self.given.bytes, &self.amplitudes, edges, directions, states.list(), expectation.number());
+        let answer =
+            calls::wilson_loop(&self.given.bytes, &self.amplitudes, edges, directions, states.list(), expectation.number());
         self.given.told(answer, expected.map(|_| 0), &states)?;
         match expected {
             Ok(basis) => expectation.holds(&self.expectation(basis)?),

@@ -6,6 +6,7 @@ use crate::floats;
 use crate::lent::Lent;
 use crate::pentachora::same_answer;
 use crate::random::Random;
+use zibrotka::calls;
 
 /// The ends of the range of g², 2^-32 and 2^32.
 pub const ENDS: [f64; 2] = [1.0 / 4_294_967_296.0, 4_294_967_296.0];
@@ -68,8 +69,8 @@ impl Mode {
 
     fn call(self, g_squared: f64, params: &mut [f64; 3]) -> i64 {
         match self {
-            Mode::U1 => port::u1_params(g_squared, params),
-            Mode::Su2 => port::su2_params(g_squared, params),
+            Mode::U1 => calls::u1_params(g_squared, params),
+            Mode::Su2 => calls::su2_params(g_squared, params),
         }
     }
 }

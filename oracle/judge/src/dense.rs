@@ -10,6 +10,7 @@ use crate::sheets::{hexadecimal, sheet_size};
 use crate::shrink::{simpler_lambdas, simpler_weights};
 use crate::weights::Weights;
 use crate::{entries, floats};
+use zibrotka::calls;
 
 /// Up to so many states every entry is added up by its definition as well.
 const FEW: usize = 24;
@@ -61,7 +62,7 @@ impl Matrix for Basis {
     }
 
     fn call(sheet: &[u8], ask: &Ask<2>, states: &mut [i32], result: &mut [f64]) -> i64 {
-        port::build_hamiltonian(sheet, ask.coupling, ask.weights.given, &ask.weights.list, states, result)
+        calls::build_hamiltonian(sheet, ask.coupling, ask.weights.given, &ask.weights.list, states, result)
     }
 }
 
@@ -87,7 +88,7 @@ impl Matrix for EvenSets {
     }
 
     fn call(sheet: &[u8], ask: &Ask<2>, states: &mut [u64], result: &mut [f64]) -> i64 {
-        port::build_su2_hamiltonian(sheet, ask.coupling, ask.weights.given, &ask.weights.list, states, result)
+        calls::build_su2_hamiltonian(sheet, ask.coupling, ask.weights.given, &ask.weights.list, states, result)
     }
 }
 

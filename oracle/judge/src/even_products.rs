@@ -12,6 +12,7 @@ use crate::masks::EvenSets;
 use crate::sheets::{hexadecimal, sheet_size, simpler_sheets};
 use crate::shrink::simpler_weights;
 use crate::weights::{MOST, Weights};
+use zibrotka::calls;
 
 /// Up to so many states every sum is added up by its definition as well.
 const FEW: usize = 24;
@@ -84,7 +85,7 @@ impl Case for EvenProduct {
         let mut states = Lent::<u64>::new("states", rooms[0]);
         let mut result = Lent::<f64>::new("result", rooms[1]);
         let Ask { coupling, weights, .. } = &self.ask;
-        let answer = port::su2_hamiltonian_matvec(
+        let answer = calls::su2_hamiltonian_matvec(
             &self.given.bytes,
             *coupling,
             weights.given,
@@ -209,8 +210,8 @@ impl Case for EvenLoop {
         let mut states = Lent::<u64>::new("states", room);
         let mut expectation = Lent::<f64>::new("expectation", 1);
         let call = match self.reading {
-            Reading::EdgeSet => port::su2_wilson_loop,
-            Reading::Passes => port::su2_wilson_passes,
+            Reading::EdgeSet => calls::su2_wilson_loop,
+            Reading::Passes => calls::su2_wilson_passes,
         };
         let answer = call(&self.given.bytes, &self.vector, &self.path, states.list(), expectation.number());
         self.given.told(answer, expected.map(|_| 0), &states)?;

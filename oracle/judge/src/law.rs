@@ -9,6 +9,7 @@ use crate::reference::{self, MOST_EDGES};
 use crate::rust;
 use crate::sheets::{hexadecimal, sheet_size, simpler_sheets};
 use crate::shrink::{configuration_size, simpler_configurations};
+use zibrotka::calls;
 
 /// `spanning_tree` of any bytes.
 #[derive(Clone)]
@@ -37,7 +38,7 @@ impl Case for SpanningTree {
 
         let mut tree = Lent::<u32>::new("tree", tree_room);
         let mut free_edges = Lent::<u32>::new("free_edges", free_room);
-        let answer = port::spanning_tree(&self.sheet, tree.list(), free_edges.list());
+        let answer = calls::spanning_tree(&self.sheet, tree.list(), free_edges.list());
         tally.count(Kind::Trees, expected.as_ref().err().copied().unwrap_or(0));
         match expected {
             Ok((numbers, free)) => {
@@ -102,7 +103,7 @@ impl Case for GaussLaw {
             (false, _) => (Kind::NotLawfulBeyond, Kind::VertexFoundBeyond),
         };
         tally.count(kind, lawful.err().unwrap_or(0));
-        let answer = port::check_gauss_law(&self.sheet, &self.configuration);
+        let answer = calls::check_gauss_law(&self.sheet, &self.configuration);
         same_answer(answer, lawful.map_or_else(|number| -i64::from(number), i64::from))?;
 
         tally.count(with_finding, lawful.err().unwrap_or(0));
@@ -110,7 +111,7 @@ impl Case for GaussLaw {
         tally.found(Teller::Law, &faults);
         let mut lent = Numbers::lent();
         let Numbers { vertex, excess, .. } = &mut lent;
-        let with = port::check_gauss_law_finding(&self.sheet, &self.configuration, vertex.number(), excess.number());
+        let with = calls::check_gauss_law_finding(&self.sheet, &self.configuration, vertex.number(), excess.number());
         let judged = told_the_same(answer, with).and_then(|()| lent.hold(faults.finding()));
         judged.map_err(|what| Teller::Law.differs(&what))
     }

@@ -7,6 +7,7 @@ use crate::reference::{self, Sheet};
 use crate::rust;
 use crate::sheets::{hexadecimal, sheet_size, simpler_sheets};
 use crate::shrink::simpler_lambdas;
+use zibrotka::calls;
 
 /// Up to so many assignments the definition itself is tried as well.
 const FEW: u64 = 3_000;
@@ -57,7 +58,7 @@ impl Case for Listing {
             expected = Err(15);
         }
         let mut lent = Lent::<i32>::new("states", room);
-        let answer = port::enumerate_gauge_invariant(&self.sheet, lent.list());
+        let answer = calls::enumerate_gauge_invariant(&self.sheet, lent.list());
         tally.count(Kind::Listings, expected.as_ref().err().copied().unwrap_or(0));
         match expected {
             Ok((count, states)) => {

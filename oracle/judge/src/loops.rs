@@ -6,6 +6,7 @@ use crate::pentachora::same_answer;
 use crate::reference;
 use crate::rust;
 use crate::sheets::{hexadecimal, sheet_size, simpler_sheets};
+use zibrotka::calls;
 
 /// Both calls on any bytes. The directions have so many entries more than needed, or less.
 #[derive(Clone)]
@@ -66,7 +67,7 @@ impl Case for Loops {
         let mut starts = Lent::<u32>::new("starts", starts_room);
         let mut edges = Lent::<u8>::new("edges", edges_room);
         let mut directions = Lent::<i8>::new("directions", directions_room);
-        let answer = port::fundamental_loops(&self.sheet, starts.list(), edges.list(), directions.list());
+        let answer = calls::fundamental_loops(&self.sheet, starts.list(), edges.list(), directions.list());
         let expected = refusal(short || directions_room < need.1);
         tally.count(Kind::Loops, expected);
         match &by_rust {
@@ -86,7 +87,7 @@ impl Case for Loops {
 
         let mut starts = Lent::<u32>::new("starts", starts_room);
         let mut edges = Lent::<u8>::new("edges", edges_room);
-        let answer = port::su2_fundamental_loops(&self.sheet, starts.list(), edges.list());
+        let answer = calls::su2_fundamental_loops(&self.sheet, starts.list(), edges.list());
         let expected = refusal(short);
         tally.count(Kind::Su2Loops, expected);
         match &by_rust {

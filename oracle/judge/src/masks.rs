@@ -8,6 +8,7 @@ use crate::reference::{self, Sheet};
 use crate::rust::Su2Space;
 use crate::sheets::{hexadecimal, sheet_size, simpler_sheets};
 use crate::shrink::simpler_lambdas;
+use zibrotka::calls;
 
 /// Up to so many edges every set of them is tried as well.
 const FEW: usize = 16;
@@ -84,7 +85,7 @@ impl Case for Masks {
         let room = lent::length(need as usize, self.spare);
         let expected = self.expected(room)?;
         let mut lent = Lent::<u64>::new("states", room);
-        let answer = port::su2_basis(&self.sheet, lent.list());
+        let answer = calls::su2_basis(&self.sheet, lent.list());
         tally.count(Kind::Masks, expected.as_ref().err().copied().unwrap_or(0));
         match expected {
             Ok(masks) => {

@@ -3,6 +3,7 @@
 use crate::case::{Case, Kind, Tally};
 use crate::lent::{Lent, Room};
 use crate::{reference, rust};
+use zibrotka::calls;
 
 #[derive(Clone)]
 pub struct FromPentachora {
@@ -14,7 +15,7 @@ pub struct FromPentachora {
 impl Case for FromPentachora {
     fn compare(&self, tally: &mut Tally) -> Result<(), String> {
         let mut expected = reference::pentachora(self.n_vertices, &self.list);
-        let mut need = (port::EDGE_BYTES, port::TRIANGLE_BYTES);
+        let mut need = (calls::EDGE_BYTES, calls::TRIANGLE_BYTES);
         let mut faces = None;
         if expected.is_ok() {
             let by_rust = rust::lists(&rust::from_pentachora(self.n_vertices, &self.list));
@@ -32,7 +33,7 @@ impl Case for FromPentachora {
         let mut edges = Lent::<u8>::new("edges", edge_room);
         let mut triangles = Lent::<u8>::new("triangles", triangle_room);
         let mut n_triangles = Lent::<u64>::new("n_triangles", 1);
-        let answer = port::from_pentachorons(self.n_vertices, &self.list, edges.list(), triangles.list(), n_triangles.number());
+        let answer = calls::from_pentachorons(self.n_vertices, &self.list, edges.list(), triangles.list(), n_triangles.number());
         match (expected, faces) {
             (Ok(()), Some(faces)) => {
                 tally.count(Kind::FromPentachora, 0);

@@ -7,6 +7,7 @@ use crate::lent;
 use crate::reference;
 use crate::sheets::{hexadecimal, sheet_size};
 use crate::shrink::{configuration_size, simpler_configurations, simpler_lambdas};
+use zibrotka::calls;
 
 /// `config_to_index` of any bytes and values, without a finding and with one.
 #[derive(Clone)]
@@ -35,13 +36,13 @@ impl Place {
 impl Case for Place {
     fn compare(&self, tally: &mut Tally) -> Result<(), String> {
         let expected = |basis: &Basis, room: usize| self.expected(basis, room);
-        let call = |sheet: &[u8], states: &mut [i32]| port::config_to_index(sheet, &self.configuration, states);
+        let call = |sheet: &[u8], states: &mut [i32]| calls::config_to_index(sheet, &self.configuration, states);
         let (answer, states) = self.given.compare(Kind::Places, self.spare, expected, call, tally)?;
 
         let mut lent = Numbers::lent();
         let Numbers { vertex, excess, edge } = &mut lent;
         let call = |sheet: &[u8], states: &mut [i32]| {
-            port::config_to_index_finding(sheet, &self.configuration, states, vertex.number(), excess.number(), edge.number())
+            calls::config_to_index_finding(sheet, &self.configuration, states, vertex.number(), excess.number(), edge.number())
         };
         let with = self.given.compare(Kind::PlacesOrFindings, self.spare, expected, call, tally);
         let faults = match self.given.basis()? {

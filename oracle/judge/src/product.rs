@@ -5,6 +5,7 @@ use crate::lent::{self, Lent};
 use crate::pentachora::same_answer;
 use crate::rust::{self, RowLists};
 use crate::{floats, weights};
+use zibrotka::calls;
 
 /// 2^80, the largest value; its negative is the smallest. An amplitude is bounded as a weight is.
 pub const MOST_VALUE: f64 = 1_208_925_819_614_629_174_706_176.0;
@@ -51,7 +52,7 @@ impl Case for Product {
         tally.count(Kind::Products, expected.err().unwrap_or(0));
         let mut result = Lent::<f64>::new("result", room);
         let RowLists { starts, columns, values } = &self.rows;
-        let answer = port::matvec(starts, columns, values, &self.vector, result.list());
+        let answer = calls::matvec(starts, columns, values, &self.vector, result.list());
         same_answer(answer, expected.map_or_else(|number| -i64::from(number), |()| 0))?;
         if expected.is_err() {
             return result.unchanged();

@@ -12,6 +12,7 @@ use crate::sheets::{hexadecimal, sheet_size, simpler_sheets};
 use crate::shrink::{simpler_lambdas, simpler_weights};
 use crate::weights::Weights;
 use crate::{entries, floats};
+use zibrotka::calls;
 
 /// Up to so many states every entry is added up by its definition as well.
 const FEW: usize = 24;
@@ -46,11 +47,11 @@ impl Rowed for Basis {
     }
 
     fn count_states(sheet: &[u8]) -> i64 {
-        port::count_states(sheet)
+        calls::count_states(sheet)
     }
 
     fn count_entries(sheet: &[u8]) -> i64 {
-        port::count_entries(sheet)
+        calls::count_entries(sheet)
     }
 }
 
@@ -67,11 +68,11 @@ impl Rowed for EvenSets {
     }
 
     fn count_states(sheet: &[u8]) -> i64 {
-        port::su2_count_states(sheet)
+        calls::su2_count_states(sheet)
     }
 
     fn count_entries(sheet: &[u8]) -> i64 {
-        port::su2_count_entries(sheet)
+        calls::su2_count_entries(sheet)
     }
 }
 
@@ -167,7 +168,7 @@ impl Csr for Basis {
         columns: &mut [u32],
         values: &mut [f64],
     ) -> i64 {
-        port::build_csr(sheet, ask.coupling, ask.weights.given, &ask.weights.list, states, starts, columns, values)
+        calls::build_csr(sheet, ask.coupling, ask.weights.given, &ask.weights.list, states, starts, columns, values)
     }
 }
 
@@ -183,7 +184,7 @@ impl Csr for EvenSets {
         columns: &mut [u32],
         values: &mut [f64],
     ) -> i64 {
-        port::build_csr_su2(sheet, ask.coupling, ask.weights.given, &ask.weights.list, states, starts, columns, values)
+        calls::build_csr_su2(sheet, ask.coupling, ask.weights.given, &ask.weights.list, states, starts, columns, values)
     }
 }
 

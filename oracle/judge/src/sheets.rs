@@ -5,6 +5,7 @@ use crate::lent::{self, Lent};
 use crate::pentachora::same_answer;
 use crate::reference::{self, Complex, HEADER, Sheet};
 use crate::rust;
+use zibrotka::calls;
 
 /// Everything that `read_sheet` fills, lent with a pattern.
 struct Fields {
@@ -23,10 +24,10 @@ impl Fields {
             n_edges: Lent::new("n_edges", 1),
             n_triangles: Lent::new("n_triangles", 1),
             lambda: Lent::new("lambda", 1),
-            edges: Lent::new("edges", port::EDGE_BYTES),
-            triangles: Lent::new("triangles", port::TRIANGLE_BYTES),
+            edges: Lent::new("edges", calls::EDGE_BYTES),
+            triangles: Lent::new("triangles", calls::TRIANGLE_BYTES),
         };
-        let answer = port::read_sheet(
+        let answer = calls::read_sheet(
             bytes,
             fields.n_vertices.number(),
             fields.n_edges.number(),
@@ -87,7 +88,7 @@ impl Case for MakeSheet {
         let room = lent::length(need, self.spare);
         let expected = reference::make_sheet(self.n_vertices, &self.edges, &self.triangles, self.lambda, room);
         let mut lent = Lent::<u8>::new("sheet", room);
-        let answer = port::make_sheet(self.n_vertices, &self.edges, &self.triangles, self.lambda, lent.list());
+        let answer = calls::make_sheet(self.n_vertices, &self.edges, &self.triangles, self.lambda, lent.list());
         tally.count(Kind::SheetMade, expected.as_ref().err().copied().unwrap_or(0));
         match expected {
             Err(number) => {
@@ -194,7 +195,7 @@ impl Case for ReadSheet {
                 tally.count(Kind::WrittenAgain, 0);
                 let (n_edges, n_triangles) = (*fields.n_edges.number() as usize, *fields.n_triangles.number() as usize);
                 let mut again = Lent::<u8>::new("sheet", self.bytes.len() + 5);
-                let answer = port::make_sheet(
+                let answer = calls::make_sheet(
                     *fields.n_vertices.number(),
                     &fields.edges.list()[..2 * n_edges],
                     &fields.triangles.list()[..3 * n_triangles],
@@ -230,7 +231,7 @@ impl TriangleEdges {
     fn one(&self, triangle: u64, expected: Result<[u64; 3], u8>, tally: &mut Tally) -> Result<(), String> {
         tally.count(Kind::TriangleEdges, expected.err().unwrap_or(0));
         let mut indices = Lent::<u64>::new("indices", 3);
-        let answer = port::tri_edge_indices(&self.sheet, triangle, indices.array());
+        let answer = calls::tri_edge_indices(&self.sheet, triangle, indices.array());
         let compared = match expected {
             Ok(numbers) => same_answer(answer, 0).and_then(|()| indices.holds(&numbers)),
             Err(number) => same_answer(answer, -i64::from(number)).and_then(|()| indices.unchanged()),

@@ -8,6 +8,7 @@ use crate::lent::{self, Lent, Room};
 use crate::reference::{self, MOST_EDGES};
 use crate::sheets::{hexadecimal, sheet_size, simpler_sheets};
 use crate::shrink::{configuration_size, simpler_configurations, simpler_lambdas};
+use zibrotka::calls;
 
 /// `apply_shift` of any bytes, values and numbers, without a finding and with one.
 #[derive(Clone)]
@@ -49,8 +50,8 @@ impl EdgeShift {
         let (mut states, mut result) = (Lent::new("states", rooms.0), Lent::new("result", rooms.1));
         let (sheet, configuration, shifted, delta) = (&self.given.bytes, &self.configuration, self.edge, self.delta);
         let answer = match numbers {
-            None => port::apply_shift(sheet, configuration, shifted, delta, states.list(), result.list()),
-            Some(Numbers { vertex, excess, edge }) => port::apply_shift_finding(
+            None => calls::apply_shift(sheet, configuration, shifted, delta, states.list(), result.list()),
+            Some(Numbers { vertex, excess, edge }) => calls::apply_shift_finding(
                 sheet,
                 configuration,
                 shifted,
@@ -193,7 +194,7 @@ impl TriangleShift {
 
 impl Case for TriangleShift {
     fn compare(&self, tally: &mut Tally) -> Result<(), String> {
-        let call = |sheet: &[u8], states: &mut [i32]| port::apply_triangle_shift(sheet, self.triangle, self.state, states);
+        let call = |sheet: &[u8], states: &mut [i32]| calls::apply_triangle_shift(sheet, self.triangle, self.state, states);
         self.given.compare(Kind::TriangleShifts, self.spare, |basis, room| self.expected(basis, room), call, tally)?;
         Ok(())
     }

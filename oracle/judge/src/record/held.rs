@@ -3,6 +3,7 @@
 use super::layout::{Call, Field, Fields, Number};
 use crate::lent::{Lent, Pattern};
 use crate::pentachora::same_answer;
+use zibrotka::calls;
 
 /// A list that a call does not leave.
 type No = [u8];
@@ -15,39 +16,41 @@ pub fn hold(call: Call, case: &Fields) -> Result<(), String> {
         Call::FromPentachorons => {
             let ([vertices], list) = (case.array(Field::Numbers)?, case.list::<u64>(Field::Pentachora)?);
             held.by(|edges, triangles, count: &mut [u64], _| {
-                port::from_pentachorons(vertices, &list, edges, triangles, &mut count[0])
+                calls::from_pentachorons(vertices, &list, edges, triangles, &mut count[0])
             })
         }
         Call::TriEdgeIndices => {
             let [triangle] = case.array(Field::Numbers)?;
             held.by(|numbers, _: &mut No, _: &mut No, _| {
-                port::tri_edge_indices(sheet, triangle, numbers.try_into().expect("three are lent"))
+                calls::tri_edge_indices(sheet, triangle, numbers.try_into().expect("three are lent"))
             })
         }
-        Call::SpanningTree => held.by(|tree, free, _: &mut No, _| port::spanning_tree(sheet, tree, free)),
-        Call::FundamentalLoops => held.by(|edges, starts, directions, _| port::fundamental_loops(sheet, starts, edges, directions)),
-        Call::Su2FundamentalLoops => held.by(|edges, starts, _: &mut No, _| port::su2_fundamental_loops(sheet, starts, edges)),
-        Call::CheckGaussLaw => held.told(port::check_gauss_law(sheet, &case.list(Field::Configuration)?)),
-        Call::CountStates => held.told(port::count_states(sheet)),
-        Call::CountEntries => held.told(port::count_entries(sheet)),
-        Call::Su2CountStates => held.told(port::su2_count_states(sheet)),
-        Call::Su2CountEntries => held.told(port::su2_count_entries(sheet)),
-        Call::EnumerateGaugeInvariant => {
-            held.by(|states, _: &mut No, _: &mut No, _| port::enumerate_gauge_invariant(sheet, states))
+        Call::SpanningTree => held.by(|tree, free, _: &mut No, _| calls::spanning_tree(sheet, tree, free)),
+        Call::FundamentalLoops => {
+            held.by(|edges, starts, directions, _| calls::fundamental_loops(sheet, starts, edges, directions))
         }
-        Call::Su2Basis => held.by(|masks, _: &mut No, _: &mut No, _| port::su2_basis(sheet, masks)),
+        Call::Su2FundamentalLoops => held.by(|edges, starts, _: &mut No, _| calls::su2_fundamental_loops(sheet, starts, edges)),
+        Call::CheckGaussLaw => held.told(calls::check_gauss_law(sheet, &case.list(Field::Configuration)?)),
+        Call::CountStates => held.told(calls::count_states(sheet)),
+        Call::CountEntries => held.told(calls::count_entries(sheet)),
+        Call::Su2CountStates => held.told(calls::su2_count_states(sheet)),
+        Call::Su2CountEntries => held.told(calls::su2_count_entries(sheet)),
+        Call::EnumerateGaugeInvariant => {
+            held.by(|states, _: &mut No, _: &mut No, _| calls::enumerate_gauge_invariant(sheet, states))
+        }
+        Call::Su2Basis => held.by(|masks, _: &mut No, _: &mut No, _| calls::su2_basis(sheet, masks)),
         Call::ConfigToIndex => {
             let configuration = case.list::<i32>(Field::Configuration)?;
-            held.by(|states, _: &mut No, _: &mut No, _| port::config_to_index(sheet, &configuration, states))
+            held.by(|states, _: &mut No, _: &mut No, _| calls::config_to_index(sheet, &configuration, states))
         }
         Call::ApplyShift => {
             let ([edge], [delta]) = (case.array(Field::Numbers)?, case.array(Field::Delta)?);
             let configuration = case.list::<i32>(Field::Configuration)?;
-            held.by(|states, shifted, _: &mut No, _| port::apply_shift(sheet, &configuration, edge, delta, states, shifted))
+            held.by(|states, shifted, _: &mut No, _| calls::apply_shift(sheet, &configuration, edge, delta, states, shifted))
         }
         Call::ApplyTriangleShift => {
             let [triangle, state] = case.array(Field::Numbers)?;
-            held.by(|states, _: &mut No, _: &mut No, _| port::apply_triangle_shift(sheet, triangle, state, states))
+            held.by(|states, _: &mut No, _: &mut No, _| calls::apply_triangle_shift(sheet, triangle, state, states))
         }
         _ => floats(held, sheet),
     }
@@ -64,56 +67,58 @@ fn floats(held: Held, sheet: &[u8]) -> Result<(), String> {
     match call {
         Call::BuildHamiltonian => {
             let (coupling, given) = (coupling()?, given()?);
-            held.by(|states, _: &mut No, _: &mut No, matrix| port::build_hamiltonian(sheet, coupling, given, &list, states, matrix))
+            held.by(|states, _: &mut No, _: &mut No, matrix| {
+                calls::build_hamiltonian(sheet, coupling, given, &list, states, matrix)
+            })
         }
         Call::BuildSu2Hamiltonian => {
             let (coupling, given) = (coupling()?, given()?);
             held.by(|masks, _: &mut No, _: &mut No, matrix| {
-                port::build_su2_hamiltonian(sheet, coupling, given, &list, masks, matrix)
+                calls::build_su2_hamiltonian(sheet, coupling, given, &list, masks, matrix)
             })
         }
         Call::BuildCsr => {
             let (coupling, given) = (coupling()?, given()?);
             held.by(|states, starts, columns, values| {
-                port::build_csr(sheet, coupling, given, &list, states, starts, columns, values)
+                calls::build_csr(sheet, coupling, given, &list, states, starts, columns, values)
             })
         }
         Call::BuildCsrSu2 => {
             let (coupling, given) = (coupling()?, given()?);
             held.by(|masks, starts, columns, values| {
-                port::build_csr_su2(sheet, coupling, given, &list, masks, starts, columns, values)
+                calls::build_csr_su2(sheet, coupling, given, &list, masks, starts, columns, values)
             })
         }
         Call::HamiltonianMatvec => {
             let (coupling, given) = (coupling()?, given()?);
             held.by(|states, _: &mut No, _: &mut No, product| {
-                port::hamiltonian_matvec(sheet, coupling, given, &list, &vector, states, product)
+                calls::hamiltonian_matvec(sheet, coupling, given, &list, &vector, states, product)
             })
         }
         Call::Su2HamiltonianMatvec => {
             let (coupling, given) = (coupling()?, given()?);
             held.by(|masks, _: &mut No, _: &mut No, product| {
-                port::su2_hamiltonian_matvec(sheet, coupling, given, &list, &vector, masks, product)
+                calls::su2_hamiltonian_matvec(sheet, coupling, given, &list, &vector, masks, product)
             })
         }
         Call::ElectricFieldSq => {
-            held.by(|states, _: &mut No, _: &mut No, squares| port::electric_field_sq(sheet, &vector, states, squares))
+            held.by(|states, _: &mut No, _: &mut No, squares| calls::electric_field_sq(sheet, &vector, states, squares))
         }
         Call::WilsonLoop => {
             let directions = case.list::<i8>(Field::Directions)?;
             held.by(|states, _: &mut No, _: &mut No, floats| {
-                port::wilson_loop(sheet, &vector, path, &directions, states, &mut floats[0])
+                calls::wilson_loop(sheet, &vector, path, &directions, states, &mut floats[0])
             })
         }
         Call::Su2WilsonLoop => {
-            held.by(|masks, _: &mut No, _: &mut No, floats| port::su2_wilson_loop(sheet, &vector, path, masks, &mut floats[0]))
+            held.by(|masks, _: &mut No, _: &mut No, floats| calls::su2_wilson_loop(sheet, &vector, path, masks, &mut floats[0]))
         }
         Call::Su2WilsonPasses => {
-            held.by(|masks, _: &mut No, _: &mut No, floats| port::su2_wilson_passes(sheet, &vector, path, masks, &mut floats[0]))
+            held.by(|masks, _: &mut No, _: &mut No, floats| calls::su2_wilson_passes(sheet, &vector, path, masks, &mut floats[0]))
         }
         Call::Matvec => {
             let (starts, columns) = (case.list::<u32>(Field::First)?, case.list::<u32>(Field::Second)?);
-            held.by(|_: &mut No, _: &mut No, _: &mut No, product| port::matvec(&starts, &columns, &list, &vector, product))
+            held.by(|_: &mut No, _: &mut No, _: &mut No, product| calls::matvec(&starts, &columns, &list, &vector, product))
         }
         _ => Err(format!("{call:?} leaves no floats")),
     }
