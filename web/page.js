@@ -115,10 +115,10 @@
   const textsIn = (form) => Object.fromEntries(Array.from(at(form).elements, ({ id, value }) => [id, value]));
   const stillIn = (form, typed) => Object.entries(textsIn(form)).every(([id, text]) => typed[id] === text);
 
-  /* Runs a job on the list that is shown now. If another list is in use when its turn comes, it is dropped. */
+  /* Runs a job on the list that is shown now. If another list is in use when its turn comes, that is told at `id` in its stead. */
   function onList(id, job) {
     const { list } = page;
-    inTurn(id, () => (list !== null && list === page.list ? job() : undefined));
+    inTurn(id, () => (list !== null && list === page.list ? job() : say(id, "The states have changed since. Press again.", "bad")));
   }
 
   /* The same for a form: the job gets the texts that stand in it now. */

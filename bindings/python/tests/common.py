@@ -74,6 +74,7 @@ def run_apart(code, **options):
     """Runs code with the package in an interpreter of its own, which may crash."""
     start = f"import sys; sys.path[:0] = [{PACKAGE!r}, {os.path.join(PACKAGE, 'tests')!r}]\n"
     environment = {**os.environ, "MPLBACKEND": "Agg", "PYTHONDONTWRITEBYTECODE": "1"}
+    environment.pop("PYTHONUNBUFFERED", None)
     options = {"capture_output": True, "timeout": 60, "env": environment, **options}
     return subprocess.run([sys.executable, "-c", start + code], text=True, **options)
 

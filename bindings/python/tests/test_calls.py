@@ -555,6 +555,20 @@ class Overlaps(unittest.TestCase):
         self.assertEqual(call("matvec", [0, 1, 2], [0, 1], same, same, floats(2)), 0)
         self.assertEqual(call("make_sheet", 1, b"", b"", 0, bytearray(11)), 11)
 
+    def test_a_name_that_changes(self):
+        """The call that is judged is the one that is made, though the name is another by then."""
+        code = (
+            "from zibrotka.calls import call\n"
+            "class Name(str):\n"
+            "    now = 'refusal_text'\n"
+            "    __hash__ = lambda self: hash(self.now)\n"
+            "    __eq__ = lambda self, other: self.now == other\n"
+            "class Number:\n"
+            "    def __index__(self): Name.now = 'count_states'; return 0xdead0000\n"
+            "print(call(Name(), Number(), bytearray(200)))\n"
+        )
+        self.assertEqual(printed_apart(self, code), "-13\n")
+
     def test_a_refused_overlap_changes_nothing(self):
         view = memoryview(small(3))
         self.raises("tree", "free_edges", "spanning_tree", DATA, view[0:2], view[1:3])
@@ -808,7 +822,8 @@ class Held(unittest.TestCase):
             ended.append(True)
             thread.join()
         self.assertGreater(lasted, 0.005)
-        self.assertEqual(after, before)
+        # It may have its turn right before the call and right behind it. If it ran meanwhile it would count some ten times and more.
+        self.assertLess(after - before, 3)
 
     INDEX = (
         "from array import array\n"

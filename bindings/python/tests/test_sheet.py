@@ -326,14 +326,6 @@ class Files(unittest.TestCase):
             with self.assertRaises(OSError):
                 TRIANGLE.write("/dev/full")
 
-    def test_a_part_at_a_time(self):
-        """What takes a byte at a time is written whole, and what gives one at a time is read whole."""
-        whole, path = os.write, self.folder / "sheet.gls"
-        path.write_bytes(bytes(50))
-        with mock.patch("os.write", lambda file, data: whole(file, data[:1])):
-            TRIANGLE.write(path)
-        self.assertEqual(path.read_bytes(), TRIANGLE.to_bytes())
-
     def test_pipes(self):
         """A pipe gives what is in it. Of more than a sheet can have, the rest stays in it."""
         pipe, data = self.folder / "pipe", TRIANGLE.to_bytes()
@@ -368,9 +360,9 @@ class Files(unittest.TestCase):
         """What is printed before and behind is kept, also where it goes to a file."""
         code = (
             "from zibrotka import Sheet\n"
-            "print('before', flush=True)\n"
+            "print('before')\n"
             "for path in ('/dev/stdout', '/dev/fd/1', '/proc/self/fd/1'): Sheet.from_edges(1, [], [], 0).write(path)\n"
-            "print('behind', flush=True)\n"
+            "print('behind')\n"
             "Sheet.from_edges(1, [], [], 0).write('/dev/stderr')\n"
         )
         sheet, path = "GLS\1\0\1\0\0\0\0\0", self.folder / "printed"

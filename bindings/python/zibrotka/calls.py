@@ -8,7 +8,7 @@ refusal. `answer` raises `Refused` instead of a negative number. Every argument 
   Floats in a buffer of exactly these items, and `bytes`, stay where they lie;
 - a list that is written (`&mut [u8]`), a lent number (`&mut u64`) or an array (`&mut [u64; 3]`) is a writable buffer of exactly these items,
   such as a NumPy array, an array.array or a ctypes array;
-- what is written must not overlap anything else that is given.
+- what is written must not overlap anything else that is given, but for a list with gaps that is read, since that is copied.
 
 Python's other threads wait while the library runs. What a binding cannot see is the caller's duty. In a Python without a GIL, or from C code
 in another thread, leave a lent list alone. While a list is lent, do not move it from another thread by NumPy's `resize(refcheck=False)` or by
@@ -184,7 +184,7 @@ def _c_types(parameter: Parameter) -> List[Any]:
     return [ctypes.c_void_p] if parameter.kind == "lent" else [ctypes.c_void_p, ctypes.c_size_t]
 
 
-def _function(library: ctypes.PyDLL, entry: Call) -> Any:
+def _function(library: ctypes.CDLL, entry: Call) -> Any:
     try:
         function = getattr(library, "zibrotka_" + entry.name)
     except AttributeError:
@@ -357,7 +357,7 @@ def view_of(given: Any, name: str) -> Optional[memoryview]:
 
 def _lasting(view: memoryview, given: Any, views: ExitStack) -> Any:
     """What can be viewed again without code of the caller's: what is given, or the view, where a class of the caller's made that."""
-    return given if view.obj is given or isinstance(given, memoryview) else views.enter_context(memoryview(view))
+    return given if view.obj is given or type(given) is memoryview else views.enter_context(memoryview(view))
 
 
 def _copied_sequence(given: Any, item: Item, name: str) -> memoryview:
@@ -489,23 +489,24 @@ def call(name: str, *arguments: Any) -> int:
     >>> call("refusal_text", 18, bytearray())
     -13
     """
-    if name not in CALLS:
+    entry = CALLS.get(name)
+    if entry is None:
         raise ValueError(f"the library has no call of the name {shown(name)}")
-    parameters = CALLS[name].parameters
+    parameters = entry.parameters
     if len(arguments) != len(parameters):
-        raise TypeError(f"{name} takes {len(parameters)} arguments ({', '.join(p.name for p in parameters)}), not {len(arguments)}")
+        raise TypeError(f"{entry.name} takes {len(parameters)} arguments ({', '.join(p.name for p in parameters)}), not {len(arguments)}")
     lent: List[_Lent] = []
     passed: List[Any] = []
     with ExitStack() as views:
         ready = [_ready(parameter, argument, views) for parameter, argument in zip(parameters, arguments)]
-        # From here on no code of the caller's runs, which could free a list that was judged.
+        # From here on no argument's own code runs, which could free a list that was judged.
         for parameter, argument in zip(parameters, ready):
             if parameter.kind in ("number", "bool"):
                 passed.append(argument)
             else:
                 passed += _lend(parameter, argument, views, lent)
         _judge_overlap(lent)
-        answered: int = _FUNCTIONS[name](*passed)
+        answered: int = _FUNCTIONS[entry.name](*passed)
     return answered
 
 

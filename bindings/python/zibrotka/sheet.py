@@ -12,6 +12,7 @@ import itertools
 import os
 import re
 import stat
+import sys
 from typing import Any, Iterable, List, NamedTuple, Optional, Tuple, Union
 
 from . import lists, room
@@ -93,6 +94,9 @@ def _open(path: str) -> Tuple[int, bool]:
     """
     named = re.fullmatch(r"/dev/(?:std(out|err)|fd/(\d{1,9}))|/proc/self/fd/(\d{1,9})", path)
     if named:
+        for stream in (sys.stdout, sys.stderr):
+            if stream is not None:
+                stream.flush()
         return os.dup({"out": 1, "err": 2}.get(named[1]) or int(named[2] or named[3])), False
     file = os.open(path, os.O_WRONLY | os.O_CREAT | os.O_CLOEXEC, 0o666)
     return file, stat.S_ISREG(os.fstat(file).st_mode)
@@ -265,15 +269,13 @@ class Sheet:
 
         >>> triangle.write("triangle.gls")
         """
-        (file, ends), written = _open(os.fsdecode(path)), 0
-        try:
-            while written < len(self._data):
-                written += os.write(file, self._data[written:])
+        file, ends = _open(os.fsdecode(path))
+        with os.fdopen(file, "wb") as out:
+            out.write(self._data)
+            out.flush()
             # Only now what the file held behind that goes, so that a full disk leaves the old sheet.
             if ends:
-                os.ftruncate(file, written)
-        finally:
-            os.close(file)
+                out.truncate()
 
     # The complex
 
@@ -385,7 +387,7 @@ class Sheet:
         n = self.count_states()
         lists.judge_room(f"the list of {n:,} states", "call with a list of your own", n * len(self.edges), "i32")
         states = self._work(U1, n)
-        answer("enumerate_gauge_invariant", self._data, states)
+        answer(U1.states, self._data, states)
         return lists.handed(states, n)
 
     def su2_states(self) -> Any:
@@ -395,7 +397,7 @@ class Sheet:
         [0, 7]
         """
         states = self._work(Z2, self.su2_count_states())
-        answer("su2_basis", self._data, states)
+        answer(Z2.states, self._data, states)
         return lists.handed(states)
 
     def _work(self, mode: Mode, n: int) -> Any:

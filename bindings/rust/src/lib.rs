@@ -17,7 +17,7 @@
 //! wrong length or lists that overlap: a slice carries its length, and what is written to is borrowed exclusively.
 //!
 //! A call that answers what the library's contract rules out panics. No input makes it do so. A library of another version than this
-//! crate's is not called: the first call panics.
+//! crate's is not called: the first call but `release` panics.
 
 #![deny(unsafe_code)]
 #![deny(missing_docs)]

@@ -49,7 +49,14 @@ impl Sheet {
     }
 
     /// Writes the sheet's bytes to a file, in the place of what it held. Where writing fails midway, the file may hold a part of the sheet.
+    /// `/dev/stdout` and `/dev/stderr` are written from where they stand.
     pub fn write(&self, path: impl AsRef<Path>) -> io::Result<()> {
+        // To open these anew would begin at the start of a file, and what was printed there would be lost.
+        match path.as_ref().to_str() {
+            Some("/dev/stdout") => return write_whole(io::stdout(), &self.bytes),
+            Some("/dev/stderr") => return write_whole(io::stderr(), &self.bytes),
+            _ => {}
+        }
         // It is cut only once all is written. So where nothing can be written, what it held is not lost.
         let mut file = OpenOptions::new().write(true).create(true).truncate(false).open(path)?;
         file.write_all(&self.bytes)?;
@@ -152,6 +159,11 @@ impl Sheet {
         let n = told(answer, &[]).expect(NEVER);
         starts[..=n].windows(2).map(|ends| edges[ends[0] as usize..ends[1] as usize].to_vec()).collect()
     }
+}
+
+fn write_whole(mut stream: impl Write, bytes: &[u8]) -> io::Result<()> {
+    stream.write_all(bytes)?;
+    stream.flush()
 }
 
 /// The sheet's bytes, for [`calls`](crate::calls).

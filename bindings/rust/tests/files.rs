@@ -109,6 +109,21 @@ fn a_file_that_is_write_protected_stays() {
 }
 
 #[test]
+fn standard_output_is_written_from_where_it_stands() {
+    if let Some(path) = env::var_os(ALONE) {
+        print!("before ");
+        return write_alone(path);
+    }
+    let path = place("printed");
+    let mut own = Command::new(env::current_exe().unwrap());
+    own.args(["standard_output_is_written_from_where_it_stands", "--exact", "--nocapture"]).env(ALONE, "/dev/stdout");
+    assert!(own.stdout(File::create(&path).unwrap()).status().unwrap().success());
+    let (printed, wanted) = (fs::read(&path).unwrap(), [b"before ", &TRIANGLE[..], b"told: Ok(())."].concat());
+    assert!(printed.windows(wanted.len()).any(|part| part == wanted), "{}", String::from_utf8_lossy(&printed));
+    fs::remove_file(path).unwrap();
+}
+
+#[test]
 fn devices_and_folders_are_written_as_they_are() {
     triangle().write("/dev/null").unwrap();
     assert_eq!(triangle().write("/dev/full").unwrap_err().kind(), ErrorKind::StorageFull);
