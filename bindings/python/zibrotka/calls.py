@@ -184,7 +184,7 @@ def _c_types(parameter: Parameter) -> List[Any]:
     return [ctypes.c_void_p] if parameter.kind == "lent" else [ctypes.c_void_p, ctypes.c_size_t]
 
 
-def _function(library: ctypes.CDLL, entry: Call) -> Any:
+def _function(library: ctypes.PyDLL, entry: Call) -> Any:
     try:
         function = getattr(library, "zibrotka_" + entry.name)
     except AttributeError:
