@@ -1,5 +1,5 @@
 -- The walks from all states along a path, as the code keeps them.
-use Rattle.std.specs.Prelude.{ℕ, ◌<◌, ◌≤◌, List, [], Bool, true, ◌&&◌, cond, ◌≡◌, ltb, ℤ, pos, nat_abs, Float, get_or, length, take, drop}
+use Rattle.std.specs.Prelude.{ℕ, ◌<◌, ◌≤◌, List, [], Bool, ◌&&◌, cond, ◌≡◌, ltb, ℤ, pos, nat_abs, Float, get_or, length, take, drop}
 use Rattle.std.specs.Float.{binary64, nan}
 use Rattle.std.specs.Float.Ieee.{add, mul}
 use Rattle.mathematics.specs.Integers.{equal}
@@ -46,12 +46,6 @@ pub record Underway (L m : ℕ) (s : List ℤ) (w : List Step) (k : ℕ) (row : 
   pub small : (e : ℕ) → e < m → nat_abs (get_or row e (pos 0)) ≤ L
   pub staying : stays L s w ≡ stays L (take m row) (drop k w)
   pub leading : walked s w ≡ walked (take m row) (drop k w)
-
--- a walk from s has ended: no step of it left the band, and the row begins with what it reached, or one did
-pub record Arrived (L m : ℕ) (s : List ℤ) (w : List Step) (r : Bool) (row : List ℤ) : Type 0 where
-  pub long : length row ≡ 63
-  pub told : r ≡ stays L s w
-  pub reached : r ≡ true → walked s w ≡ take m row
 
 -- the first i states are summed up, and the walks from all others reach what has its place at `from` or after it
 pub record Summed (c : Complex) (L : ℕ) (a : List Float) (w : List Step) (i from : ℕ) (total : Float) : Type 0 where

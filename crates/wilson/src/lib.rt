@@ -1,7 +1,7 @@
 // The Wilson loop along a path. The row that a walk changes is an array of fixed length, as the library has no heap.
 #![tactic(auto)]
 
-ghost use Rattle.std.specs.Prelude.{◌≡◌, ◌||◌, ◌*◌, ◌^◌, ◌<◌, ◌≤◌, ℕ, pos, negsuc, nat_abs, get_or, length, take};
+ghost use Rattle.std.specs.Prelude.{◌≡◌, ◌||◌, ◌*◌, ◌^◌, ◌<◌, ◌≤◌, pos, negsuc, nat_abs, length};
 ghost use Rattle.mathematics.specs.Integers.{equal};
 ghost use Rattle.mathematics.specs.Tests.{every_entry};
 ghost use Rattle.mathematics.specs.Calls.{Answered};
@@ -10,7 +10,7 @@ ghost use Rattle.complex.specs.Complex.{Complex, complex_of};
 ghost use Rattle.gauss_law.specs.Shifts.{raised};
 ghost use Rattle.plaquettes.specs.Targets.{BasisList};
 ghost use Rattle.wilson.specs.Wilson.{path_of, wilson, step_right, wilson_call};
-ghost use Rattle.wilson.specs.Walking.{PathFits, Amplitudes, with_product, Stepped, Arrived};
+ghost use Rattle.wilson.specs.Walking.{PathFits, Amplitudes, with_product, Stepped};
 
 use answers::refusal::Refusal;
 use complex::SimplicialComplex;
@@ -58,19 +58,6 @@ impl Path<'_> {
         }
         so_far
     }
-
-    // The walk from a row's configuration of m values: whether no step leaves -lambda to lambda. At the first that does it stops.
-    fn walk(self, row: &mut [i32; MOST_EDGES], m: usize, lambda: usize) -> bool
-        requires { (length row.old ≡ 63) × (m ≤ 63) × (lambda ≤ 1000) × PathFits m self.edges.now self.directions.now × ((e : ℕ) → e < m → nat_abs (get_or row.old e (pos 0)) ≤ lambda) }
-        ensures { Arrived lambda m (take m row.old) (path_of self.entry.edges.now self.entry.directions.now) result row.new }
-    {
-        for (edge, direction) in self.edges.iter().zip(self.directions) {
-            if !take_step(row, *edge, *direction, lambda) {
-                return false;
-            }
-        }
-        true
-    }
 }
 
 // Where row j is the configuration, the product of the amplitudes i and j is added. There is a row for each amplitude.
@@ -111,10 +98,12 @@ fn wilson_sum(
     let mut reached = [0i32; MOST_EDGES];
     let mut from = 0;
     let mut total = 0.0;
-    for i in 0..s.states {
+    'states: for i in 0..s.states {
         copy_state(&mut reached, row_at(list, m, i));
-        if !path.walk(&mut reached, m, s.lambda) {
-            continue;
+        for (edge, direction) in path.edges.iter().zip(path.directions) {
+            if !take_step(&mut reached, *edge, *direction, s.lambda) {
+                continue 'states;
+            }
         }
         from = advance(list, s.states, from, &reached[..m], free, s.free);
         total = add_reached(list, amplitudes, i, from, &reached[..m], total);
