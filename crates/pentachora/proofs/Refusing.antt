@@ -1,29 +1,33 @@
 -- The refusals of pentachora, test by test.
-use Prim.Native.Nat.{ℕ, ◌*◌, ◌/◌, ◌<◌, ◌≤◌}
-use mathlib.Core.List.{List, [], map}
-use mathlib.Core.Path.{◌≡◌, sym}
-use mathlib.Core.Bool.{true, false, ◌&&◌, ◌||◌}
+use Prim.Native.Nat.{ℕ, zero, suc, ◌*◌, ◌/◌, ◌<◌, ◌≤◌}
+use mathlib.Core.List.{List, [], ◌∷◌, map, flat_map}
+use mathlib.Core.Path.{◌≡◌, refl, sym, ap, ◌∙◌}
+use mathlib.Core.Bool.{Bool, true, false, ◌&&◌, ◌||◌, cond}
+use native.Mathlib.Nat.{not-suc-le-zero}
 use native.Mathlib.Omega.{arith}
-use borrow.Author.Tests.{eqb-true, le-leb, lt-leb, leb-true, ltb-false}
+use borrow.Author.Tests.{eqb-true, eq-eqb, ne_eqb, le-leb, lt-leb, leb-true, ltb-false, le-ltb}
 use lib.ListN.{get_or, length, take}
 use lib.Dec.{eqb, leb, ltb}
 use Rattle.mathematics.specs.Tests.{every_entry}
 use Rattle.mathematics.specs.Refusals.{first}
 use Rattle.mathematics.proofs.Tests.{and_parts, or_fell, all_at, all_weaker}
-use Rattle.mathematics.specs.Lists.{firsts, choose}
-use Rattle.complex.specs.Complex.{entries}
-use Rattle.complex.specs.Search.{connected, Ends}
+use Rattle.mathematics.specs.Lists.{noted_all, firsts, choose}
+use Rattle.complex.specs.Search.{Search, scan, serve, served, whole_search, connected, Ends}
 use Rattle.complex.specs.Judge.{counts_right, rising}
 use Rattle.complex.specs.Numbering.{Numbered, key, EdgeTable, triangle_key, Keyed}
+use Rattle.complex.specs.Complex.{Simplex, entries, simplices}
 use Rattle.pentachora.specs.Pentachora.{pentachora, pentachora_right, sorted, faces, pentachora_refusal}
 use Rattle.pentachora.specs.Faces.{all_faces, edge_of, JudgedFaces}
 use Prim.{tt}
 use Rattle.std.proofs.Common.{Ok, Err}
+use Rattle.std.specs.Simd.{first_chunks}
 use Rattle.answers.specs.Refusal.{refusal_number}
 use Rattle.answers.specs.declared.refusal.Refusal.{Refusal}
 use Rattle.answers.specs.declared.refusal.Refusal.TheVariants.{WrongCounts, Disconnected, NoRoom}
 use Rattle.complex.specs.declared.numbering.Numbering.{Numbering}
 use Rattle.complex.proofs.Accepting.{rising_ends}
+use Rattle.complex.proofs.Searches.{connected_full}
+use Rattle.pentachora.proofs.Fives.{cut}
 use Rattle.pentachora.proofs.Appearing.{pair, Rises, rises_weaker, right_rises, faces_pairs, edges_counted, edges_many, edges_kept, edges_back, edges_table, triangles_keyed, triangles_counted, triangles_many, triangles_back}
 
 pub vertices_right : (n : ℕ) → (leb 1 n && leb n 64) ≡ true → (1 ≤ n) × (n ≤ 64)
@@ -82,6 +86,59 @@ module _ (n : ℕ) (l : List ℕ) (h : Rises n l) where
 pub judged_refused : (n : ℕ) (l : List ℕ) (edge_room triangle_room : ℕ) (r : Refusal) → pentachora_refusal n l edge_room triangle_room ≡ refusal_number r → JudgedFaces n l edge_room triangle_room (Err r)
 judged_refused n l edge_room triangle_room r q = record { refusal = sym q; found = tt }
 
+-- ---- without pentachora
+none_served : (s : Search) (k : ℕ) → served [] s k ≡ s
+unfolding served serve scan
+none_served s zero = refl
+none_served s (suc k) = rw (none_served s k) (go (ltb k (length s.seen)))
+  where
+    go : (t : Bool) → cond t s s ≡ s
+    go true = refl
+    go false = refl
+
+none_joined : (n : ℕ) → 1 ≤ n → connected [] n ≡ eqb 1 n
+unfolding whole_search
+none_joined n some =
+    connected_full [] n some (λ e h. absurd (not-suc-le-zero h)) ∙ ap (λ s. eqb (length s.seen) n) (none_served (record { seen = 0 ∷ []; tree = [] }) n)
+
+no_face : (k : ℕ) → faces k [] ≡ []
+unfolding faces pentachora simplices firsts noted_all flat_map
+no_face k = refl
+
+module _ (n : ℕ) (some : 1 ≤ n) (few : n ≤ 64) where
+  none_right : pentachora_right n [] ≡ true
+  unfolding pentachora_right pentachora simplices every_entry
+  none_right = refl
+
+  pub none_apart : (n ≡ 1 → ⊥) → (edge_room triangle_room : ℕ) → JudgedFaces n [] edge_room triangle_room (Err Disconnected)
+  none_apart more edge_room triangle_room =
+      judged_refused n [] edge_room triangle_room Disconnected
+      (not_connected n [] edge_room triangle_room some few none_right (rw (no_face 2) (omega arith)) (rw (no_face 3) (omega arith))
+      (rw (no_face 2) (none_joined n some ∙ ne_eqb 1 n (λ e. more (sym e)))))
+
+  pub none_found : n ≡ 1 → (keys : List ℕ) → length keys ≡ 256 → (edge_room triangle_room : ℕ) → JudgedFaces n [] edge_room triangle_room (Ok (record { n_edges = 0; edge_keys = keys; n_triangles = 0; triangle_keys = keys }))
+  none_found one keys long edge_room triangle_room =
+      let room : (ltb edge_room (2 * length (faces 2 [])) || ltb triangle_room (3 * length (faces 3 []))) ≡ false = rw (no_face 2, no_face 3, le-ltb edge_room 0 (omega arith), le-ltb triangle_room 0 (omega arith)) refl in
+      record {
+        refusal =
+            sym
+            (not_refused n [] edge_room triangle_room some few none_right (rw (no_face 2) (omega arith)) (rw (no_face 3) (omega arith))
+            (rw (no_face 2) (none_joined n some ∙ eq-eqb 1 n (sym one))) room);
+        found =
+            record {
+              edge_count = rw (no_face 2) refl;
+              triangle_count = rw (no_face 3) refl;
+              few_edges = omega arith;
+              few_triangles = omega arith;
+              edge_keys_long = long;
+              triangle_keys_long = long;
+              edges = rw (no_face 2) refl;
+              triangles = rw (no_face 3) refl;
+              edges_fit = omega arith;
+              triangles_fit = omega arith;
+            };
+      }
+
 -- the tests that follow one another as the faces are numbered
 module _ (n : ℕ) (l : List ℕ) (edge_room triangle_room : ℕ) (some : 1 ≤ n) (few : n ≤ 64) (right : pentachora_right n l ≡ true) where
   rise : Rises n l
@@ -90,12 +147,13 @@ module _ (n : ℕ) (l : List ℕ) (edge_room triangle_room : ℕ) (some : 1 ≤ 
   pub rise_small : Rises 64 l
   rise_small = rises_weaker n 64 few l rise
 
-  module _ (e : Numbering) (m : Numbered 63 e.table e.keys e.count (firsts eqb (map key (all_faces 2 (pentachora l))))) where
-    pub judged_edges : 63 < e.count → JudgedFaces n l edge_room triangle_room (Err WrongCounts)
-    judged_edges over =
-        judged_refused n l edge_room triangle_room WrongCounts
-        (edges_over n l edge_room triangle_room some few right (omega (arith, edges_counted n l rise few e.table e.keys e.count m)))
+  -- too many edges, of the pentachora as they are cut
+  pub edges_told : {parts : List Simplex} → parts ≡ first_chunks 5 (length l / 5) l → (e : Numbering) → Numbered 63 e.table e.keys e.count (firsts eqb (map key (all_faces 2 parts))) → 63 < e.count → JudgedFaces n l edge_room triangle_room (Err WrongCounts)
+  edges_told is e m over =
+      judged_refused n l edge_room triangle_room WrongCounts
+      (edges_over n l edge_room triangle_room some few right (omega (arith, edges_counted n l rise few e.table e.keys e.count (rw (is, cut l) at m))))
 
+  module _ (e : Numbering) (m : Numbered 63 e.table e.keys e.count (firsts eqb (map key (all_faces 2 (pentachora l))))) where
     module _ (within : e.count ≤ 63) where
       edges : e.count ≡ length (faces 2 l)
       edges = edges_many n l rise few e.table e.keys e.count m within
@@ -139,7 +197,7 @@ module _ (n : ℕ) (l : List ℕ) (edge_room triangle_room : ℕ) (some : 1 ≤ 
                 judged_refused n l edge_room triangle_room NoRoom
                 (no_room n l edge_room triangle_room some few right short short' (rw back at joined) (rw (edges, triangles) at none))
 
-            pub judged_faces : (ltb edge_room (2 * e.count) || ltb triangle_room (3 * t.count)) ≡ false → JudgedFaces n l edge_room triangle_room (Ok (record { edges = e; triangles = t }))
+            pub judged_faces : (ltb edge_room (2 * e.count) || ltb triangle_room (3 * t.count)) ≡ false → JudgedFaces n l edge_room triangle_room (Ok (record { n_edges = e.count; edge_keys = e.keys; n_triangles = t.count; triangle_keys = t.keys }))
             judged_faces room =
                 let fell = or_fell (ltb edge_room (2 * e.count)) (ltb triangle_room (3 * t.count)) room in
                 record {

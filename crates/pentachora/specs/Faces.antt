@@ -28,16 +28,16 @@ triangle_of edges k = edge_of (get_or edges (k / 64 % 64) 0) ++ ((k % 64) ∷ []
 
 -- the faces of pentachora stand under their keys, and the lent lists have room for them
 pub record Found (l : List ℕ) (edge_room triangle_room : ℕ) (f : Faces) : Type 0 where
-  pub edge_count : f.edges.count ≡ length (faces 2 l)
-  pub triangle_count : f.triangles.count ≡ length (faces 3 l)
-  pub few_edges : f.edges.count ≤ 63
-  pub few_triangles : f.triangles.count ≤ 256
-  pub edge_keys_long : length f.edges.keys ≡ 256
-  pub triangle_keys_long : length f.triangles.keys ≡ 256
-  pub edges : map edge_of (take f.edges.count f.edges.keys) ≡ faces 2 l
-  pub triangles : map (triangle_of f.edges.keys) (take f.triangles.count f.triangles.keys) ≡ faces 3 l
-  pub edges_fit : 2 * f.edges.count ≤ edge_room
-  pub triangles_fit : 3 * f.triangles.count ≤ triangle_room
+  pub edge_count : f.n_edges ≡ length (faces 2 l)
+  pub triangle_count : f.n_triangles ≡ length (faces 3 l)
+  pub few_edges : f.n_edges ≤ 63
+  pub few_triangles : f.n_triangles ≤ 256
+  pub edge_keys_long : length f.edge_keys ≡ 256
+  pub triangle_keys_long : length f.triangle_keys ≡ 256
+  pub edges : map edge_of (take f.n_edges f.edge_keys) ≡ faces 2 l
+  pub triangles : map (triangle_of f.edge_keys) (take f.n_triangles f.triangle_keys) ≡ faces 3 l
+  pub edges_fit : 2 * f.n_edges ≤ edge_room
+  pub triangles_fit : 3 * f.n_triangles ≤ triangle_room
 
 -- the number of the refusal, and where there is none the faces
 pub record JudgedFaces (n : ℕ) (l : List ℕ) (edge_room triangle_room : ℕ) (r : Result Faces Refusal) : Type 0 where
