@@ -35,10 +35,17 @@ pub fn signed_result(answer: Result<usize, Refusal>) -> i64
     }
 }
 
+// The number of a refusal, turned.
+pub fn refused(number: u8) -> i64
+    ensures { result ≡ neg_ℤ (pos number) }
+{
+    -i64::from(number)
+}
+
 pub fn signed_refusal(refusal: Refusal) -> i64
     ensures { result ≡ neg_ℤ (pos (refusal_number refusal)) }
 {
-    -i64::from(refusal.number())
+    refused(refusal.number())
 }
 
 // 1 where the law holds, 0 where a vertex breaks it.
@@ -93,7 +100,7 @@ pub fn signed_place(answer: Result<usize, Unplaced>) -> i64
 {
     match answer {
         Ok(place) => value(place),
-        Err(unplaced) => -i64::from(unplaced.number()),
+        Err(unplaced) => refused(unplaced.number()),
     }
 }
 
