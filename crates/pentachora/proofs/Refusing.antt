@@ -148,8 +148,8 @@ module _ (n : ℕ) (l : List ℕ) (edge_room triangle_room : ℕ) (some : 1 ≤ 
   rise_small = rises_weaker n 64 few l rise
 
   -- too many edges, of the pentachora as they are cut
-  pub edges_told : {parts : List Simplex} → parts ≡ first_chunks 5 (length l / 5) l → (e : Numbering) → Numbered 63 e.table e.keys e.count (firsts eqb (map key (all_faces 2 parts))) → 63 < e.count → JudgedFaces n l edge_room triangle_room (Err WrongCounts)
-  edges_told is e m over =
+  pub judged_edges : {parts : List Simplex} → parts ≡ first_chunks 5 (length l / 5) l → (e : Numbering) → Numbered 63 e.table e.keys e.count (firsts eqb (map key (all_faces 2 parts))) → 63 < e.count → JudgedFaces n l edge_room triangle_room (Err WrongCounts)
+  judged_edges is e m over =
       judged_refused n l edge_room triangle_room WrongCounts
       (edges_over n l edge_room triangle_room some few right (omega (arith, edges_counted n l rise few e.table e.keys e.count (rw (is, cut l) at m))))
 
