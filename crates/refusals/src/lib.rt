@@ -19,6 +19,8 @@ pub fn refusal_text(number: usize, text: &mut [u8]) -> Result<usize, Refusal>
     if room < sentence.len() {
         return Err(Refusal::NoRoom);
     }
-    text[..sentence.len()].copy_from_slice(sentence);
+    for (i, place) in text[..sentence.len()].iter_mut().enumerate() {
+        *place = sentence[i];
+    }
     Ok(sentence.len())
 }

@@ -46,10 +46,8 @@ module _ (s : List ℤ) (e : ℕ) (d : ℤ) where
   row_is m v rest row long value h = rw (h, value) (take_at (set s e (raised s e d)) rest m (length-set s e (raised s e d) ∙ long))
 
   -- a list that begins with it
-  pub begins_shifted : (v : ℤ) (old new : List ℤ) → v ≡ raised s e d → new ≡ set s e v ++ drop (length s) old → new ≡ front (shifted s e d) old
-  unfolding shifted
-  begins_shifted v old new value h =
-      h ∙ rw value (ap (λ n. set s e (raised s e d) ++ drop n old) (sym (length-set s e (raised s e d))))
+  pub begins_shifted : (m : ℕ) (written old : List ℤ) → length s ≡ m → written ≡ shifted s e d → written ++ drop m old ≡ front (shifted s e d) old
+  begins_shifted m written old long is = rw is (ap (λ n. shifted s e d ++ drop n old) (sym (shifted_length s e d ∙ long)))
 
 -- ---- a shift whose edge and lists pass
 pub shift_inside : (c : SimplicialComplex) (e : ℕ) → e < c.n_edges → leb (length (complex_of c).edges) e ≡ false
@@ -66,7 +64,7 @@ module _ (L : ℕ) (s : List ℤ) (e : ℕ) (d : ℤ) (x : FitsSigned w32 (get_o
   is : v ≡ raised s e d
   is = told.0 ∙ raised_is s e d x y
 
-  pub shift_value : to_z w32 (of_z w32 v) ≡ raised s e d
+  shift_value : to_z w32 (of_z w32 v) ≡ raised s e d
   shift_value = back32 v fits.sfits ∙ is
 
   pub shift_band : not (within L (raised s e d)) ≡ false

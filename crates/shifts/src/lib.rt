@@ -27,22 +27,14 @@ fn sum_within(x: i32, delta: i32, lambda: usize) -> Option<i32>
     }
 }
 
-// A configuration with another value on one edge goes to the front of a list.
-fn write_shifted(configuration: &[i32], edge: usize, value: i32, to: &mut [i32])
-    requires { (edge < length configuration.now) × (length configuration.now ≤ length to.old) }
-    ensures { to.new ≡ set configuration.now edge value ++ drop (length configuration.now) to.old }
-{
-    to[..configuration.len()].copy_from_slice(configuration);
-    to[edge] = value;
-}
-
 // A configuration with another value on one edge, and zeros after it.
 fn shifted_row(configuration: &[i32], edge: usize, value: i32) -> [i32; MOST_EDGES]
     requires { (edge < length configuration.now) × (length configuration.now ≤ 63) }
     ensures { result ≡ set configuration.now edge value ++ drop (length configuration.now) (replicate 63 (pos 0)) }
 {
     let mut row = [0i32; MOST_EDGES];
-    write_shifted(configuration, edge, value, &mut row);
+    row[..configuration.len()].copy_from_slice(configuration);
+    row[edge] = value;
     row
 }
 
@@ -78,6 +70,7 @@ pub fn apply_shift(
     if let Some(finding) = why_unlisted(c, lambda, &shifted[..m]) {
         return Err(Unplaced::NotInBasis(finding));
     }
-    write_shifted(configuration, edge, value, res);
+    // Out of the local row: the compiler sees that it overlaps no list of the caller.
+    res[..m].copy_from_slice(&shifted[..m]);
     Ok(list_and_seek(&basis, &shifted[..m], states))
 }

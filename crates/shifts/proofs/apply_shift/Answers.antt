@@ -14,7 +14,7 @@ use Rattle.hilbert.proofs.Order.{in_basis_at}
 use Rattle.hilbert.proofs.Unlisted.{none_in_basis}
 use Rattle.hilbert.proofs.Prepared.{told_refused, short_by}
 use Rattle.shifts.specs.Shift.{shift_call}
-use Rattle.shifts.proofs.Shifting.{raised_is, begins_shifted, shift_inside, shift_room, shift_value, shift_band, shift_row, shift_unlisted}
+use Rattle.shifts.proofs.Shifting.{raised_is, begins_shifted, shift_inside, shift_room, shift_band, shift_row, shift_unlisted}
 use Rattle.gauss_law.specs.Gauss.{within}
 use Rattle.shifts.proofs.apply_shift.Goals as goal
 
@@ -123,5 +123,5 @@ returns-clause-answered c =
     let sized = shifted_length c.args.configuration.now c.args.edge c.args.delta ∙ long in
     ends _ (basis_passed c.in_ok-basis.ensures (past (rw (eq-eqb _ _ long)) (past inside (past room (past (shift_band c.args.lambda c.args.configuration.now c.args.edge c.args.delta x c.ranges.delta c.in-Some.value fits c.in-Some.ensures) (past (rw listed) none))))))
     (found.found (sized, listed))
-    (both found.list (begins_shifted c.args.configuration.now c.args.edge c.args.delta _ c.args.res.now _ (shift_value c.args.lambda c.args.configuration.now c.args.edge c.args.delta x c.ranges.delta c.in-Some.value fits c.in-Some.ensures) c.write_shifted.ensures))
+    (both found.list (begins_shifted c.args.configuration.now c.args.edge c.args.delta c.args.c.n_edges _ c.args.res.now c.if-configuration-m.false (c.copy_from_slice.ensures.after ∙ row)))
     (record { found = in_basis_at _ basis.walks.walks.accepted _ _ sized listed; few = basis.walks.few })
