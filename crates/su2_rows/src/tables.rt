@@ -43,18 +43,18 @@ pub struct Flips {
 }
 
 impl Flips {
-    // Those of an accepted record.
+    // Those of an accepted record. They take 3 KB: this is inlined, and so they are filled where the caller has them, and not moved there.
+    #[inline(always)]
     pub fn of(c: SimplicialComplex, f: Forest, p: KSParams, weights: Option<&[f64]>) -> Flips
         requires { FewLoops (complex_of c) f × Weighed (length (complex_of c).triangles) (is_given weights) (given_list weights) }
         ensures { Tables (complex_of c) p (weight (is_given weights.entry) (given_list weights.entry)) (length (complex_of c).triangles) result.places result.terms × (result.count ≡ length (complex_of c).triangles) }
     {
-        let mut places = [0; MOST_TRIANGLES];
-        let mut terms = [0.0; MOST_TRIANGLES];
-        write_tables(&mut places, &mut terms, c, f, p, weights);
-        Flips {
-            places,
-            terms,
+        let mut flips = Flips {
+            places: [0; MOST_TRIANGLES],
+            terms: [0.0; MOST_TRIANGLES],
             count: c.n_triangles,
-        }
+        };
+        write_tables(&mut flips.places, &mut flips.terms, c, f, p, weights);
+        flips
     }
 }
